@@ -1,0 +1,4 @@
+pub mod Constants
+pub mod Identifier
+pub mod Pixel
+pub mod Printing

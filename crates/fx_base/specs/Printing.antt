@@ -1,0 +1,53 @@
+-- How a value is printed.
+use Rattle.std.specs.Prelude.{ℕ, Bool, true, false, List, [], ◌∷◌, ◌++◌, ◌/◌, ◌%◌, ◌==◌, codes, map, if◌then◌else◌}
+use Rattle.std.specs.List.{flat_map}
+use Rattle.std.specs.Prelude.{slice_index_or}
+use Rattle.std.specs.Fmt.{digit_glyph, signed_decimal}
+use Rattle.fx_base.specs.Constants.{constants_of}
+use Rattle.fx_base.specs.declared.color.Color.{Color as Paint}
+use Rattle.fx_base.specs.declared.geometry.Sides.{Sides as Insets}
+use Rattle.fx_base.specs.declared.kinds.Family.{Family}
+use Rattle.fx_base.specs.declared.kinds.Kind.{Kind}
+use Rattle.fx_base.specs.declared.kinds.Kind.TheVariants as kind
+use Rattle.fx_base.specs.declared.values.Value.{Value}
+use Rattle.fx_base.specs.declared.values.Value.TheVariants.{Int, Bool as Truth, Text, Choice, Color, Sides}
+
+-- the kind of a value
+abbrev pub kind_of : Value → Kind
+kind_of (Int n) = kind.Int
+kind_of (Truth b) = kind.Bool
+kind_of (Text t) = kind.Text
+kind_of (Choice family place) = kind.Choice family
+kind_of (Color color) = kind.Color
+kind_of (Sides sides) = kind.Sides
+
+-- a byte of a text: a backslash, a line feed and a carriage return are written as two characters
+abbrev pub escaped : ℕ → List ℕ
+escaped byte = if byte == 92 then 92 ∷ 92 ∷ [] else (if byte == 10 then 92 ∷ 110 ∷ [] else (if byte == 13 then 92 ∷ 114 ∷ [] else byte ∷ []))
+
+abbrev pub two_digits : ℕ → List ℕ
+two_digits n = digit_glyph false (n / 16) ∷ digit_glyph false (n % 16) ∷ []
+
+-- `#rrggbbaa`
+abbrev pub hexadecimal : Paint → List ℕ
+hexadecimal c = 35 ∷ (two_digits c.r ++ (two_digits c.g ++ (two_digits c.b ++ two_digits c.a)))
+
+-- `top right bottom left`
+abbrev pub sides_text : Insets → List ℕ
+sides_text s = signed_decimal s.top ++ (32 ∷ (signed_decimal s.right ++ (32 ∷ (signed_decimal s.bottom ++ (32 ∷ signed_decimal s.left)))))
+
+-- the constant at this place of its family
+abbrev pub constant_at : Family → ℕ → List ℕ
+constant_at family place = slice_index_or (constants_of family) place []
+
+abbrev pub truth_text : Bool → List ℕ
+truth_text true = codes "true"
+truth_text false = codes "false"
+
+abbrev pub printed : Value → List ℕ
+printed (Int n) = signed_decimal n
+printed (Truth b) = truth_text b
+printed (Text t) = flat_map escaped t
+printed (Choice family place) = constant_at family place
+printed (Color color) = hexadecimal color
+printed (Sides sides) = sides_text sides

@@ -1,0 +1,185 @@
+//! Texts: of at most 4,096 characters, as names and text properties are, and of any length.
+ghost use Rattle.std.specs.Prelude.{◌≡◌, ◌<◌, ◌≤◌, ◌↔◌, [], IfOk, IfSome, IsNone, IsErrOf, IsTrue, length};
+ghost use Rattle.std.specs.Str.{chars};
+ghost use Rattle.std.specs.String.{string_bytes};
+
+use crate::lists::Duplicate;
+use std::alloc::{AllocError, Global};
+use std::marker::Model;
+use thiserror::Error;
+
+/// The greatest number of characters of a `Text`.
+pub const TEXT_LIMIT: usize = 4096;
+
+/// A text of at most 4,096 characters. Contracts see its bytes.
+#[derive(Drop)]
+pub struct Text {
+    text: String,
+}
+
+impl Model for Text {
+    ghost use Rattle.std.specs.Prelude.{ℕ, List, length, ◌≤◌};
+    ghost use Rattle.std.specs.Str.{chars};
+    ghost use Rattle.std.specs.String.{string_bytes};
+
+    ghost Value = { List ℕ };
+
+    ghost view = { λ t. string_bytes t.text };
+
+    ghost invariant = { λ t. length (chars (string_bytes t.text)) ≤ 4096 };
+}
+
+/// Why a text can't be made.
+#[derive(Debug, Drop, Error, PartialEq)]
+pub enum TextError {
+    /// It has more than 4,096 characters.
+    #[error("a text has more than 4096 characters")]
+    TooLong,
+    #[error("out of memory")]
+    Memory,
+}
+
+impl From<AllocError> for TextError {
+    ghost use Rattle.std.specs.Prelude.{◌≡◌};
+    ghost use Rattle.fx_base.specs.declared.texts.TextError.TheVariants.{Memory};
+
+    ghost from_gives = { λ _ e. e ≡ Memory };
+
+    fn from(_e: AllocError) -> TextError {
+        TextError::Memory
+    }
+}
+
+impl Text {
+    /// The empty text.
+    pub fn new(alloc: Global) -> Text
+        ensures { result ≡ [] }
+    {
+        Text {
+            text: String::new(alloc),
+        }
+    }
+
+    /// The text of these characters, unless there are more than 4,096.
+    pub fn from_str(alloc: Global, s: &str) -> Result<Text, TextError>
+        ensures ok { IfOk result (λ t. t ≡ s.now) }
+        ensures too_long { IsErrOf result TextError.TooLong ↔ (4096 < length (chars s.now)) }
+    {
+        if char_count(s) > TEXT_LIMIT {
+            return Err(TextError::TooLong);
+        }
+        let text = String::from_str(alloc, s)?;
+        Ok(Text { text })
+    }
+
+    /// The text in place of the string, unless it has more than 4,096 characters.
+    pub fn from_string(text: String) -> Option<Text>
+        ensures found { IfSome result (λ t. t ≡ string_bytes text) }
+        ensures none { IsNone result ↔ (4096 < length (chars (string_bytes text))) }
+    {
+        if char_count(text.as_str()) > TEXT_LIMIT {
+            return None;
+        }
+        Some(Text { text })
+    }
+
+    /// Lends the text.
+    pub fn as_str(&self) -> &str
+        ensures text { result.now ≡ self.now }
+        ensures short { length (chars result.now) ≤ 4096 }
+    {
+        self.text.as_str()
+    }
+
+    /// Is it this text? `==` answers the same of two `Text`s.
+    pub fn equals(&self, text: &str) -> bool
+        ensures { IsTrue result ↔ (self.now ≡ text.now) }
+    {
+        self.text.as_str() == text
+    }
+
+    /// A text of the same characters.
+    pub fn copy(&self, alloc: Global) -> Result<Text, AllocError>
+        ensures { IfOk result (λ copy. copy ≡ self.now) }
+    {
+        let text = String::from_str(alloc, self.text.as_str())?;
+        Ok(Text { text })
+    }
+}
+
+impl Duplicate for Text {
+    fn duplicate(&self, alloc: Global) -> Result<Self, AllocError> {
+        self.copy(alloc)
+    }
+}
+
+impl PartialEq for Text {
+    ghost use Rattle.std.specs.Prelude.{nat_eq};
+    ghost use Rattle.std.specs.Cmp.Lexicographic.{pointwise, nat_list_eq_equiv};
+    ghost use Rattle.std.specs.Cmp.{partial_equiv_from_equiv};
+
+    ghost eq = { pointwise nat_eq };
+
+    ghost laws = { partial_equiv_from_equiv nat_list_eq_equiv };
+
+    fn eq(&self, other: &Self) -> bool {
+        self.text.as_str() == other.text.as_str()
+    }
+}
+
+impl Eq for Text {
+    ghost use Rattle.std.specs.Cmp.Lexicographic.{nat_list_eq_equiv};
+
+    ghost laws = { nat_list_eq_equiv };
+}
+
+fn char_count(text: &str) -> usize
+    ensures { result ≡ length (chars text.now) }
+{
+    text.chars().count()
+}
+
+/// A text of any length. Contracts see its bytes.
+#[derive(Drop)]
+pub struct Str {
+    text: String,
+}
+
+impl Model for Str {
+    ghost use Rattle.std.specs.Prelude.{ℕ, List};
+    ghost use Rattle.std.specs.String.{string_bytes};
+
+    ghost Value = { List ℕ };
+
+    ghost view = { λ t. string_bytes t.text };
+}
+
+impl Str {
+    /// The text in place of the string.
+    pub fn from_string(text: String) -> Str
+        ensures { result ≡ string_bytes text }
+    {
+        Str { text }
+    }
+
+    /// Lends the text.
+    pub fn as_str(&self) -> &str
+        ensures { result.now ≡ self.now }
+    {
+        self.text.as_str()
+    }
+
+    /// A text of the same characters.
+    pub fn copy(&self, alloc: Global) -> Result<Str, AllocError>
+        ensures { IfOk result (λ copy. copy ≡ self.now) }
+    {
+        let text = String::from_str(alloc, self.text.as_str())?;
+        Ok(Str { text })
+    }
+}
+
+impl Duplicate for Str {
+    fn duplicate(&self, alloc: Global) -> Result<Self, AllocError> {
+        self.copy(alloc)
+    }
+}

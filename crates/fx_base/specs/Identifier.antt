@@ -1,5 +1,5 @@
 -- Identifiers of scenes and scripts: an ASCII letter or `_`, and then letters, digits and `_`.
-use Rattle.std.specs.Prelude.{ℕ, Bool, true, false, List, [], ◌∷◌, ◌&&◌, ◌||◌, ◌==◌, nat_le}
+use Rattle.std.specs.Prelude.{ℕ, Bool, false, List, [], ◌∷◌, ◌&&◌, ◌||◌, ◌==◌, nat_le}
 use Rattle.std.specs.List.{list_all}
 
 abbrev pub is_letter : ℕ → Bool

@@ -23,3 +23,6 @@ pub use lists::{Duplicate, List};
 pub use texts::{Str, Text, TextError};
 pub use values::Value;
 pub use work::{Evaluated, Laid, Ledgers, Painted, Steps, Styled, Work};
+
+#[cfg(test)]
+mod tests;

@@ -1,5 +1,4 @@
 -- the derived comparison goes field by field
-use Rattle.std.proofs.Common.{◌≡◌}
 use Rattle.std.proofs.lemmas.Bool.Decides.{Decides-at}
 use Rattle.fx_base.proofs.GeometryLemmas.{Decides-sides}
 use Rattle.fx_base.proofs.values.same_sides.Goals as goal

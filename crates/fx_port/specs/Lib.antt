@@ -1,0 +1,5 @@
+pub mod Causes
+pub mod Files
+pub mod MemoryFiles
+pub mod MemoryPieces
+pub mod Pieces

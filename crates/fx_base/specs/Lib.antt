@@ -2,3 +2,4 @@ pub mod Constants
 pub mod Identifier
 pub mod Pixel
 pub mod Printing
+pub mod Rectangle

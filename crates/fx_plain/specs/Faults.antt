@@ -1,0 +1,28 @@
+-- Faults of files, and the line that tells one.
+use Rattle.std.specs.Prelude.{ℕ, List, [], ◌∷◌, ◌++◌, codes}
+use Rattle.std.specs.Fmt.{decimal}
+use Rattle.fx_plain.specs.declared.answers.FaultKind.{FaultKind}
+use Rattle.fx_plain.specs.declared.answers.FaultKind.TheVariants.{Missing, TooLarge, NotBuilt}
+
+-- why a file is refused, and where: line and column from 1, or 0 and 0 for the file as a whole
+pub record Fault : Type 0 where
+  pub kind : FaultKind
+  pub file : List ℕ
+  pub line : ℕ
+  pub column : ℕ
+
+-- the whole file
+abbrev pub whole_fault : FaultKind → List ℕ → Fault
+whole_fault kind file = record { kind = kind; file = file; line = 0; column = 0 }
+
+abbrev pub kind_word : FaultKind → List ℕ
+kind_word Missing = codes "missing"
+kind_word TooLarge = codes "toolarge"
+kind_word NotBuilt = codes "notbuilt"
+
+-- `fault KIND FILE LINE COLUMN`
+unfoldable pub fault_line : Fault → List ℕ
+fault_line f = codes "fault " ++ (kind_word f.kind ++ (32 ∷ (f.file ++ (32 ∷ (decimal f.line ++ (32 ∷ (decimal f.column ++ (10 ∷ []))))))))
+
+unfoldable pub usage_line : List ℕ
+usage_line = codes "usage: fxplay SCENE SCRIPT [SHEET..] [--size WxH] [--frames text|ppm|none] [--summary]\n"

@@ -1,0 +1,24 @@
+//! Nodes of the scene: a pane and its regions.
+
+use fx_base::{Color, Text};
+
+/// A number of a node that scripts read and set (JavaFX `layoutX`, `layoutY`, `prefWidth`, `prefHeight`).
+#[derive(Clone, Copy, PartialEq, Eq, Debug)]
+pub enum Number {
+    LayoutX,
+    LayoutY,
+    PrefWidth,
+    PrefHeight,
+}
+
+/// A node: its name if it has one, its place and preferred size in pixels, and the colour that fills it. A
+/// preferred size that was never given is computed, which is nothing for a node without content.
+#[derive(Drop)]
+pub struct Node {
+    pub name: Option<Text>,
+    pub layout_x: u32,
+    pub layout_y: u32,
+    pub pref_width: Option<u32>,
+    pub pref_height: Option<u32>,
+    pub fill: Option<Color>,
+}

@@ -1,0 +1,3 @@
+pub mod Columns
+pub mod Font
+pub mod Wrapping

@@ -1,0 +1,9 @@
+//! Documents of FXML (Introduction to FXML): imports, and a tree of elements with attributes and places.
+//! The layer between a file's bytes and the scene that is built of them.
+#![tactic(auto)]
+
+mod error;
+mod tree;
+
+pub use error::DocError;
+pub use tree::{Attribute, Content, Document, Element};

@@ -1,0 +1,5 @@
+pub mod Plain
+pub mod ViewLemmas
+pub mod Loops
+pub mod Lists
+pub mod Sound

@@ -1,2 +1,5 @@
+pub mod Grammar
+pub mod Machine
 pub mod Outline
+pub mod Reading
 pub mod View

@@ -2,7 +2,13 @@
 //! The layer between a file's bytes and the scene that is built of them.
 #![tactic(auto)]
 
+mod builder;
+mod characters;
+mod document;
 mod error;
+mod place;
+mod reader;
+mod tags;
 mod tree;
 
 pub use error::DocError;

@@ -3,3 +3,4 @@ pub mod ViewLemmas
 pub mod Loops
 pub mod Lists
 pub mod Sound
+pub mod Nesting

@@ -39,11 +39,11 @@ pub skip_is : (p : Spot) (used rest : List ℕ) → skip (length used) (at p (us
 skip_is p used rest = ap (λ x. at (after_all p (take (length used) (used ++ rest))) x) (drop-append_seam used rest) ∙ ap (λ x. at (after_all p x) rest) (take-append_seam used rest)
 
 -- a literal text
-pointwise_same : (xs ys : List ℕ) → pointwise nat_eq xs ys ≡ true → xs ≡ ys
+pub pointwise_same : (xs ys : List ℕ) → pointwise nat_eq xs ys ≡ true → xs ≡ ys
 pointwise_same [] [] e = refl
 pointwise_same [] (y ∷ ys) e = cc
 pointwise_same (x ∷ xs) [] e = cc
-pointwise_same (x ∷ xs) (y ∷ ys) e = let h = eqb-true x y (and_both _ _ e).0 in let t = pointwise_same xs ys (and_both _ _ e).1 in cc
+pointwise_same (x ∷ xs) (y ∷ ys) e = let h = eqb-true x y (and_both _ _ e).0 in let t : xs ≡ ys = pointwise_same xs ys (and_both _ _ e).1 in cc
 
 pub pointwise_refl : (xs : List ℕ) → pointwise nat_eq xs xs ≡ true
 pointwise_refl [] = refl

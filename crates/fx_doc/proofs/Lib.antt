@@ -4,3 +4,5 @@ pub mod Loops
 pub mod Lists
 pub mod Sound
 pub mod Nesting
+pub mod Complete
+pub mod Whole

@@ -20,7 +20,7 @@ depth_left : (d : ℕ) (ms : List Mark) (begun : List Branch) → Opens d ms beg
 depth_left d ms begun (base x e) = omega arith
 depth_left d ms begun (deeper x e outer inner t content b q o n) = let h = depth_left e outer b o in omega arith
 
-abbrev state : List (List ℕ) → List Branch → Nodes → State
+abbrev pub state : List (List ℕ) → List Branch → Nodes → State
 state imports begun root = record { imports = imports; begun = begun; root = root }
 
 -- a state that these pieces lead to
@@ -42,7 +42,7 @@ filter_snoc (x ∷ before) text = by_case (is_short x) (is_short text) (filter_s
 instructions_snoc : (ts : List (List ℕ)) (text : List ℕ) → map Instruction (ts ++ (text ∷ [])) ≡ map Instruction ts ++ (Instruction text ∷ [])
 instructions_snoc ts text = map-append Instruction ts (text ∷ [])
 
-none_of_some : {A : Type 0} (x : A) → None ≡ Some x → ⊥
+pub none_of_some : {A : Type 0} (x : A) → None ≡ Some x → ⊥
 none_of_some x e = cc
 
 import_one : (before : List (List ℕ)) (d : ℕ) (ms : List Mark) (begun : List Branch) (text : List ℕ) (t : State) → Opens d ms begun

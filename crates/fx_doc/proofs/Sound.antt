@@ -101,7 +101,7 @@ begins_some p (x ∷ xs) e f =
     let k : x ∷ take (prefix_len p xs) xs ≡ [] = sym (ap (λ n. take n (x ∷ xs)) s) ∙ h in
     cc
 
-abbrev fresh_only : List Attr → Attr × At → Option (Option Attr × At)
+abbrev pub fresh_only : List Attr → Attr × At → Option (Option Attr × At)
 fresh_only seen r = cond (among r.0.name seen) None (Some (Some r.0, r.1))
 
 more_sound : (seen : List Attr) (a b : At) (x : Attr) → more_at seen a ≡ Some (Some x, b) → MoreRead seen a b x
@@ -334,13 +334,13 @@ instruction_sound a r e =
       is = i.is;
     }
 
-abbrev closing_mark : At → Option (Mark × At)
+abbrev pub closing_mark : At → Option (Mark × At)
 closing_mark b = closing_at b >>= λ r. Some (Closing r.0, r.1)
 
-abbrev instruction_mark : At → Option (Mark × At)
+abbrev pub instruction_mark : At → Option (Mark × At)
 instruction_mark b = instruction_at b >>= λ r. Some (Instruction r.0, r.1)
 
-abbrev tag_mark_at : At → Option (Mark × At)
+abbrev pub tag_mark_at : At → Option (Mark × At)
 tag_mark_at a = literal (60 ∷ []) a >>= λ b. tag_from a.spot b
 
 end_tag_sound : (a b : At) (r : Mark × At) → literal (60 ∷ (47 ∷ [])) a ≡ Some b → closing_mark b ≡ Some r → PieceRead a.spot [] a r.0 r.1

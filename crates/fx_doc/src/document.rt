@@ -1,6 +1,6 @@
 //! The reading of a whole document.
 //! Piece after piece goes from the reader to the builder.
-ghost use Rattle.std.specs.Prelude.{◌≡◌, ◌≤◌, ◌+◌, length, Err, Some, IfOk};
+ghost use Rattle.std.specs.Prelude.{◌≡◌, ◌≤◌, ◌+◌, length, Err, IfOk, List, ℕ};
 ghost use Rattle.fx_doc.specs.Grammar.{Spells, start};
 ghost use Rattle.fx_doc.specs.Machine.{initial, state_of};
 ghost use Rattle.fx_doc.specs.Outline.{Outline};
@@ -50,9 +50,26 @@ fn pieces(alloc: Global, bytes: &[u8]) -> Result<Builder, DocError>
     Err(DocError::NotBuilt)
 }
 
-fn document(alloc: Global, bytes: &[u8]) -> Result<Document, DocError>
+fn whole_document(alloc: Global, bytes: &[u8]) -> Result<Document, DocError>
     requires { length bytes.now ≤ 4194304 }
     ensures { Gives document_of result (read_of bytes.now) }
 {
     pieces(alloc, bytes)?.answer()
+}
+
+/// The document that the bytes spell (Introduction to FXML): import instructions, and one element of elements
+/// and attributes in ASCII. Imports behind the root, and those of over 4,096 characters, aren't listed. Elements
+/// nest at most 128 deep. Text, comments, references and other instructions are refused.
+pub fn read_document(alloc: Global, bytes: &[u8]) -> Result<Document, DocError>
+    requires { length bytes.now ≤ 4194304 }
+    ensures ok { IfOk result (λ d. Spells bytes.now (document_of d)) }
+    ensures not_built { result ≡ Err DocError.NotBuilt → (o : Outline) → Spells bytes.now o → ⊥ }
+{
+    whole_document(alloc, bytes)
+}
+
+/// No bytes spell two documents.
+pub fn one_document()
+    ensures { (text : List ℕ) (a b : Outline) → Spells text a → Spells text b → a ≡ b }
+{
 }

@@ -11,5 +11,9 @@ mod reader;
 mod tags;
 mod tree;
 
+pub use document::{one_document, read_document};
 pub use error::DocError;
 pub use tree::{Attribute, Content, Document, Element};
+
+#[cfg(test)]
+mod tests;

@@ -1,15 +1,15 @@
 -- What is written so is read: from the grammar to the functions on lists.
-use Rattle.std.proofs.Common.{◌≡◌, ◌≢◌, ℕ, zero, suc, ◌+◌, ◌<◌, ◌≤◌, Bool, true, false, ◌&&◌, ◌||◌, cond, List, [], ◌∷◌, ◌++◌, length, take, drop, map, Option, Some, None, nat_eq, nat_lt, nat_le, eqb, codes, refl, sym, ap, ◌∙◌, subst, arith, append_assoc, length-append, lt-ltb, ◌⊎◌, inl, inr}
+use Rattle.std.proofs.Common.{◌≡◌, ◌≢◌, ℕ, zero, suc, ◌+◌, ◌<◌, Bool, true, false, ◌&&◌, cond, List, [], ◌∷◌, ◌++◌, length, take, map, Option, Some, None, nat_eq, nat_lt, eqb, codes, refl, sym, ap, ◌∙◌, arith, append_assoc, length-append, lt-ltb, ◌⊎◌, inl, inr}
 use Rattle.std.specs.List.{list_all, prefix_len, starts_with}
 use Rattle.std.proofs.lemmas.List.{append-nil}
 use Rattle.std.proofs.lemmas.Bool.{eqb-true}
 use Rattle.std.proofs.lemmas.Bool.Decides.{nat_tests}
-use Rattle.std.proofs.Math.Seq.{take-append_seam, drop-append_seam}
+use Rattle.std.proofs.Math.Seq.{take-append_seam}
 use Rattle.fx_doc.specs.Outline.{Spot, Attr}
-use Rattle.fx_doc.specs.Grammar.{after, after_all, is_white, begins_name, goes_on, in_value, is_plain, is_short, is_name, value_character, trimmed, Written, attribute_text, attributes_text, attribute_from, attributes_from, IsName, IsWhite, IsAttribute, among, AreAttributes, Tag, Mark, Instruction, Opening, Whole, Closing, HasNoEnd, tag_at, Piece, instruction, opening, whole, closing, Cut, ends, more}
+use Rattle.fx_doc.specs.Grammar.{after, after_all, is_white, begins_name, goes_on, in_value, is_plain, is_short, is_name, value_character, trimmed, Written, attribute_text, attributes_text, attribute_from, attributes_from, IsName, IsWhite, IsAttribute, among, AreAttributes, Mark, Instruction, Opening, Whole, Closing, HasNoEnd, tag_at, Piece, instruction, opening, whole, closing, Cut, ends, more}
 use Rattle.fx_doc.specs.Machine.{State, step}
 use Rattle.fx_doc.specs.Reading.{At, ◌>>=◌, skip, literal, past_white, name_at, value_at, attribute_at, begins, more_at, next_of, attributes_at, choice, tag_end, tag_mark, tag_from, closing_at, end_from, inside_at, instruction_at, mark_at, next_at, read_over}
-use Rattle.fx_doc.proofs.Plain.{and_both, both_and, all_weaker}
+use Rattle.fx_doc.proofs.Plain.{and_both, both_and}
 use Rattle.fx_doc.proofs.Lists.{at, after_all-append, skip_is, literal_is, prefix_all, bind_some}
 use Rattle.fx_doc.proofs.Sound.{run, fresh_only, closing_mark, instruction_mark, tag_mark_at}
 
@@ -157,7 +157,7 @@ more_goes p seen a rest i f =
     ∙ (ap (λ b. g b (begins is_white (a.white ++ text)) (at p1 text)) (name_first a.name (61 ∷ (34 ∷ (a.value ++ (34 ∷ rest)))) i.name.spelled)
     ∙ (ap (λ b. g true b (at p1 text)) (white_first a.white text i.white i.apart)
     ∙ bind_is (attribute_at (at p1 text)) (fresh_only seen) (attribute_from p a, at (after_all p1 (inner_text a.name a.value)) rest) _ (attribute_goes p1 a.name a.value rest i.name i.value i.short)
-      (ap (λ b. cond b None (Some (Some (attribute_from p a), at (after_all p1 (inner_text a.name a.value)) rest))) f ∙ ap (λ x. Some (Some (attribute_from p a), at x rest)) (sym (after_all-append p a.white (inner_text a.name a.value)))))))
+    (ap (λ b. cond b None (Some (Some (attribute_from p a), at (after_all p1 (inner_text a.name a.value)) rest))) f ∙ ap (λ x. Some (Some (attribute_from p a), at x rest)) (sym (after_all-append p a.white (inner_text a.name a.value)))))))
 
 no_more_goes : (p : Spot) (seen : List Attr) (w tail : List ℕ) → IsWhite w → begins is_white tail ≡ false → begins begins_name tail ≡ false
     → more_at seen (at p (w ++ tail)) ≡ Some (None, at (after_all p w) tail)
@@ -179,9 +179,9 @@ attributes_goes (x ∷ ats) (suc n) p seen w tail a i b m l =
     let fewer : length ats < n = omega arith in
     ap (λ t. attributes_at (suc n) seen (at p t)) met
     ∙ bind_is (more_at seen (at p (attribute_text x ++ rest))) (λ r. next_of seen r.0 (λ y. attributes_at n (seen ++ (y ∷ [])) r.1) r.1) (Some f, at q rest) _ (more_goes p seen x rest a.0 a.1)
-      (attributes_goes ats n q (seen ++ (f ∷ [])) w tail a.2 i b m fewer
-      ∙ (ap (λ y. Some (y, at (after_all (after_all q (attributes_text ats)) w) tail)) (append_assoc seen (f ∷ []) (attributes_from q ats))
-      ∙ ap (λ z. Some (seen ++ (f ∷ attributes_from q ats), at (after_all z w) tail)) (sym (after_all-append p (attribute_text x) (attributes_text ats)))))
+    (attributes_goes ats n q (seen ++ (f ∷ [])) w tail a.2 i b m fewer
+    ∙ (ap (λ y. Some (y, at (after_all (after_all q (attributes_text ats)) w) tail)) (append_assoc seen (f ∷ []) (attributes_from q ats))
+    ∙ ap (λ z. Some (seen ++ (f ∷ attributes_from q ats), at (after_all z w) tail)) (sym (after_all-append p (attribute_text x) (attributes_text ats)))))
 
 behind_name : (ats : List Written) (p : Spot) (seen : List Attr) (rest : List ℕ) → AreAttributes p seen ats → begins goes_on rest ≡ false → begins goes_on (attributes_text ats ++ rest) ≡ false
 behind_name [] p seen rest a h = h
@@ -385,5 +385,5 @@ read_goes (suc n) p0 text ms s t (more p w piece rest m others v k c) r l =
     ap (λ (x : At). cond (nat_lt 0 (length x.rest)) (next_at s x >>= f) (Some s)) e
     ∙ (ap (λ y. cond y (next_at s (at q (piece ++ rest)) >>= f) (Some s)) (lt-ltb 0 (length (piece ++ rest)) b.0)
     ∙ bind_is (next_at s (at q (piece ++ rest))) f (st.0, at (after_all q piece) rest) _
-      (bind_is (mark_at (at q (piece ++ rest))) (λ (x : Mark × At). step s x.0 >>= λ u. Some (u, x.1)) (m, at (after_all q piece) rest) _ (mark_goes q piece rest m k) (ap (λ o. o >>= λ u. Some (u, at (after_all q piece) rest)) st.1))
-      (read_goes n (after_all q piece) rest others st.0 t c st.2 fewer))
+    (bind_is (mark_at (at q (piece ++ rest))) (λ (x : Mark × At). step s x.0 >>= λ u. Some (u, x.1)) (m, at (after_all q piece) rest) _ (mark_goes q piece rest m k) (ap (λ o. o >>= λ u. Some (u, at (after_all q piece) rest)) st.1))
+    (read_goes n (after_all q piece) rest others st.0 t c st.2 fewer))

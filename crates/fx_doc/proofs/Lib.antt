@@ -6,3 +6,4 @@ pub mod Sound
 pub mod Nesting
 pub mod Complete
 pub mod Whole
+pub mod WalkLemmas

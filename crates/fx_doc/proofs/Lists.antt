@@ -1,5 +1,5 @@
 -- Texts and places: what was taken from the front, and what is left.
-use Rattle.std.proofs.Common.{◌≡◌, ℕ, zero, suc, ◌+◌, ◌<◌, ◌≤◌, Bool, true, false, ◌&&◌, not, cond, List, [], ◌∷◌, ◌++◌, length, take, drop, Option, Some, None, nat_eq, eqb, refl, sym, ap, ◌∙◌, subst, arith, append_assoc, add-one, one-add}
+use Rattle.std.proofs.Common.{◌≡◌, ℕ, ◌+◌, Bool, true, false, cond, List, [], ◌∷◌, ◌++◌, length, take, Option, Some, None, nat_eq, refl, sym, ap, ◌∙◌, subst, arith, append_assoc}
 use Rattle.std.specs.List.{list_all, prefix_len, starts_with}
 use Rattle.std.specs.Cmp.Lexicographic.{pointwise}
 use Rattle.std.proofs.Math.Seq.{take-append_seam, drop-append_seam}
@@ -7,7 +7,7 @@ use Rattle.std.proofs.lemmas.List.{take-append-drop}
 use Rattle.std.proofs.lemmas.Bool.{eqb-true, eq-eqb}
 use Rattle.fx_doc.specs.Outline.{Spot}
 use Rattle.fx_doc.specs.Grammar.{after, after_all}
-use Rattle.fx_doc.specs.Reading.{At, ◌>>=◌, skip, literal, choice, begins}
+use Rattle.fx_doc.specs.Reading.{At, ◌>>=◌, skip, literal, begins}
 use Rattle.fx_doc.proofs.Plain.{and_both, both_and}
 
 pub after_all-append : (p : Spot) (a b : List ℕ) → after_all p (a ++ b) ≡ after_all (after_all p a) b
@@ -43,7 +43,9 @@ pub pointwise_same : (xs ys : List ℕ) → pointwise nat_eq xs ys ≡ true → 
 pointwise_same [] [] e = refl
 pointwise_same [] (y ∷ ys) e = cc
 pointwise_same (x ∷ xs) [] e = cc
-pointwise_same (x ∷ xs) (y ∷ ys) e = let h = eqb-true x y (and_both _ _ e).0 in let t : xs ≡ ys = pointwise_same xs ys (and_both _ _ e).1 in cc
+pointwise_same (x ∷ xs) (y ∷ ys) e =
+    let b = and_both (nat_eq x y) (pointwise nat_eq xs ys) e in
+    ap (λ z. z ∷ xs) (eqb-true x y b.0) ∙ ap (λ zs. y ∷ zs) (pointwise_same xs ys b.1)
 
 pub pointwise_refl : (xs : List ℕ) → pointwise nat_eq xs xs ≡ true
 pointwise_refl [] = refl

@@ -1,5 +1,5 @@
 -- The loops of the reader against their functions on lists.
-use Rattle.std.proofs.Common.{◌≡◌, ℕ, zero, suc, ◌+◌, ◌-◌, ◌<◌, ◌≤◌, Bool, true, false, List, [], ◌∷◌, ◌++◌, length, Option, Some, None, refl, sym, ap, ◌∙◌, arith, nat_lt, cond, lt-ltb}
+use Rattle.std.proofs.Common.{◌≡◌, ℕ, zero, suc, ◌+◌, ◌-◌, ◌<◌, ◌≤◌, List, [], ◌∷◌, ◌++◌, length, Option, Some, None, sym, ap, ◌∙◌, arith, nat_lt, cond, lt-ltb}
 use Rattle.fx_doc.specs.Outline.{Attr}
 use Rattle.fx_doc.specs.Machine.{State}
 use Rattle.fx_doc.specs.declared.error.DocError.{DocError}

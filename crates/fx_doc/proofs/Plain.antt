@@ -1,12 +1,10 @@
 -- Tests over all characters of a text, and texts of ASCII.
-use Rattle.std.proofs.Common.{◌≡◌, ℕ, zero, suc, lit<, ◌<◌, ◌≤◌, ◌+◌, one-add, Bool, true, false, ◌&&◌, ◌||◌, List, [], ◌∷◌, ◌++◌, length, map, get_or, refl, sym, ap, ◌∙◌, cond, eqb, ltb, leb, nat_eq, nat_le, nat_lt, take, drop, arith, subst}
+use Rattle.std.proofs.Common.{◌≡◌, ℕ, zero, suc, lit<, ◌<◌, ◌≤◌, ◌+◌, one-add, Bool, true, false, ◌&&◌, ◌||◌, List, [], ◌∷◌, length, map, refl, sym, ap, ◌∙◌, cond, nat_eq, take, drop, arith, subst}
 use Rattle.std.specs.List.{list_all, list_any, prefix_len}
 use Rattle.std.specs.Str.{chars, IsUtf8, IsAscii}
 use Rattle.std.specs.Cmp.Lexicographic.{pointwise}
-use Rattle.std.proofs.Math.Utf8.{encodes}
 use Rattle.std.proofs.lemmas.Bool.Decides.{nat_tests}
 use Rattle.std.proofs.lemmas.Str.{IsUtf8-from_ascii, length-le-encodes, encodes-chars}
-use Rattle.fx_doc.specs.Outline.{Attr}
 use Rattle.fx_doc.specs.View.{attribute_of}
 use Rattle.fx_doc.specs.Grammar.{is_plain, among, is_white, goes_on, in_value, value_character, trimmed}
 use Rattle.fx_doc.specs.declared.tree.Attribute.{Attribute}

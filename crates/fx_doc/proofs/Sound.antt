@@ -1,11 +1,11 @@
 -- What is read is written so: from the functions on lists to the grammar.
-use Rattle.std.proofs.Common.{◌≡◌, ◌≢◌, ℕ, zero, suc, ◌+◌, ◌<◌, ◌≤◌, Bool, true, false, ◌&&◌, not, cond, List, [], ◌∷◌, ◌++◌, length, take, drop, map, Option, Some, None, nat_eq, nat_lt, eqb, codes, refl, sym, ap, ◌∙◌, subst, arith, append_assoc, length-append, ◌⊎◌, inl, inr}
+use Rattle.std.proofs.Common.{◌≡◌, ℕ, zero, suc, ◌+◌, Bool, true, false, ◌&&◌, cond, List, [], ◌∷◌, ◌++◌, length, take, drop, map, Option, Some, None, nat_eq, nat_lt, codes, refl, sym, ap, ◌∙◌, subst, arith, append_assoc, length-append, ◌⊎◌, inl, inr}
 use Rattle.std.specs.List.{list_all, prefix_len, starts_with}
 use Rattle.std.proofs.lemmas.List.{append-nil, take-append-drop}
 use Rattle.std.proofs.lemmas.Bool.Decides.{nat_tests}
 use Rattle.std.proofs.Math.Seq.{take-append_seam}
 use Rattle.fx_doc.specs.Outline.{Spot, Attr}
-use Rattle.fx_doc.specs.Grammar.{after, after_all, is_white, begins_name, goes_on, in_value, is_plain, is_short, is_name, value_character, trimmed, Written, attribute_text, attributes_text, attribute_from, attributes_from, IsName, IsWhite, IsAttribute, among, AreAttributes, Tag, Mark, Instruction, Opening, Whole, Closing, HasNoEnd, tag_at, Piece, instruction, opening, whole, closing, Cut, ends, more}
+use Rattle.fx_doc.specs.Grammar.{after, after_all, is_white, begins_name, goes_on, in_value, is_plain, is_short, is_name, value_character, trimmed, Written, attribute_text, attributes_text, attribute_from, attributes_from, IsName, IsWhite, IsAttribute, among, AreAttributes, Mark, Instruction, Opening, Whole, Closing, HasNoEnd, tag_at, Piece, instruction, opening, whole, closing, Cut, ends, more}
 use Rattle.fx_doc.specs.Machine.{State, step}
 use Rattle.fx_doc.specs.Reading.{At, ◌>>=◌, skip, literal, past_white, name_at, value_at, attribute_at, begins, more_at, next_of, attributes_at, choice, tag_end, tag_mark, tag_from, closing_at, end_from, inside_at, instruction_at, mark_at, next_at, read_over}
 use Rattle.fx_doc.proofs.Plain.{and_both, all_prefix}
@@ -109,22 +109,24 @@ unfolding more_at
 more_sound seen a b x e = named (begins begins_name (past_white a).rest) (begins is_white a.rest) refl e where
   found : begins is_white a.rest ≡ true → (attribute_at (past_white a) >>= fresh_only seen) ≡ Some (Some x, b) → MoreRead seen a b x
   found w f =
-    let b1 = bind_some _ _ _ f in
-    let r = attribute_sound (past_white a) b1.0 b1.1 in
-    let g = not_gives (among b1.0.0.name seen) (Some b1.0.0, b1.0.1) (Some x, b) b1.2 in
-    let ex : b1.0.0 ≡ x = some_same _ _ (ap (λ (q : Option Attr × At). q.0) g.1) in
-    let eb : b1.0.1 ≡ b = ap (λ (q : Option Attr × At). q.1) g.1 in
-    let wt = white_took a in
-    record {
-      written = record { white = white_at a; name = r.name; value = r.value };
-      took = subst (λ (q : At). Took a (white_at a ++ (r.name ++ (61 ∷ (34 ∷ (r.value ++ (34 ∷ [])))))) q) eb (took_then a (past_white a) b1.0.1 (white_at a) (r.name ++ ((61 ∷ (34 ∷ [])) ++ (r.value ++ (34 ∷ [])))) wt r.took);
-      well = record { white = white_all a; apart = begins_some is_white a.rest w; name = r.is_name; value = r.all; short = r.short };
-      fresh = ap (λ (q : Attr). among q.name seen) (sym r.is) ∙ g.0;
-      is = sym ex ∙ (r.is ∙ ap (λ p. record { name = r.name; value = map value_character r.value; spot = p }) wt.place);
-    }
+      let b1 = bind_some _ _ _ f in
+      let r = attribute_sound (past_white a) b1.0 b1.1 in
+      let g = not_gives (among b1.0.0.name seen) (Some b1.0.0, b1.0.1) (Some x, b) b1.2 in
+      let ex : b1.0.0 ≡ x = some_same _ _ (ap (λ (q : Option Attr × At). q.0) g.1) in
+      let eb : b1.0.1 ≡ b = ap (λ (q : Option Attr × At). q.1) g.1 in
+      let wt = white_took a in
+      record {
+        written = record { white = white_at a; name = r.name; value = r.value };
+        took = subst (λ (q : At). Took a (white_at a ++ (r.name ++ (61 ∷ (34 ∷ (r.value ++ (34 ∷ [])))))) q) eb (took_then a (past_white a) b1.0.1 (white_at a) (r.name ++ ((61 ∷ (34 ∷ [])) ++ (r.value ++ (34 ∷ [])))) wt r.took);
+        well = record { white = white_all a; apart = begins_some is_white a.rest w; name = r.is_name; value = r.all; short = r.short };
+        fresh = ap (λ (q : Attr). among q.name seen) (sym r.is) ∙ g.0;
+        is = sym ex ∙ (r.is ∙ ap (λ p. record { name = r.name; value = map value_character r.value; spot = p }) wt.place);
+      }
+
   white : (w : Bool) → begins is_white a.rest ≡ w → cond w (attribute_at (past_white a) >>= fresh_only seen) None ≡ Some (Some x, b) → MoreRead seen a b x
   white true q f = found q f
   white false q f = cc
+
   named : (n w : Bool) → begins is_white a.rest ≡ w → cond n (cond w (attribute_at (past_white a) >>= fresh_only seen) None) (Some (None, past_white a)) ≡ Some (Some x, b) → MoreRead seen a b x
   named true w q f = white w q f
   named false w q f = absurd (none_is_some x (ap (λ (q : Option Attr × At). q.0) (some_same _ _ f)))
@@ -134,10 +136,11 @@ unfolding more_at
 no_more_sound seen a b e = named (begins begins_name (past_white a).rest) (begins is_white a.rest) e where
   white : (w : Bool) → cond w (attribute_at (past_white a) >>= fresh_only seen) None ≡ Some (None, b) → b ≡ past_white a
   white true f =
-    let b1 = bind_some {A = Attr × At} (attribute_at (past_white a)) (fresh_only seen) (None, b) f in
-    let g = not_gives (among b1.0.0.name seen) (Some b1.0.0, b1.0.1) (None, b) b1.2 in
-    absurd (none_is_some b1.0.0 (sym (ap (λ (q : Option Attr × At). q.0) g.1)))
+      let b1 = bind_some {A = Attr × At} (attribute_at (past_white a)) (fresh_only seen) (None, b) f in
+      let g = not_gives (among b1.0.0.name seen) (Some b1.0.0, b1.0.1) (None, b) b1.2 in
+      absurd (none_is_some b1.0.0 (sym (ap (λ (q : Option Attr × At). q.0) g.1)))
   white false f = cc
+
   named : (n w : Bool) → cond n (cond w (attribute_at (past_white a) >>= fresh_only seen) None) (Some (None, past_white a)) ≡ Some (None, b) → b ≡ past_white a
   named true w f = white w f
   named false w f = sym (ap (λ (q : Option Attr × At). q.1) (some_same _ _ f))
@@ -165,12 +168,12 @@ attributes_sound zero seen a r e = cc
 attributes_sound (suc n) seen a r e =
     let b1 = bind_some (more_at seen a) _ r e in
     turn b1.0.0 b1.0.1 b1.1 b1.2 (λ s c f. attributes_sound n s c r f) where
-  turn : (o : Option Attr) (b : At) → more_at seen a ≡ Some (o, b) → next_of seen o (λ x. attributes_at n (seen ++ (x ∷ [])) b) b ≡ Some r → ((s : List Attr) (c : At) → attributes_at n s c ≡ Some r → AttributesRead s c r) → AttributesRead seen a r
-  turn None b m f ih =
-    let is : (seen, b) ≡ r = some_same _ _ f in
-    let w : past_white a ≡ b = sym (no_more_sound seen a b m) in
-    subst (λ (q : List Attr × At). AttributesRead seen a q) is (record { ats = []; white = white_at a; took = subst (λ (q : At). Took a (white_at a) q) w (white_took a); well = tt; is_white = white_all a; is = sym (append-nil seen) })
-  turn (Some x) b m f ih = one_read seen a b x r (more_sound seen a b x m) (ih (seen ++ (x ∷ [])) b f)
+      turn : (o : Option Attr) (b : At) → more_at seen a ≡ Some (o, b) → next_of seen o (λ x. attributes_at n (seen ++ (x ∷ [])) b) b ≡ Some r → ((s : List Attr) (c : At) → attributes_at n s c ≡ Some r → AttributesRead s c r) → AttributesRead seen a r
+      turn None b m f ih =
+          let is : (seen, b) ≡ r = some_same _ _ f in
+          let w : past_white a ≡ b = sym (no_more_sound seen a b m) in
+          subst (λ (q : List Attr × At). AttributesRead seen a q) is (record { ats = []; white = white_at a; took = subst (λ (q : At). Took a (white_at a) q) w (white_took a); well = tt; is_white = white_all a; is = sym (append-nil seen) })
+      turn (Some x) b m f ih = one_read seen a b x r (more_sound seen a b x m) (ih (seen ++ (x ∷ [])) b f)
 
 choice_gives : {X : Type 0} (o : Option At) (f : At → Option X) (other : Option X) (y : X) → choice o f other ≡ Some y → ((b : At) × (o ≡ Some b) × (f b ≡ Some y)) ⊎ (other ≡ Some y)
 choice_gives None f other y e = inr e
@@ -213,7 +216,7 @@ tag_sound p a r s e =
       text = b1.0.0 ++ ((attributes_text t.ats ++ t.white) ++ end);
       took = took_then a b1.0.1 b3.0.1 b1.0.0 ((attributes_text t.ats ++ t.white) ++ end) n.0 (took_then b1.0.1 b2.0.1 b3.0.1 (attributes_text t.ats ++ t.white) end t.took q.took);
       piece = subst (λ (x : List Attr). Piece p (60 ∷ (b1.0.0 ++ ((attributes_text t.ats ++ t.white) ++ end))) (tag_mark b3.0.0 (record { name = b1.0.0; attributes = x; spot = p }))) (sym ats)
-        (tag_piece p b1.0.0 t.ats t.white b3.0.0 n.1 (subst (λ x. AreAttributes x [] t.ats) place t.well) t.is_white);
+          (tag_piece p b1.0.0 t.ats t.white b3.0.0 n.1 (subst (λ x. AreAttributes x [] t.ats) place t.well) t.is_white);
     })
 
 pub record ClosingRead (a : At) (r : List ℕ × At) : Type 0 where
@@ -261,17 +264,17 @@ end_sound_at n [] k e = cc
 end_sound_at n (c ∷ cs) k e = by_case (starts_with nat_eq (c ∷ cs) (63 ∷ (62 ∷ []))) refl e (λ f. end_sound_at (n + 1) cs k f) where
   by_case : (b : Bool) → starts_with nat_eq (c ∷ cs) (63 ∷ (62 ∷ [])) ≡ b → cond b (Some n) (end_from (n + 1) cs) ≡ Some k → (end_from (n + 1) cs ≡ Some k → EndFound (n + 1) cs k) → EndFound n (c ∷ cs) k
   by_case true s f ih =
-    let is : n ≡ k = some_same _ _ f in
-    record { front = []; rest = drop 2 (c ∷ cs); is = sym is ∙ omega arith; text = sym (take-append-drop 2 (c ∷ cs)) ∙ ap (λ x. x ++ drop 2 (c ∷ cs)) (sym (pointwise_same (63 ∷ (62 ∷ [])) (take 2 (c ∷ cs)) s)); none = no_end_nil }
+      let is : n ≡ k = some_same _ _ f in
+      record { front = []; rest = drop 2 (c ∷ cs); is = sym is ∙ omega arith; text = sym (take-append-drop 2 (c ∷ cs)) ∙ ap (λ x. x ++ drop 2 (c ∷ cs)) (sym (pointwise_same (63 ∷ (62 ∷ [])) (take 2 (c ∷ cs)) s)); none = no_end_nil }
   by_case false s f ih =
-    let r = ih f in
-    record {
-      front = c ∷ r.front;
-      rest = r.rest;
-      is = r.is ∙ omega arith;
-      text = ap (λ x. c ∷ x) r.text;
-      none = no_end_cons c r.front (63 ∷ (62 ∷ r.rest)) (subst (λ x. starts_with nat_eq (c ∷ x) (63 ∷ (62 ∷ [])) ≡ false) r.text s) r.none;
-    }
+      let r = ih f in
+      record {
+        front = c ∷ r.front;
+        rest = r.rest;
+        is = r.is ∙ omega arith;
+        text = ap (λ x. c ∷ x) r.text;
+        none = no_end_cons c r.front (63 ∷ (62 ∷ r.rest)) (subst (λ x. starts_with nat_eq (c ∷ x) (63 ∷ (62 ∷ [])) ≡ false) r.text s) r.none;
+      }
 
 prefix_take : (xs u v : List ℕ) (k : ℕ) → xs ≡ u ++ v → k ≡ length u → take k xs ≡ u
 prefix_take xs u v k e f = ap (λ x. take k x) e ∙ (ap (λ n. take n (u ++ v)) f ∙ take-append_seam u v)
@@ -377,6 +380,7 @@ mark_sound a r e = first (choice_gives (literal (60 ∷ (47 ∷ [])) a) closing_
   second : ((b : At) × (literal (60 ∷ (63 ∷ [])) a ≡ Some b) × (instruction_mark b ≡ Some r)) ⊎ (tag_mark_at a ≡ Some r) → PieceRead a.spot [] a r.0 r.1
   second (inl t) = import_sound a t.0 r t.1 t.2
   second (inr f) = begin_tag_sound a r f
+
   first : ((b : At) × (literal (60 ∷ (47 ∷ [])) a ≡ Some b) × (closing_mark b ≡ Some r)) ⊎ (choice (literal (60 ∷ (63 ∷ [])) a) instruction_mark (tag_mark_at a) ≡ Some r) → PieceRead a.spot [] a r.0 r.1
   first (inl t) = end_tag_sound a t.0 r t.1 t.2
   first (inr f) = second (choice_gives (literal (60 ∷ (63 ∷ [])) a) instruction_mark (tag_mark_at a) r f)
@@ -401,23 +405,23 @@ read_sound zero s a t e = cc
 read_sound (suc n) s a t e = by_case (nat_lt 0 (length (past_white a).rest)) refl e (λ u c f. read_sound n u c t f) where
   by_case : (b : Bool) → nat_lt 0 (length (past_white a).rest) ≡ b → cond b (next_at s (past_white a) >>= λ r. read_over n r.0 r.1) (Some s) ≡ Some t → ((u : State) (c : At) → read_over n u c ≡ Some t → Pieces u c t) → Pieces s a t
   by_case false l f ih =
-    let w = white_took a in
-    let is : a.rest ≡ white_at a = w.text ∙ (ap (λ x. white_at a ++ x) (no_rest (past_white a).rest l) ∙ append-nil (white_at a)) in
-    record { marks = []; cut = subst (λ x. Cut a.spot x []) (sym is) (ends a.spot (white_at a) (white_all a)); runs = f }
+      let w = white_took a in
+      let is : a.rest ≡ white_at a = w.text ∙ (ap (λ x. white_at a ++ x) (no_rest (past_white a).rest l) ∙ append-nil (white_at a)) in
+      record { marks = []; cut = subst (λ x. Cut a.spot x []) (sym is) (ends a.spot (white_at a) (white_all a)); runs = f }
   by_case true l f ih =
-    let b1 = bind_some (next_at s (past_white a)) (λ r. read_over n r.0 r.1) (t) f in
-    let b2 = bind_some (mark_at (past_white a)) (λ m. step s m.0 >>= λ u. Some (u, m.1)) b1.0 b1.1 in
-    let b3 = bind_some (step s b2.0.0) (λ u. Some (u, b2.0.1)) b1.0 b2.2 in
-    let m = mark_sound (past_white a) b2.0 b2.1 in
-    let is = some_same _ _ b3.2 in
-    let r = ih b3.0 b2.0.1 (ap (λ (q : State × At). read_over n q.0 q.1) is ∙ b1.2) in
-    let w = white_took a in
-    let p1 = w.place in
-    let text : a.rest ≡ white_at a ++ (m.text ++ b2.0.1.rest) = w.text ∙ ap (λ x. white_at a ++ x) m.took.text in
-    let piece : Piece (after_all a.spot (white_at a)) m.text b2.0.0 = subst (λ x. Piece x m.text b2.0.0) p1 m.piece in
-    let cut : Cut (after_all (after_all a.spot (white_at a)) m.text) b2.0.1.rest r.marks = subst (λ x. Cut x b2.0.1.rest r.marks) (m.took.place ∙ ap (λ x. after_all x m.text) p1) r.cut in
-    record {
-      marks = b2.0.0 ∷ r.marks;
-      cut = subst (λ x. Cut a.spot x (b2.0.0 ∷ r.marks)) (sym text) (more a.spot (white_at a) m.text b2.0.1.rest b2.0.0 r.marks (white_all a) piece cut);
-      runs = ap (λ o. o >>= λ u. run u r.marks) b3.1 ∙ r.runs;
-    }
+      let b1 = bind_some (next_at s (past_white a)) (λ r. read_over n r.0 r.1) (t) f in
+      let b2 = bind_some (mark_at (past_white a)) (λ m. step s m.0 >>= λ u. Some (u, m.1)) b1.0 b1.1 in
+      let b3 = bind_some (step s b2.0.0) (λ u. Some (u, b2.0.1)) b1.0 b2.2 in
+      let m = mark_sound (past_white a) b2.0 b2.1 in
+      let is = some_same _ _ b3.2 in
+      let r = ih b3.0 b2.0.1 (ap (λ (q : State × At). read_over n q.0 q.1) is ∙ b1.2) in
+      let w = white_took a in
+      let p1 = w.place in
+      let text : a.rest ≡ white_at a ++ (m.text ++ b2.0.1.rest) = w.text ∙ ap (λ x. white_at a ++ x) m.took.text in
+      let piece : Piece (after_all a.spot (white_at a)) m.text b2.0.0 = subst (λ x. Piece x m.text b2.0.0) p1 m.piece in
+      let cut : Cut (after_all (after_all a.spot (white_at a)) m.text) b2.0.1.rest r.marks = subst (λ x. Cut x b2.0.1.rest r.marks) (m.took.place ∙ ap (λ x. after_all x m.text) p1) r.cut in
+      record {
+        marks = b2.0.0 ∷ r.marks;
+        cut = subst (λ x. Cut a.spot x (b2.0.0 ∷ r.marks)) (sym text) (more a.spot (white_at a) m.text b2.0.1.rest b2.0.0 r.marks (white_all a) piece cut);
+        runs = ap (λ o. o >>= λ u. run u r.marks) b3.1 ∙ r.runs;
+      }

@@ -1,7 +1,8 @@
 -- The outline of a tree, level by level: what a caller needs at a `match`, at a push and at a list from its front.
-use Rattle.std.proofs.Common.{◌≡◌, ℕ, List, [], ◌∷◌, ◌++◌, map, Option, Some, Vec, Global, refl, sym, ap, ◌∙◌}
+use Rattle.std.proofs.Common.{◌≡◌, ℕ, List, [], ◌∷◌, ◌++◌, map, Vec, Global, refl, sym, ap, ◌∙◌, ◌+◌, ◌<◌, length, take, get_or}
+use Rattle.std.proofs.lemmas.List.{take_more}
 use Rattle.std.proofs.lemmas.List.{map-append}
-use Rattle.fx_doc.specs.Outline.{Attr, Spot, Nodes, Nothing, Letters, Node}
+use Rattle.fx_doc.specs.Outline.{Nodes, Nothing, Letters}
 use Rattle.fx_doc.specs.View.{Branch, Part, Grown, Written, put, joined, spot_of, attribute_of, part_step, branch_step, part_of, branch_of, nodes_of, element_of}
 use Rattle.fx_doc.specs.Machine.{with_content}
 use Rattle.fx_doc.specs.declared.tree.Element.{Element, fold_out-Element, fold-roll-Element, out-Element, roll-Element}
@@ -38,6 +39,11 @@ nodes_of-push_child xs e = nodes_of-push xs (Child e) ∙ ap (λ x. joined (node
 pub nodes_of-push_chars : (xs : List Content) (text : List ℕ) (line column : ℕ) → nodes_of (xs ++ (Chars text line column ∷ [])) ≡ Letters (nodes_of xs) text (spot_of line column)
 nodes_of-push_chars xs text line column = nodes_of-push xs (Chars text line column) ∙ ap (λ x. joined (nodes_of xs) (x ∷ [])) (part_of-Chars text line column)
 
+-- the pieces of a list up to the next
+pub nodes_of-take : (xs : List Content) (i : ℕ) (x : Content) → i < length xs → get_or xs i x ≡ x → nodes_of (take (i + 1) xs) ≡ joined (nodes_of (take i xs)) (part_of x ∷ [])
+nodes_of-take xs i x l e = ap nodes_of (take_more xs i x l ∙ ap (λ y. take i xs ++ (y ∷ [])) e) ∙ nodes_of-push (take i xs) x
+
+-- an element with one more child
 pub with_child_is : (outer e : Element) (v : Vec Content Global) → v.items ≡ (out-Element outer).content.items ++ (Child e ∷ [])
     → with_content (branch_of outer) (put (branch_of e) (branch_of outer).content)
     ≡ branch_of (roll-Element (record { name = (out-Element outer).name; attributes = (out-Element outer).attributes; content = v; line = (out-Element outer).line; column = (out-Element outer).column }))

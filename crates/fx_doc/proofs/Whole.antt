@@ -1,14 +1,13 @@
 -- The document as a whole: what is written, and only that, is read.
-use Rattle.std.proofs.Common.{◌≡◌, ℕ, zero, suc, ◌+◌, ◌<◌, ◌≤◌, Bool, true, false, ◌&&◌, cond, List, [], ◌∷◌, ◌++◌, length, map, filter, Option, Some, None, Result, Ok, Err, nat_eq, nat_lt, nat_le, refl, sym, ap, ◌∙◌, subst, arith, append_assoc, lt-ltb, IfOk, length-append}
-use Rattle.std.specs.Cmp.Lexicographic.{pointwise}
+use Rattle.std.proofs.Common.{◌≡◌, ℕ, ◌+◌, ◌<◌, ◌≤◌, Bool, true, false, cond, List, [], ◌∷◌, ◌++◌, length, map, filter, Some, None, Result, Ok, Err, nat_lt, refl, sym, ap, ◌∙◌, subst, arith, append_assoc, lt-ltb, IfOk}
 use Rattle.std.proofs.lemmas.List.{append-nil}
-use Rattle.fx_doc.specs.Outline.{Nodes, Nothing, Letters, Node, Outline}
+use Rattle.fx_doc.specs.Outline.{Nodes, Nothing, Outline}
 use Rattle.fx_doc.specs.View.{Branch, put, document_of}
-use Rattle.fx_doc.specs.Grammar.{is_short, start, Tag, Mark, Instruction, Opening, Whole, Closing, branch, Nested, none, leaf, pair, Cut, Spells}
-use Rattle.fx_doc.specs.Machine.{State, initial, step, answer, hold, finish, with_content, listed}
-use Rattle.fx_doc.specs.Reading.{At, ◌>>=◌, read_over, read_of, Gives, Fails}
+use Rattle.fx_doc.specs.Grammar.{is_short, start, Mark, Instruction, Opening, Whole, Closing, branch, Nested, none, leaf, pair, Cut, Spells}
+use Rattle.fx_doc.specs.Machine.{State, initial, step, answer, with_content}
+use Rattle.fx_doc.specs.Reading.{read_over, read_of, Gives}
 use Rattle.fx_doc.specs.declared.error.DocError.{DocError}
-use Rattle.fx_doc.specs.declared.error.DocError.TheVariants.{NotBuilt, Memory}
+use Rattle.fx_doc.specs.declared.error.DocError.TheVariants.{NotBuilt}
 use Rattle.fx_doc.specs.declared.tree.Document.{Document}
 use Rattle.fx_doc.proofs.Lists.{at, pointwise_refl, bind_some}
 use Rattle.fx_doc.proofs.Sound.{run, some_same, read_sound}
@@ -89,7 +88,7 @@ list_runs : (imports before : List (List ℕ)) → run (state imports [] Nothing
 list_runs imports [] = ap (λ x. Some (state x [] Nothing)) (sym (append-nil imports))
 list_runs imports (x ∷ before) = by_case (is_short x) refl (λ y. list_runs y before) where
   by_case : (b : Bool) → is_short x ≡ b → ((y : List (List ℕ)) → run (state y [] Nothing) (map Instruction before) ≡ Some (state (y ++ filter is_short before) [] Nothing))
-    → run (state (cond b (imports ++ (x ∷ [])) imports) [] Nothing) (map Instruction before) ≡ Some (state (imports ++ cond b (x ∷ filter is_short before) (filter is_short before)) [] Nothing)
+      → run (state (cond b (imports ++ (x ∷ [])) imports) [] Nothing) (map Instruction before) ≡ Some (state (imports ++ cond b (x ∷ filter is_short before) (filter is_short before)) [] Nothing)
   by_case true e h = h (imports ++ (x ∷ [])) ∙ ap (λ y. Some (state y [] Nothing)) (append_assoc imports (x ∷ []) (filter is_short before))
   by_case false e h = h imports
 
@@ -103,8 +102,8 @@ read_again text o w =
     let s1 = state imports [] Nothing in
     let s2 = state imports [] (put w.root Nothing) in
     let runs : run initial (map Instruction w.before ++ (w.marks ++ map Instruction w.behind)) ≡ Some s2 =
-      run_then initial s1 s2 (map Instruction w.before) (w.marks ++ map Instruction w.behind) (list_runs [] w.before)
-      (run_then s1 s2 s2 w.marks (map Instruction w.behind) (root_runs imports 128 w.marks (put w.root Nothing) w.root w.nested refl (omega arith)) (behind_runs imports w.behind w.root)) in
+    run_then initial s1 s2 (map Instruction w.before) (w.marks ++ map Instruction w.behind) (list_runs [] w.before)
+    (run_then s1 s2 s2 w.marks (map Instruction w.behind) (root_runs imports 128 w.marks (put w.root Nothing) w.root w.nested refl (omega arith)) (behind_runs imports w.behind w.root)) in
     let l : length text < length text + 1 = omega arith in
     bind_is (read_over (length text + 1) initial (at start text)) answer s2 (Some o) (read_goes (length text + 1) start text _ initial s2 w.cut runs l) (ap (λ x. Some x) (sym w.read))
 

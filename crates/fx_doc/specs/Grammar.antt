@@ -1,10 +1,10 @@
 -- Documents as they are written: a text is cut into pieces, and the pieces nest as elements. After Introduction to
 -- FXML: import instructions, and one element of elements and attributes.
-use Rattle.std.specs.Prelude.{◌≡◌, ◌≢◌, ℕ, ◌+◌, ◌-◌, ◌≤◌, ◌==◌, Bool, true, false, ◌&&◌, ◌||◌, if◌then◌else◌, List, [], ◌∷◌, ◌++◌, length, take, drop, reverse, map, filter, codes, nat_le, nat_lt, nat_eq}
+use Rattle.std.specs.Prelude.{◌≡◌, ◌≢◌, ℕ, ◌+◌, ◌-◌, ◌==◌, Bool, true, false, ◌&&◌, ◌||◌, if◌then◌else◌, List, [], ◌∷◌, ◌++◌, length, take, drop, reverse, map, filter, codes, nat_le, nat_lt, nat_eq}
 use Rattle.std.specs.List.{list_all, list_any, prefix_len}
 use Rattle.std.specs.Cmp.Lexicographic.{pointwise}
 use Rattle.fx_base.specs.Identifier.{is_letter, is_letter_or_digit}
-use Rattle.fx_doc.specs.Outline.{Spot, Attr, Nodes, Nothing, Node, Outline}
+use Rattle.fx_doc.specs.Outline.{Spot, Attr, Nodes, Nothing, Outline}
 use Rattle.fx_doc.specs.View.{Branch, put}
 
 -- space, tab, carriage return and line feed
@@ -119,19 +119,19 @@ tag_at p name ats = record { name = name; attributes = attributes_from (after_al
 -- a piece that is written from here on
 pub data Piece : Spot → List ℕ → Mark → Type 0 where
   instruction : (p : Spot) (c : ℕ) (inside : List ℕ) → is_white c ≡ true → list_all is_plain inside ≡ true → HasNoEnd inside
-    → Piece p (codes "<?import" ++ (c ∷ (inside ++ codes "?>"))) (Instruction (trimmed inside))
+      → Piece p (codes "<?import" ++ (c ∷ (inside ++ codes "?>"))) (Instruction (trimmed inside))
   opening : (p : Spot) (name : List ℕ) (ats : List Written) (w : List ℕ) → IsName name → AreAttributes (after_all p (60 ∷ name)) [] ats → IsWhite w
-    → Piece p (60 ∷ (name ++ (attributes_text ats ++ (w ++ (62 ∷ []))))) (Opening (tag_at p name ats))
+      → Piece p (60 ∷ (name ++ (attributes_text ats ++ (w ++ (62 ∷ []))))) (Opening (tag_at p name ats))
   whole : (p : Spot) (name : List ℕ) (ats : List Written) (w : List ℕ) → IsName name → AreAttributes (after_all p (60 ∷ name)) [] ats → IsWhite w
-    → Piece p (60 ∷ (name ++ (attributes_text ats ++ (w ++ (47 ∷ (62 ∷ [])))))) (Whole (tag_at p name ats))
+      → Piece p (60 ∷ (name ++ (attributes_text ats ++ (w ++ (47 ∷ (62 ∷ [])))))) (Whole (tag_at p name ats))
   closing : (p : Spot) (name w : List ℕ) → IsName name → IsWhite w
-    → Piece p (60 ∷ (47 ∷ (name ++ (w ++ (62 ∷ []))))) (Closing name)
+      → Piece p (60 ∷ (47 ∷ (name ++ (w ++ (62 ∷ []))))) (Closing name)
 
 -- a text from here on is these pieces in this order, with white round them
 pub data Cut : Spot → List ℕ → List Mark → Type 0 where
   ends : (p : Spot) (w : List ℕ) → IsWhite w → Cut p w []
   more : (p : Spot) (w piece rest : List ℕ) (m : Mark) (ms : List Mark) → IsWhite w → Piece (after_all p w) piece m
-    → Cut (after_all (after_all p w) piece) rest ms → Cut p (w ++ (piece ++ rest)) (m ∷ ms)
+      → Cut (after_all (after_all p w) piece) rest ms → Cut p (w ++ (piece ++ rest)) (m ∷ ms)
 
 abbrev pub branch : Tag → Nodes → Branch
 branch t content = record { name = t.name; attributes = t.attributes; spot = t.spot; content = content }
@@ -140,9 +140,9 @@ branch t content = record { name = t.name; attributes = t.attributes; spot = t.s
 pub data Nested : ℕ → List Mark → Nodes → Type 0 where
   none : (d : ℕ) → Nested d [] Nothing
   leaf : (d : ℕ) (ms : List Mark) (before : Nodes) (t : Tag) → Nested (d + 1) ms before
-    → Nested (d + 1) (ms ++ (Whole t ∷ [])) (put (branch t Nothing) before)
+      → Nested (d + 1) (ms ++ (Whole t ∷ [])) (put (branch t Nothing) before)
   pair : (d : ℕ) (ms : List Mark) (before : Nodes) (t : Tag) (inner : List Mark) (content : Nodes) → Nested (d + 1) ms before → Nested d inner content
-    → Nested (d + 1) (ms ++ (Opening t ∷ (inner ++ (Closing t.name ∷ [])))) (put (branch t content) before)
+      → Nested (d + 1) (ms ++ (Opening t ∷ (inner ++ (Closing t.name ∷ [])))) (put (branch t content) before)
 
 -- The text is instructions, the tags of one element, and instructions. The first ones are listed but for long ones.
 pub record Spells (text : List ℕ) (o : Outline) : Type 0 where

@@ -1,5 +1,5 @@
 -- The names that stand in an outline.
-use Rattle.std.specs.Prelude.{ℕ, Bool, true, false, ◌||◌, List, nat_eq}
+use Rattle.std.specs.Prelude.{ℕ, Bool, false, ◌||◌, List, nat_eq}
 use Rattle.std.specs.Cmp.Lexicographic.{pointwise}
 use Rattle.fx_doc.specs.Outline.{Nodes, Nothing, Letters, Node}
 

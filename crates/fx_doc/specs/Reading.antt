@@ -1,5 +1,5 @@
 -- Reading from left to right, as a function on lists.
-use Rattle.std.specs.Prelude.{◌≡◌, ℕ, zero, suc, ◌+◌, ◌==◌, Bool, true, false, ◌&&◌, if◌then◌else◌, List, [], ◌∷◌, ◌++◌, length, take, drop, map, option_map, Option, Some, None, Result, Ok, Err, codes, nat_lt, nat_eq}
+use Rattle.std.specs.Prelude.{◌≡◌, ℕ, zero, suc, ◌+◌, Bool, true, false, ◌&&◌, if◌then◌else◌, List, [], ◌∷◌, ◌++◌, length, take, drop, map, Option, Some, None, Result, Ok, Err, codes, nat_lt, nat_eq}
 use Rattle.std.specs.List.{list_all, prefix_len, starts_with}
 use Rattle.fx_doc.specs.Outline.{Spot, Attr, Outline}
 use Rattle.fx_doc.specs.View.{spot_of, attribute_of}
@@ -74,11 +74,11 @@ begins p (c ∷ cs) = p c
 -- one more attribute behind these, or none
 unfoldable pub more_at : List Attr → At → Option (Option Attr × At)
 more_at seen a =
-  if begins begins_name (past_white a).rest
-  then (if begins is_white a.rest
+    if begins begins_name (past_white a).rest
+    then (if begins is_white a.rest
     then (attribute_at (past_white a) >>= λ r. if among r.0.name seen then None else Some (Some r.0, r.1))
     else None)
-  else Some (None, past_white a)
+    else Some (None, past_white a)
 
 -- goes on behind one more, or ends
 abbrev pub next_of : {X Y : Type 0} → X → Option Y → (Y → Option (X × At)) → At → Option (X × At)
@@ -134,9 +134,9 @@ instruction_at a = do
 
 unfoldable pub mark_at : At → Option (Mark × At)
 mark_at a =
-  choice (literal (60 ∷ (47 ∷ [])) a) (λ b. closing_at b >>= λ r. Some (Closing r.0, r.1))
-  (choice (literal (60 ∷ (63 ∷ [])) a) (λ b. instruction_at b >>= λ r. Some (Instruction r.0, r.1))
-  (literal (60 ∷ []) a >>= λ b. tag_from a.spot b))
+    choice (literal (60 ∷ (47 ∷ [])) a) (λ b. closing_at b >>= λ r. Some (Closing r.0, r.1))
+    (choice (literal (60 ∷ (63 ∷ [])) a) (λ b. instruction_at b >>= λ r. Some (Instruction r.0, r.1))
+    (literal (60 ∷ []) a >>= λ b. tag_from a.spot b))
 
 -- one piece more
 unfoldable pub next_at : State → At → Option (State × At)

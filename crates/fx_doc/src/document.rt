@@ -71,5 +71,4 @@ pub fn read_document(alloc: Global, bytes: &[u8]) -> Result<Document, DocError>
 /// No bytes spell two documents.
 pub fn one_document()
     ensures { (text : List ℕ) (a b : Outline) → Spells text a → Spells text b → a ≡ b }
-{
-}
+{}

@@ -7,7 +7,9 @@ ghost use Rattle.fx_doc.specs.Grammar.{is_white, begins_name, is_plain, among};
 ghost use Rattle.fx_doc.specs.View.{attribute_of};
 ghost use Rattle.fx_doc.specs.Reading.{at_of, spot_at, Reads, name_at, value_at, attribute_at, more_at, attributes_at, closing_at, inside_at, instruction_at, end_from, begins, tag_end, tag_from, mark_of};
 
-use crate::characters::{all_plain, begins_name, is_name, is_white, name_count, trimmed, value_character, value_count};
+use crate::characters::{
+    all_plain, begins_name, is_name, is_white, name_count, trimmed, value_character, value_count,
+};
 use crate::error::DocError;
 use crate::place::Place;
 use crate::reader::Reader;

@@ -1,9 +1,9 @@
 //! Documents that are read, with their places, and texts that are none.
 //! A walk over a document shows how a caller takes one apart.
-ghost use Rattle.std.specs.Prelude.{◌≡◌};
+ghost use Rattle.std.specs.Prelude.{◌≡◌, ◌||◌, [], ◌∷◌};
 ghost use Rattle.fx_doc.specs.Names.{holds_name};
 ghost use Rattle.fx_doc.specs.Outline.{Nothing};
-ghost use Rattle.fx_doc.specs.View.{element_of, nodes_of};
+ghost use Rattle.fx_doc.specs.View.{element_of, joined, nodes_of, part_of};
 
 use crate::*;
 use std::alloc::Global;
@@ -26,11 +26,25 @@ fn any_holds(content: &Vec<Content>, name: &str) -> bool
 {
     let mut found = false;
     for part in content {
-        if let Content::Child(element) = part {
-            found = found | holds(element, name);
-        }
+        found = either(found, part_holds(part, name));
     }
     found
+}
+
+#[cycle(walk)]
+fn part_holds(part: &Content, name: &str) -> bool
+    ensures { result ≡ holds_name name.now (joined Nothing (part_of part.now ∷ [])) }
+{
+    match part {
+        Content::Child(element) => holds(element, name),
+        Content::Chars(..) => false,
+    }
+}
+
+fn either(a: bool, b: bool) -> bool
+    ensures { result ≡ (a || b) }
+{
+    a || b
 }
 
 fn read(alloc: Global, text: &str) -> Result<Document, DocError> {
@@ -40,7 +54,14 @@ fn read(alloc: Global, text: &str) -> Result<Document, DocError> {
     read_document(alloc, text.as_bytes())
 }
 
-fn is_attribute(rt: &impl Abort, attribute: &Attribute, name: &str, value: &str, line: u32, column: u32) {
+fn is_attribute(
+    rt: &impl Abort,
+    attribute: &Attribute,
+    name: &str,
+    value: &str,
+    line: u32,
+    column: u32,
+) {
     assert_eq!(rt; attribute.name.as_str(), name);
     assert_eq!(rt; attribute.value.as_str(), value);
     assert_eq!(rt; (attribute.line, attribute.column), (line, column));
@@ -112,7 +133,10 @@ fn refuses_other_texts(rt: HostRuntime) -> Result<(), Fail> {
         "<é/>",
         "<a x=\"é\"/>",
     ] {
-        assert!(rt; matches!(read(rt.alloc(), text), Err(DocError::NotBuilt)), "{text}");
+        assert!(rt;
+            matches!(read(rt.alloc(), text), Err(DocError::NotBuilt)),
+            "{text}"
+        );
     }
     Ok(())
 }

@@ -3,7 +3,6 @@
 ghost use Rattle.std.specs.Prelude.{◌≡◌, IfOk, map};
 ghost use Rattle.fx_doc.specs.View.{branch_of, part_of, document_of};
 
-
 use fx_base::{Duplicate, List, Text};
 use std::alloc::{AllocError, Global};
 

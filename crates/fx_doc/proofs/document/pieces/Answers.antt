@@ -1,6 +1,6 @@
-use Rattle.std.proofs.Common.{◌≡◌, ◌<◌, ◌+◌, length, refl, arith}
+use Rattle.std.proofs.Common.{◌<◌, ◌+◌, length, refl, arith}
 use Rattle.fx_doc.specs.Machine.{state_of}
-use Rattle.fx_doc.specs.Reading.{at_of, read_over}
+use Rattle.fx_doc.specs.Reading.{at_of}
 use Rattle.fx_doc.proofs.Loops.{piece_more}
 use Rattle.fx_doc.proofs.document.pieces.Goals as goal
 

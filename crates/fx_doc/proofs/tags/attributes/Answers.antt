@@ -3,7 +3,7 @@ use Rattle.fx_doc.specs.declared.tree.Attribute.{Attribute}
 use Rattle.std.proofs.lemmas.Result.{err_from_is_err_and}
 use Rattle.std.proofs.lemmas.List.{map_push}
 use Rattle.fx_doc.specs.View.{attribute_of}
-use Rattle.fx_doc.specs.Reading.{at_of, attributes_at}
+use Rattle.fx_doc.specs.Reading.{at_of}
 use Rattle.fx_doc.proofs.Loops.{one_more_lent, no_more_lent, attributes_fail_lent}
 use Rattle.fx_doc.proofs.tags.attributes.Goals as goal
 

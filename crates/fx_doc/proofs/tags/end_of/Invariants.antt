@@ -1,4 +1,4 @@
-use Rattle.std.proofs.Common.{◌≡◌, ◌+◌, ◌≤◌, length}
+use Rattle.std.proofs.Common.{◌≡◌, ◌+◌, length}
 use Rattle.fx_doc.specs.Reading.{end_from}
 use Rattle.fx_doc.proofs.tags.end_of.Given as goal
 

@@ -1,0 +1,164 @@
+//! Owners of listeners. A listener dies with its owner, and an owner dies where it is released, so that
+//! it stands for a weak reference. Slots are used again, and birth numbers never are.
+#![tactic(auto)]
+
+ghost use Rattle.std.specs.Prelude.{◌≡◌, ◌↔◌, ◌⊎◌, ◌+◌, length, Contains, IsTrue, IfOk, OnErr};
+ghost use Rattle.fx_handles.specs.Living.{DeadStayDead, EachBirthOnce, IsSound, after_make, after_release, nobody};
+ghost use Rattle.fx_handles.specs.declared.OwnerError.TheVariants.{Memory};
+
+use slab::Slab;
+use std::alloc::{AllocFailed, Global};
+use std::marker::Model;
+use thiserror::Error;
+
+/// The most owners that can be alive at once.
+pub const MOST_LIVING: usize = 10_000;
+
+/// An owner of listeners, who may be dead.
+#[derive(Clone, Copy, PartialEq, Eq, Debug)]
+pub struct Owner {
+    /// Where the owner is kept while it is alive; later owners may have the same slot.
+    pub slot: usize,
+    /// Which owner it is, from 1 on; no other owner has this number.
+    pub birth: u32,
+}
+
+/// Why no owner was made.
+#[derive(Debug, Drop, PartialEq, Eq, Error)]
+pub enum OwnerError {
+    /// Too many owners are alive, or the last birth number was given.
+    #[error("no more owners can be made")]
+    Full,
+    /// There was no memory for the owner.
+    #[error("out of memory")]
+    Memory,
+}
+
+impl<T: Drop> From<AllocFailed<T>> for OwnerError {
+    ghost from_gives = { λ _ e. e ≡ Memory };
+
+    fn from(_e: AllocFailed<T>) -> OwnerError {
+        OwnerError::Memory
+    }
+}
+
+/// The owners that are alive.
+#[derive(Drop)]
+pub struct Owners {
+    births: Slab<u32>,
+    born: u32,
+}
+
+impl Model for Owners {
+    ghost use Rattle.fx_handles.specs.Living.{Register};
+
+    ghost Value = { Register };
+
+    ghost use Rattle.fx_handles.specs.Slots.{owners_in, IsKept};
+
+    ghost view = { λ owners. record { living = owners_in owners.births.slots owners.born; born = owners.born } };
+
+    ghost invariant = { λ owners. IsKept owners.births.slots owners.born };
+}
+
+impl Owners {
+    /// Nobody is alive.
+    pub fn new(alloc: Global) -> Owners
+        ensures { result ≡ nobody }
+    {
+        Owners {
+            births: Slab::new(alloc),
+            born: 0,
+        }
+    }
+
+    /// A further owner, in the order of birth after all others.
+    pub fn make(&mut self, _alloc: Global) -> Result<Owner, OwnerError>
+        ensures birth { IfOk result (λ owner. owner.birth ≡ self.old.born + 1) }
+        ensures made { IfOk result (λ owner. self.new ≡ after_make self.old owner) }
+        ensures full { (result ≡ Err OwnerError.Full)
+            ↔ ((length self.old.living ≡ 10000) ⊎ (self.old.born ≡ u32.MAX)) }
+        ensures err { OnErr result (self.new ≡ self.old) }
+        ensures sound { IsSound self.new }
+    {
+        if self.births.len() == MOST_LIVING || self.born == u32::MAX {
+            return Err(OwnerError::Full);
+        }
+        let birth = self.born + 1;
+        let slot = self.births.insert(birth)?;
+        self.born = birth;
+        Ok(Owner { slot, birth })
+    }
+
+    /// Ends the life of this owner, and answers whether it was alive.
+    pub fn release(&mut self, owner: Owner) -> bool
+        ensures was_alive { IsTrue result ↔ Contains self.old.living owner }
+        ensures released { self.new ≡ after_release self.old owner }
+        ensures sound { IsSound self.new }
+    {
+        if !self.is_live(owner) {
+            return false;
+        }
+        self.births.try_remove(owner.slot);
+        true
+    }
+
+    /// Whether this owner is alive, whatever its slot holds.
+    pub fn is_live(&self, owner: Owner) -> bool
+        ensures alive { IsTrue result ↔ Contains self.now.living owner }
+        ensures sound { IsSound self.now }
+    {
+        match self.births.get(owner.slot) {
+            Some(birth) => *birth == owner.birth,
+            None => false,
+        }
+    }
+}
+
+/// A birth number is given once.
+pub fn births_are_given_once()
+    ensures { EachBirthOnce }
+{}
+
+/// A dead owner stays dead, whatever its slot holds later.
+pub fn dead_owners_stay_dead()
+    ensures { DeadStayDead }
+{}
+
+#[cfg(test)]
+mod tests {
+    use super::*;
+    use std::test::Fail;
+
+    #[test]
+    fn tells_owners_apart(rt: HostRuntime) -> Result<(), Fail> {
+        let alloc = rt.alloc();
+        let mut owners = Owners::new(alloc);
+        let first = owners.make(alloc)?;
+        let second = owners.make(alloc)?;
+        assert!(rt; owners.is_live(first) && owners.is_live(second));
+        assert!(rt; owners.release(first));
+        let third = owners.make(alloc)?;
+        assert_eq!(rt; third.slot, first.slot);
+        assert_eq!(rt; third.birth, 3);
+        assert!(rt; !owners.is_live(first));
+        assert!(rt; owners.is_live(third));
+        assert!(rt; !owners.release(first));
+        assert!(rt; owners.is_live(third) && owners.is_live(second));
+        Ok(())
+    }
+
+    #[test]
+    fn ends_at_the_limit(rt: HostRuntime) -> Result<(), Fail> {
+        let alloc = rt.alloc();
+        let mut owners = Owners::new(alloc);
+        let first = owners.make(alloc)?;
+        for _ in 1..MOST_LIVING {
+            let _ = owners.make(alloc)?;
+        }
+        assert_eq!(rt; owners.make(alloc), Err(OwnerError::Full));
+        assert!(rt; owners.release(first));
+        assert_eq!(rt; owners.make(alloc)?.birth, 10_001);
+        Ok(())
+    }
+}

@@ -2,10 +2,10 @@
 use Rattle.std.proofs.Common.{◌≡◌, ℕ, zero, suc, ◌+◌, ◌-◌, ◌<◌, ◌≤◌, ◌⊎◌, cond, List, [], ◌∷◌, length, get_or, sum, min, All, refl, ap, inl, inr, arith}
 use Rattle.std.specs.Prelude.{nat_le}
 use Rattle.std.proofs.lemmas.Bool.{cases_lt, le-leb, lt-leb, lt-ltb, le-ltb}
-use Rattle.std.proofs.lemmas.List.Elements.{All-head, All-tail}
+use Rattle.std.proofs.lemmas.List.Elements.{All-cons, All-head, All-nil, All-tail, All-weaker}
 use Rattle.std.proofs.lemmas.List.Sums.{sum_by-cons}
 use Rattle.fx_share.specs.Levels.{filled, levelled}
-use Rattle.fx_share.specs.Parts.{IsPart, IsShare}
+use Rattle.fx_share.specs.Parts.{IsPart, IsShare, SomeShare}
 
 pub sum-cons : (x : ℕ) (xs : List ℕ) → sum (x ∷ xs) ≡ x + sum xs
 sum-cons x xs = sum_by-cons (λ (n : ℕ). n) x xs
@@ -156,3 +156,36 @@ IsShare-levelled most total level caps enough small greatest =
           | inr below ↦
               omega (arith, enough, below, up_to, filled-next level caps, sum-levelled level (total - filled level caps) caps)
         ]
+
+-- the greatest level up to which the total fills the caps, but `most` at most
+level_up_to : (most total : ℕ) (caps : List ℕ)
+    → (level : ℕ) × (filled level caps ≤ total) × ((level ≡ most) ⊎ (total < filled (level + 1) caps))
+level_up_to zero total caps = (0, omega (arith, filled-zero caps), inl refl)
+level_up_to (suc most) total caps =
+    let found = level_up_to most total caps in
+    elim found.2 [
+      | inr below ↦ (found.0, found.1, inr below)
+      | inl top ↦
+          elim (cases_lt total (filled (suc most) caps)) [
+            | inl below ↦
+                let e : found.0 + 1 ≡ suc most = omega (arith, top) in
+                let over : total < filled (found.0 + 1) caps = rw e below in
+                (found.0, found.1, inr over)
+            | inr enough ↦ (suc most, enough, inl refl)
+          ]
+    ]
+
+All-le-sum : (caps : List ℕ) → All (λ (cap : ℕ). cap ≤ sum caps) caps
+All-le-sum [] = All-nil (λ (cap : ℕ). cap ≤ 0)
+All-le-sum (cap ∷ caps) =
+    All-cons (λ (n : ℕ). n ≤ sum (cap ∷ caps)) cap caps
+    (omega (arith, sum-cons cap caps))
+    (All-weaker (λ (n : ℕ). n ≤ sum caps) (λ (n : ℕ). n ≤ sum (cap ∷ caps))
+    (λ n small. omega (arith, small, sum-cons cap caps)) caps (All-le-sum caps))
+
+pub some_share : SomeShare
+some_share total caps =
+    let found = level_up_to (sum caps) total caps in (
+      levelled found.0 (total - filled found.0 caps) caps,
+      IsShare-levelled (sum caps) total found.0 caps found.1 (All-le-sum caps) found.2,
+    )

@@ -16,6 +16,10 @@ pub record IsShare (total : ℕ) (caps parts : List ℕ) : Type 0 where
   pub in_order : (i k : ℕ) → i < k → k < length caps → level < slice_index caps i → level < slice_index caps k
       → slice_index parts i ≡ level → slice_index parts k ≡ level + 1 → ⊥
 
--- a total and caps have one share
+-- each total and caps have a share
+abbrev pub SomeShare : Type 0
+SomeShare = (total : ℕ) (caps : List ℕ) → (parts : List ℕ) × IsShare total caps parts
+
+-- and they have no other
 abbrev pub OneShare : Type 0
 OneShare = (total : ℕ) (caps one other : List ℕ) → IsShare total caps one → IsShare total caps other → one ≡ other

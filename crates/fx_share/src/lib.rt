@@ -4,7 +4,7 @@
 
 ghost use Rattle.std.specs.Prelude.{◌≡◌, ℕ, ◌+◌, ◌-◌, ◌^◌, ◌<◌, ◌≤◌, ◌⊎◌, All, length, min};
 ghost use Rattle.fx_share.specs.Levels.{filled, levelled};
-ghost use Rattle.fx_share.specs.Parts.{IsShare, OneShare};
+ghost use Rattle.fx_share.specs.Parts.{IsShare, OneShare, SomeShare};
 
 /// The most that a total or a cap can be.
 pub const MOST: u64 = 1_000_000_000_000;
@@ -22,7 +22,8 @@ pub fn share(total: u64, caps: &[u64], out: &mut [u64])
 
 /// A total and caps have exactly one share.
 pub fn one_share()
-    ensures { OneShare }
+    ensures some { SomeShare }
+    ensures one { OneShare }
 {}
 
 /// The greatest level up to which the total fills the caps, but `MOST` at most.

@@ -1,5 +1,6 @@
-//! Owners of listeners. A listener dies with its owner, and an owner dies where it is released, so that
-//! it stands for a weak reference. Slots are used again, and birth numbers never are.
+//! Owners of listeners, which stand for the weak references of JavaFX's `WeakChangeListener`: a listener
+//! dies with its owner, and a release stands in the place of garbage collection. Slots are used again,
+//! and birth numbers never are.
 #![tactic(auto)]
 
 ghost use Rattle.std.specs.Prelude.{◌≡◌, ◌↔◌, ◌⊎◌, ◌+◌, length, Contains, IsTrue, IfOk, OnErr};
@@ -72,7 +73,7 @@ impl Owners {
         }
     }
 
-    /// A further owner, in the order of birth after all others.
+    /// A further owner, born after all others. The owner may get the slot of one that was released.
     pub fn make(&mut self, _alloc: Global) -> Result<Owner, OwnerError>
         ensures birth { IfOk result (λ owner. owner.birth ≡ self.old.born + 1) }
         ensures made { IfOk result (λ owner. self.new ≡ after_make self.old owner) }

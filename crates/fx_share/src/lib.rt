@@ -9,7 +9,7 @@ ghost use Rattle.fx_share.specs.Parts.{IsShare, OneShare, SomeShare};
 /// The most that a total or a cap can be.
 pub const MOST: u64 = 1_000_000_000_000;
 
-/// Writes the parts of the total into `out`. The time does not grow with the total.
+/// Writes the parts of the total into `out`, in some forty passes over the caps, whatever the total.
 pub fn share(total: u64, caps: &[u64], out: &mut [u64])
     requires same_length { length out.old ≡ length caps.now }
     requires small_total { total ≤ MOST }

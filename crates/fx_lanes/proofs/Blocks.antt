@@ -1,7 +1,7 @@
 -- A row whose front is blended: one block more, and one place more.
 -- Cited by the proof of the blending kernel.
-use Rattle.std.proofs.Common.{◌≡◌, ℕ, ◌+◌, ◌-◌, ◌%◌, ◌/◌, ◌<◌, ◌≤◌, ◌++◌, ◌∷◌, [], List, length, map, take, drop, get_or, set, replicate, refl, sym, ap, ◌∙◌, arith}
-use Rattle.std.proofs.lemmas.List.{length-map, length-take, length-drop, length-take-le, map-append, map_more}
+use Rattle.std.proofs.Common.{◌≡◌, ℕ, ◌+◌, ◌%◌, ◌/◌, ◌<◌, ◌≤◌, ◌++◌, ◌∷◌, [], List, length, map, take, drop, get_or, set, replicate, sym, ap, ◌∙◌, arith}
+use Rattle.std.proofs.lemmas.List.{length-map, length-drop, length-take-le, map-append, map_more}
 use Rattle.std.specs.List.{flat_map}
 use lib.Lanes.{zip2, chunk, put_chunk}
 use Rattle.fx_base.specs.Pixel.{blended, channel, pixel_of, red_of, green_of, blue_of}

@@ -1,6 +1,6 @@
 -- Lanes of channels: how they come from pixels, how they are mixed, and how pixels come from them.
 -- Cited by the proofs of the kernels.
-use Rattle.std.proofs.Common.{◌≡◌, ℕ, ◌+◌, ◌-◌, ◌*◌, ◌/◌, ◌%◌, ◌^◌, ◌<◌, ◌≤◌, Bool, true, false, cond, eqb, List, [], ◌∷◌, ◌++◌, length, map, replicate, zero, suc, refl, sym, ap, subst, ◌∙◌, arith, inl, inr, pow-suc, eq-eqb}
+use Rattle.std.proofs.Common.{◌≡◌, ℕ, ◌+◌, ◌-◌, ◌*◌, ◌/◌, ◌%◌, ◌^◌, ◌<◌, ◌≤◌, cond, eqb, List, [], ◌∷◌, length, map, replicate, zero, suc, refl, sym, ap, ◌∙◌, arith, inl, inr, pow-suc, eq-eqb}
 use Rattle.std.proofs.Math.Nat.{mul-le-mul_right}
 use Rattle.std.proofs.lemmas.Bool.Decides.{eqb_tells}
 use Rattle.std.proofs.lemmas.Nat.{and_mask}
@@ -10,6 +10,7 @@ use mir.Syntax.{w8, w32}
 use mir.Val.{Fits}
 use Rattle.std.proofs.lemmas.Simd.{tops_compared, mask_l-mod, length-zip2}
 use lib.Lanes.{Each1, zip2, number_l, digits_l, mask_l, top}
+use Rattle.fx_base.specs.declared.color.Color.{Color}
 use Rattle.fx_base.specs.Pixel.{blended, channel, pixel_of, red_of, green_of, blue_of}
 use Rattle.fx_lanes.specs.Blending.{channels, packed_color, pixels_of}
 
@@ -156,15 +157,29 @@ mask_from_same (suc n) (x ∷ a) l =
     let rest = mask_from_same n a (omega arith) in
     rw (eq-eqb x x refl) (omega arith)
 
--- the mask of sixteen lanes that are compared
-pub mask_is : (a b : List ℕ) → length a ≡ 16 → length b ≡ 16 → mask_l (map (top 31) (zip2 (λ x y. cond (eqb x y) 4294967295 0) a b)) % 2 ^ 64 ≡ mask_l (zip2 eqb a b)
+-- the mask of thirty-two lanes that are compared
+pub mask_is : (a b : List ℕ) → length a ≡ 32 → length b ≡ 32 → mask_l (map (top 31) (zip2 (λ x y. cond (eqb x y) 4294967295 0) a b)) % 2 ^ 64 ≡ mask_l (zip2 eqb a b)
 mask_is a b l m =
     ap (λ ms. mask_l ms % 2 ^ 64) (tops_compared w32 eqb a b)
     ∙ mask_l-mod (zip2 eqb a b) 64 (let same : length a ≡ length b = l ∙ sym m in let n = length-zip2 eqb a b same in omega arith)
 
-pub same_lanes : (a b : List ℕ) → length a ≡ 16 → length b ≡ 16 → mask_l (map (top 31) (zip2 (λ x y. cond (eqb x y) 4294967295 0) a b)) % 2 ^ 64 ≡ 65535 → a ≡ b
-same_lanes a b l m e = let mask = sym (mask_is a b l m) ∙ e in same_from_mask 16 a b l m (ap (λ n. n + 1) mask)
+pub same_lanes : (a b : List ℕ) → length a ≡ 32 → length b ≡ 32 → mask_l (map (top 31) (zip2 (λ x y. cond (eqb x y) 4294967295 0) a b)) % 2 ^ 64 ≡ 4294967295 → a ≡ b
+same_lanes a b l m e = let mask = sym (mask_is a b l m) ∙ e in same_from_mask 32 a b l m (ap (λ n. n + 1) mask)
 
-pub lanes_same : (a b : List ℕ) → length a ≡ 16 → length b ≡ 16 → a ≡ b → mask_l (map (top 31) (zip2 (λ x y. cond (eqb x y) 4294967295 0) a b)) % 2 ^ 64 ≡ 65535
+pub lanes_same : (a b : List ℕ) → length a ≡ 32 → length b ≡ 32 → a ≡ b → mask_l (map (top 31) (zip2 (λ x y. cond (eqb x y) 4294967295 0) a b)) % 2 ^ 64 ≡ 4294967295
 lanes_same a b l m e =
-    mask_is a b l m ∙ ap (λ x. mask_l (zip2 eqb a x)) (sym e) ∙ (let full : mask_l (zip2 eqb a a) + 1 ≡ 65536 = mask_from_same 16 a l in omega arith)
+    mask_is a b l m ∙ ap (λ x. mask_l (zip2 eqb a x)) (sym e) ∙ (let full : mask_l (zip2 eqb a a) + 1 ≡ 4294967296 = mask_from_same 32 a l in omega arith)
+
+-- a packed colour is unpacked
+pub unpacked : (r g b a : ℕ) → r < 256 → g < 256 → b < 256 → a < 256 → packed_color (r * 16777216 + g * 65536 + b * 256 + a) ≡ record { r = r; g = g; b = b; a = a }
+unpacked r g b a hr hg hb ha =
+    let n = r * 16777216 + g * 65536 + b * 256 + a in
+    let er : red_of (n / 256) ≡ r = omega arith in
+    let eg : green_of (n / 256) ≡ g = omega arith in
+    let eb : blue_of (n / 256) ≡ b = omega arith in
+    let ea : n % 256 ≡ a = omega arith in
+    let made : ℕ → ℕ → ℕ → ℕ → Color = λ x y z w. record { r = x; g = y; b = z; a = w } in
+    ap (λ x. made x (green_of (n / 256)) (blue_of (n / 256)) (n % 256)) er
+    ∙ ap (λ y. made r y (blue_of (n / 256)) (n % 256)) eg
+    ∙ ap (λ z. made r g z (n % 256)) eb
+    ∙ ap (λ w. made r g b w) ea

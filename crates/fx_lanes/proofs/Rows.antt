@@ -1,7 +1,7 @@
 -- A row of which the front is made and the rest is as it was: one block more, and one place more.
 -- Cited by the proofs of all kernels.
-use Rattle.std.proofs.Common.{◌≡◌, ℕ, ◌+◌, ◌-◌, ◌<◌, ◌≤◌, List, [], ◌∷◌, ◌++◌, length, take, drop, get_or, set, map, refl, sym, ap, subst, ◌∙◌, arith, append_assoc}
-use Rattle.std.proofs.lemmas.List.{append-nil, drop_all, take_at, drop_at, drop-drop, drop_more, set_at, get_or_at, take-append-drop, take-take, drop-take, length-append, length-drop, map-append}
+use Rattle.std.proofs.Common.{◌≡◌, ℕ, ◌+◌, ◌<◌, ◌≤◌, List, [], ◌∷◌, ◌++◌, length, take, drop, get_or, set, refl, sym, ap, subst, ◌∙◌, arith, append_assoc}
+use Rattle.std.proofs.lemmas.List.{append-nil, drop_all, take_at, drop_at, drop-drop, drop_more, set_at, get_or_at, take-append-drop, take-take, drop-take, length-append, length-drop}
 use Rattle.std.proofs.lemmas.Simd.{put_chunk_is}
 use lib.Lanes.{put_chunk, chunk}
 

@@ -1,6 +1,6 @@
 //! One colour with its opacity laid over a whole row.
 //! It stands on the plain types, below the canvas.
-ghost use Rattle.std.specs.Prelude.{◌≡◌, ◌<◌, ◌≤◌, map};
+ghost use Rattle.std.specs.Prelude.{◌≡◌, ℕ, ◌+◌, ◌*◌, ◌<◌, ◌≤◌, map};
 ghost use Rattle.std.specs.List.{flat_map};
 ghost use lib.Lanes.{Each1, zip2};
 ghost use Rattle.fx_base.specs.Pixel.{blended, channel, pixel_of, red_of, green_of, blue_of};
@@ -26,6 +26,12 @@ pub fn blend_row(row: &mut [u32], color: u32)
         row[i] = blended_pixel(row[i], pixel, alpha);
     }
 }
+
+/// A packed colour has the four numbers that it was packed from.
+pub fn packed_colors_unpack()
+    ensures { (r g b a : ℕ) → r < 256 → g < 256 → b < 256 → a < 256
+        → packed_color (r * 16777216 + g * 65536 + b * 256 + a) ≡ record { r = r; g = g; b = b; a = a } }
+{}
 
 #[inline(always)]
 fn blended_block(under: u32x4, over: u16x16, alpha: u16) -> u32x4

@@ -5,6 +5,7 @@ ghost use Rattle.std.specs.Prelude.{◌≡◌, ◌↔◌, IsTrue};
 use std::simd::prelude::*;
 
 /// Whether two rows have the same length and the same pixels.
+#[inline(never)]
 pub fn equal(a: &[u32], b: &[u32]) -> bool
     ensures { IsTrue result ↔ (a.now ≡ b.now) }
 {
@@ -12,11 +13,11 @@ pub fn equal(a: &[u32], b: &[u32]) -> bool
         return false;
     }
     let mut at = 0;
-    while a.len() - at >= 16 {
-        if !is_same(u32x16::from_slice(&a[at..]), u32x16::from_slice(&b[at..])) {
+    while a.len() - at >= 32 {
+        if !is_same(u32x32::from_slice(&a[at..]), u32x32::from_slice(&b[at..])) {
             return false;
         }
-        at += 16;
+        at += 32;
     }
     for i in at..a.len() {
         if a[i] != b[i] {
@@ -27,7 +28,7 @@ pub fn equal(a: &[u32], b: &[u32]) -> bool
 }
 
 #[inline(always)]
-fn is_same(a: u32x16, b: u32x16) -> bool
+fn is_same(a: u32x32, b: u32x32) -> bool
     ensures { IsTrue result ↔ (a ≡ b) }
 {
     a.simd_eq(b).all()

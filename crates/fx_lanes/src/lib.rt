@@ -8,7 +8,7 @@ mod blending;
 mod comparing;
 mod filling;
 
-pub use blending::blend_row;
+pub use blending::{blend_row, packed_colors_unpack};
 pub use comparing::equal;
 pub use filling::fill;
 

@@ -1,6 +1,6 @@
 -- A block more, and a place more, is blended.
 -- The rest of the row stays.
-use Rattle.std.proofs.Common.{◌≡◌, ℕ, ◌+◌, ◌≤◌, ◌<◌, length, arith}
+use Rattle.std.proofs.Common.{◌+◌, ◌≤◌, ◌<◌, length, arith}
 use Rattle.fx_lanes.proofs.Blocks.{blended_more, blended_next}
 use Rattle.fx_lanes.proofs.blending.blend_row.Goals as goal
 

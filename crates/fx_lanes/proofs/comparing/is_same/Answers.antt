@@ -1,5 +1,5 @@
 -- All bits of the mask are set where all lanes are the same.
--- Lemmas on lists of lanes, at sixteen.
+-- Lemmas on lists of lanes, at thirty-two.
 use Rattle.std.proofs.lemmas.Bool.Decides.{Decides-eqb}
 use Rattle.fx_lanes.proofs.Lanes.{same_lanes, lanes_same}
 use Rattle.fx_lanes.proofs.comparing.is_same.Goals as goal

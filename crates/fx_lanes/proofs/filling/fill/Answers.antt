@@ -1,8 +1,8 @@
 -- A block more, and a place more, of the colour.
 -- The rest of the row stays.
-use Rattle.std.proofs.Common.{◌≡◌, ℕ, ◌+◌, ◌≤◌, ◌<◌, length, refl, arith}
+use Rattle.std.proofs.Common.{◌+◌, ◌≤◌, ◌<◌, length, refl, arith}
 use Rattle.std.proofs.lemmas.List.{replicate-append-replicate, replicate_more}
-use Rattle.fx_lanes.proofs.Rows.{Made, made_block, made_place, made_as}
+use Rattle.fx_lanes.proofs.Rows.{made_block, made_place, made_as}
 use Rattle.fx_lanes.proofs.filling.fill.Goals as goal
 
 pub loop-row-preserved : goal.loop-row-preserved

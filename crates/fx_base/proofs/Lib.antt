@@ -1,1 +1,2 @@
 pub mod GeometryLemmas
+pub mod IdentifierLemmas

@@ -64,6 +64,9 @@ pub fn read_document(alloc: Global, bytes: &[u8]) -> Result<Document, DocError>
     requires { length bytes.now ≤ 4194304 }
     ensures ok { IfOk result (λ d. Spells bytes.now (document_of d)) }
     ensures not_built { result ≡ Err DocError.NotBuilt → (o : Outline) → Spells bytes.now o → ⊥ }
+
+    // The same by the function that the definitions above read with.
+    ensures read { Gives document_of result (read_of bytes.now) }
 {
     whole_document(alloc, bytes)
 }

@@ -4,7 +4,7 @@ use Rattle.std.specs.Fmt.{decimal, digit_glyph}
 use Rattle.std.specs.List.{flat_map, join_with_byte, range_with_len}
 use Rattle.fx_base.specs.Pixel.{red_of, green_of, blue_of}
 use Rattle.fx_base.specs.Printing.{two_digits}
-use Rattle.fx_plain.specs.Picture.{Size}
+use Rattle.fx_plain.specs.declared.nodes.Size.{Size}
 
 -- six hexadecimal digits
 unfoldable pub pixel_text : ℕ → List ℕ

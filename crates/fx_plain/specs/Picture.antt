@@ -7,10 +7,7 @@ use Rattle.fx_base.specs.Rectangle.{inside}
 use Rattle.fx_base.specs.declared.color.Color.{Color}
 use Rattle.fx_base.specs.declared.geometry.Rect.{Rect}
 use Rattle.fx_plain.specs.declared.nodes.Node.{Node}
-
-pub record Size : Type 0 where
-  pub width : ℕ
-  pub height : ℕ
+use Rattle.fx_plain.specs.declared.nodes.Size.{Size}
 
 pub data Shape : Type 0 where
   Fill : Rect → Color → Shape

@@ -36,17 +36,25 @@ behind_word text = behind (λ c. not (is_space c)) (behind is_space text)
 abbrev pub number_of_digits : List ℕ → ℕ
 number_of_digits digits = fold (λ n c. n * 10 + (c - 48)) 0 digits
 
+-- one to six digits
+abbrev pub are_few_digits : List ℕ → Bool
+are_few_digits text = (nat_lt 0 (length text) && nat_le (length text) 6) && list_all is_ascii_digit text
+
 -- one to six digits, of a number of at most 100,000
 unfoldable pub small_number : List ℕ → Option ℕ
-small_number text = if (nat_lt 0 (length text) && nat_le (length text) 6) && (list_all is_ascii_digit text && nat_le (number_of_digits text) 100000)
-    then Some (number_of_digits text) else None
+small_number text = if are_few_digits text && nat_le (number_of_digits text) 100000 then Some (number_of_digits text) else None
 
--- a number by its name behind the dot
+-- a number by its name
 unfoldable pub number_named : List ℕ → Option Number
-number_named text = if same_text text (codes ".layoutX") then Some LayoutX
-    else (if same_text text (codes ".layoutY") then Some LayoutY
-    else (if same_text text (codes ".prefWidth") then Some PrefWidth
-    else (if same_text text (codes ".prefHeight") then Some PrefHeight else None)))
+number_named name = if same_text name (codes "layoutX") then Some LayoutX
+    else (if same_text name (codes "layoutY") then Some LayoutY
+    else (if same_text name (codes "prefWidth") then Some PrefWidth
+    else (if same_text name (codes "prefHeight") then Some PrefHeight else None)))
+
+-- a number by a dot and its name
+abbrev pub number_behind_dot : List ℕ → Option Number
+number_behind_dot [] = None
+number_behind_dot (dot ∷ name) = number_named name
 
 abbrev pub target_from : List ℕ → Option Number → Option Target
 target_from node None = None
@@ -55,7 +63,7 @@ target_from node (Some number) = if is_identifier node then Some (record { node 
 -- `ID.P`, of at most 4,096 characters
 unfoldable pub target_of : List ℕ → Option Target
 target_of word = if nat_le (length word) 4096
-    then target_from (front (λ c. not (c == 46)) word) (number_named (behind (λ c. not (c == 46)) word))
+    then target_from (front (λ c. not (c == 46)) word) (number_behind_dot (behind (λ c. not (c == 46)) word))
     else None
 
 -- what stands behind a word and one space is the number

@@ -4,7 +4,7 @@ use Rattle.std.specs.Option.{option_and_then, option_map, option_map_or}
 use Rattle.std.specs.List.{position}
 use Rattle.std.specs.Fmt.{signed_decimal}
 use Rattle.fx_plain.specs.Frame.{frame_text}
-use Rattle.fx_plain.specs.Picture.{Size, pixel, shapes_of, window_for}
+use Rattle.fx_plain.specs.Picture.{pixel, shapes_of, window_for}
 use Rattle.fx_plain.specs.Refusals.{refused_line}
 use Rattle.fx_plain.specs.Script.{same_text}
 use Rattle.fx_plain.specs.declared.answers.Refusal.TheVariants as refusal
@@ -13,6 +13,7 @@ use Rattle.fx_plain.specs.declared.lines.Line.TheVariants.{Skip, Set, Get, Pulse
 use Rattle.fx_plain.specs.declared.lines.Target.{Target}
 use Rattle.fx_plain.specs.declared.nodes.Node.{Node}
 use Rattle.fx_plain.specs.declared.nodes.Number.{Number}
+use Rattle.fx_plain.specs.declared.nodes.Size.{Size}
 use Rattle.fx_plain.specs.declared.nodes.Number.TheVariants.{LayoutX, LayoutY, PrefWidth, PrefHeight}
 
 -- the nodes in document order, the root first; the window, from the first frame on; how many frames were written

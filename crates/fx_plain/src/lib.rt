@@ -8,4 +8,4 @@ mod nodes;
 
 pub use answers::{FaultKind, Refusal, Status};
 pub use lines::{Line, Target};
-pub use nodes::{Node, Number};
+pub use nodes::{Node, Number, Size};

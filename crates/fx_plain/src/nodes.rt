@@ -2,6 +2,13 @@
 
 use fx_base::{Color, Text};
 
+/// The size of the window, in pixels.
+#[derive(Clone, Copy, PartialEq, Eq, Debug)]
+pub struct Size {
+    pub width: u32,
+    pub height: u32,
+}
+
 /// A number of a node that scripts read and set (JavaFX `layoutX`, `layoutY`, `prefWidth`, `prefHeight`).
 #[derive(Clone, Copy, PartialEq, Eq, Debug)]
 pub enum Number {

@@ -1,0 +1,3 @@
+pub mod PaintLemmas
+pub mod PlayLemmas
+pub mod SceneLemmas

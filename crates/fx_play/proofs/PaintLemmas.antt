@@ -1,9 +1,8 @@
 -- Laying shapes over a row: one more node, and one span of columns.
-use Rattle.std.proofs.Common.{suc, min, replicate, lit<, inl, inr, get_or-drop, ◌≡◌, ◌<◌, ◌≤◌, ℕ, ◌+◌, ◌-◌, ◌*◌, ◌/◌, ◌%◌, pos, Bool, true, false, ◌&&◌, List, [], ◌∷◌, ◌++◌, length, get_or, take, drop, map, Option, Some, None, sym, ◌∙◌, ap, refl, subst, arith, add-one, length-append, length-take, ltb, leb}
+use Rattle.std.proofs.Common.{suc, min, replicate, lit<, inl, inr, get_or-drop, ◌≡◌, ◌<◌, ◌≤◌, ℕ, ◌+◌, ◌-◌, ◌*◌, pos, ◌&&◌, List, [], ◌∷◌, ◌++◌, length, get_or, take, drop, map, Option, Some, None, sym, ◌∙◌, ap, refl, arith, length-take, ltb, leb}
 use borrow.Rule.Slice.PartMut.{mid_of, post_of, put_mid, mid_len, Post-is}
 use Rattle.std.specs.Option.{unwrap_or}
-use Rattle.std.specs.List.{cons_option, filter_map}
-use Rattle.std.proofs.Math.Seq.{take-suc, drop-drop}
+use Rattle.std.specs.List.{cons_option}
 use Rattle.std.specs.Bool.{Decides}
 use Rattle.std.proofs.lemmas.Bool.{leb-true}
 use Rattle.std.proofs.lemmas.Bool.Decides.{nat_tests, leb_tells, same_from_decides, Decides-and, Decides-like, Decides-ltb}
@@ -15,7 +14,7 @@ use Rattle.std.proofs.lemmas.List.{get_or_append_left, get_or-append_right, get_
 use Rattle.fx_base.specs.Pixel.{blended, channel, pixel_of, red_of, green_of, blue_of, white}
 use Rattle.fx_base.specs.Rectangle.{in_span}
 use Rattle.fx_base.specs.declared.color.Color.{Color}
-use Rattle.fx_plain.specs.Picture.{Shape, Fill, over, pixel, shape_of, shapes_of, rect_of, holds, color_of}
+use Rattle.fx_plain.specs.Picture.{Shape, over, pixel, shape_of, shapes_of}
 use Rattle.fx_plain.specs.declared.nodes.Node.{Node}
 use Rattle.fx_play.specs.Painting.{AreColumns, RowChanged, laid, spread}
 

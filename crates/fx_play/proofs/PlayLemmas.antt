@@ -1,5 +1,5 @@
 -- Looking a node up, and rows of a frame one after another.
-use Rattle.std.proofs.Common.{◌≤◌, take, drop, ◌≡◌, ◌<◌, ℕ, ◌+◌, ◌-◌, suc, zero, List, [], ◌∷◌, ◌++◌, Option, Some, None, length, get_or, map, slice_get, sym, ◌∙◌, ap, refl, arith, append-nil, Result, Ok, Err}
+use Rattle.std.proofs.Common.{◌≤◌, take, drop, ◌≡◌, ◌<◌, ℕ, ◌+◌, ◌-◌, suc, List, [], ◌∷◌, ◌++◌, Option, Some, length, get_or, map, slice_get, sym, ◌∙◌, ap, refl, arith, append-nil, Result, Ok, Err}
 use Rattle.std.specs.List.{flat_map, join_with_byte, range_with_len}
 use Rattle.std.specs.Option.{option_and_then}
 use Rattle.std.proofs.Math.Seq.{take_all}
@@ -7,7 +7,7 @@ use Rattle.std.proofs.lemmas.List.{drop_more}
 use Rattle.std.proofs.lemmas.Option.{slice_get_read}
 use Rattle.fx_port.specs.Pieces.{Writes, grown}
 use Rattle.fx_port.proofs.Growth.{goes_on, reaches_end, stops_within, up_to_start}
-use Rattle.fx_plain.specs.Frame.{image, pixel_text, row_of, row_text}
+use Rattle.fx_plain.specs.Frame.{pixel_text, row_of, row_text}
 use Rattle.fx_plain.specs.World.{World, node_named, place_of, world_after, written_by, written_by_all}
 use Rattle.fx_plain.specs.declared.lines.Line.{Line}
 use Rattle.fx_plain.specs.declared.nodes.Node.{Node}

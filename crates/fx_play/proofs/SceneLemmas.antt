@@ -1,11 +1,11 @@
 -- What a document's parts mean to a scene, one part more at a time.
 use Rattle.std.proofs.Common.{arith, cond, vec_len, Vec, Global, not, ◌||◌, ◌≡◌, ◌<◌, ℕ, ◌+◌, suc, Bool, true, false, ◌&&◌, List, [], ◌∷◌, ◌++◌, length, get_or, take, drop, map, Option, Some, None, Bor, sym, ◌∙◌, ap, refl, subst, append_assoc, take-append-drop, eqb}
 use Rattle.std.specs.Option.{option_map, option_map_or}
-use Rattle.std.specs.List.{cons_option, find, filter_map, list_any}
+use Rattle.std.specs.List.{cons_option, find, list_any}
 use Rattle.std.proofs.lemmas.Bool.{eqb-true}
 use Rattle.std.proofs.lemmas.List.{drop_more, map-append, take_more}
-use Rattle.fx_doc.specs.Outline.{Attr, Spot, Nodes, Nothing, Letters, Node as Branching}
-use Rattle.fx_doc.specs.View.{Branch, Part, Grown, Written, attribute_of, branch_of, joined, nodes_of, part_of, put}
+use Rattle.fx_doc.specs.Outline.{Attr, Nodes, Nothing, Letters, Node as Branching}
+use Rattle.fx_doc.specs.View.{Part, Grown, Written, attribute_of, branch_of, joined, nodes_of, part_of, put}
 use Rattle.fx_doc.specs.declared.tree.Content.{Content}
 use Rattle.fx_doc.specs.declared.tree.Element.{Element, out-Element}
 use Rattle.fx_doc.proofs.ViewLemmas.{branch_of-out, joined-append, nodes_of-push}

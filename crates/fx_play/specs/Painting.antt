@@ -1,10 +1,10 @@
 -- What painting does to one row, pixel by pixel.
-use Rattle.std.specs.Prelude.{◌≡◌, ◌<◌, ◌≤◌, ℕ, pos, Bool, ◌&&◌, List, length, Option, Some, None, nat_le, nat_lt, slice_index, if◌then◌else◌}
+use Rattle.std.specs.Prelude.{◌≡◌, ◌<◌, ◌≤◌, ℕ, pos, ◌&&◌, List, length, Option, Some, None, nat_le, nat_lt, slice_index, if◌then◌else◌}
 use Rattle.std.specs.Option.{unwrap_or}
 use Rattle.fx_base.specs.Pixel.{blended}
 use Rattle.fx_base.specs.Rectangle.{in_span}
 use Rattle.fx_base.specs.declared.color.Color.{Color}
-use Rattle.fx_plain.specs.Picture.{Shape, holds, color_of, over}
+use Rattle.fx_plain.specs.Picture.{Shape, holds, color_of}
 use Rattle.fx_plain.specs.declared.nodes.Node.{Node}
 
 -- each pixel of the row is made of its column and of what it was

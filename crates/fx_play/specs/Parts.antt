@@ -1,7 +1,6 @@
 -- What one piece of a document means to a scene.
-use Rattle.std.specs.Prelude.{◌≡◌, ℕ, Bool, true, false, List, ◌++◌, Option, Some, None, codes, if◌then◌else◌}
+use Rattle.std.specs.Prelude.{◌≡◌, Bool, true, false, List, ◌++◌, Option, Some, None, codes, if◌then◌else◌}
 use Rattle.fx_doc.specs.View.{Branch, Part, Grown, Written}
-use Rattle.fx_doc.specs.Outline.{Nodes}
 use Rattle.fx_plain.specs.Scene.{pane_of, region_named, regions_of, with_regions}
 use Rattle.fx_plain.specs.Script.{same_text}
 use Rattle.fx_plain.specs.declared.nodes.Node.{Node}

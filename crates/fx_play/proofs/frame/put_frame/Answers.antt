@@ -1,5 +1,5 @@
 -- the header, and then the rows
-use Rattle.std.proofs.Common.{◌≡◌, ◌∙◌, ap, sym}
+use Rattle.std.proofs.Common.{◌∙◌, ap}
 use Rattle.fx_plain.specs.Frame.{frame_header, image}
 use Rattle.fx_plain.specs.Picture.{pixel, shapes_of}
 use Rattle.fx_port.specs.Pieces.{grown}

@@ -1,7 +1,5 @@
 -- a row more is written, or a prefix of it
-use Rattle.std.proofs.Common.{◌≡◌, ◌+◌, ◌++◌, ◌∙◌, sym, ap, arith, length, List, ℕ, map}
-use Rattle.std.specs.List.{range_with_len}
-use Rattle.fx_plain.specs.Frame.{row_of, row_text}
+use Rattle.std.proofs.Common.{◌+◌, ◌∙◌, arith, length}
 use Rattle.fx_plain.specs.Picture.{pixel, shapes_of}
 use Rattle.fx_port.proofs.Growth.{goes_on, stops_between, stops_within, Writes-at_err}
 use Rattle.fx_play.proofs.PlayLemmas.{row_next, rows_from}

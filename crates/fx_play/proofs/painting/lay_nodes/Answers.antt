@@ -1,5 +1,5 @@
 -- one node more is laid over what the nodes so far made
-use Rattle.std.proofs.Common.{◌≡◌, ◌<◌, ◌∙◌, sym, ap, length, arith, get_or}
+use Rattle.std.proofs.Common.{◌<◌, ◌∙◌, sym, ap, length, arith, get_or}
 use Rattle.fx_plain.specs.Picture.{shape_of}
 use Rattle.fx_play.specs.Painting.{laid}
 use Rattle.fx_play.proofs.PaintLemmas.{over-more}

@@ -1,6 +1,5 @@
 -- a node's name is among those behind it, or not
-use Rattle.std.proofs.Common.{◌≡◌, ◌+◌, ◌&&◌, ◌∙◌, sym, ap, drop, true, false}
-use Rattle.fx_plain.specs.Scene.{all_differ, names_of}
+use Rattle.std.proofs.Common.{◌∙◌, sym, true, false}
 use Rattle.fx_play.proofs.SceneLemmas.{differ_next}
 use Rattle.fx_play.proofs.scene.all_differ.Goals as goal
 

@@ -1,5 +1,5 @@
 -- one region more, or a part that is none
-use Rattle.std.proofs.Common.{◌∙◌, sym, ap}
+use Rattle.std.proofs.Common.{◌∙◌, sym}
 use Rattle.fx_play.proofs.SceneLemmas.{pushes_next, pushes_none}
 use Rattle.fx_play.proofs.scene.push_regions.Goals as goal
 

@@ -1,5 +1,5 @@
 -- the parts so far are regions, and these are appended
-use Rattle.std.proofs.Common.{◌≡◌, take, true}
+use Rattle.std.proofs.Common.{take, true}
 use Rattle.fx_doc.specs.View.{nodes_of}
 use Rattle.fx_plain.specs.Scene.{regions_of}
 use Rattle.fx_play.specs.Parts.{RegionsPushed}

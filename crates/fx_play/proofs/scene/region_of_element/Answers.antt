@@ -1,5 +1,5 @@
 -- a region has no content
-use Rattle.std.proofs.Common.{◌∙◌, sym, ap}
+use Rattle.std.proofs.Common.{sym}
 use Rattle.fx_play.proofs.SceneLemmas.{empty_region, no_region}
 use Rattle.fx_play.proofs.scene.region_of_element.Goals as goal
 

@@ -1,4 +1,5 @@
 //! Nodes of the scene: a pane and its regions.
+ghost use Rattle.std.specs.Prelude.{◌≡◌};
 
 use fx_base::{Color, Text};
 
@@ -28,4 +29,18 @@ pub struct Node {
     pub pref_width: Option<u32>,
     pub pref_height: Option<u32>,
     pub fill: Option<Color>,
+}
+
+impl Node {
+    ghost use Rattle.fx_plain.specs.World.{is_named};
+
+    /// Has the node this name?
+    pub fn is_named(&self, name: &str) -> bool
+        ensures { result ≡ is_named name.now self.now }
+    {
+        match &self.name {
+            Some(own) => own.as_str() == name,
+            None => false,
+        }
+    }
 }

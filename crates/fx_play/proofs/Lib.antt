@@ -1,3 +1,2 @@
 pub mod PaintLemmas
 pub mod PlayLemmas
-pub mod SceneLemmas

@@ -3,7 +3,7 @@ ghost use Rattle.std.specs.Prelude.{◌≡◌, ◌≤◌, ◌<◌, ◌+◌, ◌-
 ghost use Rattle.fx_plain.specs.Loading.{first_world};
 ghost use Rattle.fx_plain.specs.Picture.{clamped, window_for};
 ghost use Rattle.fx_plain.specs.Refusals.{refusal_word, refused_line};
-ghost use Rattle.fx_plain.specs.World.{frame_of, is_named, node_named, nodes_after_set, nodes_with, number_name, number_of, place_of, read_text, set_text, size_value, value_line, window_of, with_number, world_after, written_by, written_by_all};
+ghost use Rattle.fx_plain.specs.World.{frame_of, node_named, nodes_after_set, nodes_with, number_name, number_of, place_of, read_text, set_text, size_value, value_line, window_of, with_number, world_after, written_by, written_by_all};
 ghost use Rattle.fx_play.specs.Worlds.{world_of};
 ghost use Rattle.fx_port.specs.Causes.{HasCause};
 ghost use Rattle.fx_port.specs.Pieces.{Writes};
@@ -171,16 +171,7 @@ fn place_of(nodes: &[Node], name: &str) -> Option<usize>
     ensures place { result ≡ place_of nodes.now name.now }
     ensures within { IfSome result (λ place. place < length nodes.now) }
 {
-    nodes.iter().position(|node| is_named(node, name))
-}
-
-pub fn is_named(node: &Node, name: &str) -> bool
-    ensures { result ≡ is_named name.now node.now }
-{
-    match &node.name {
-        Some(own) => own.as_str() == name,
-        None => false,
-    }
+    nodes.iter().position(|node| node.is_named(name))
 }
 
 fn set_number_at(nodes: &mut Vec<Node>, place: usize, number: Number, value: u32)

@@ -9,13 +9,12 @@ ghost use Rattle.fx_port.specs.Files.{Files};
 ghost use Rattle.fx_port.specs.Pieces.{GrewByPrefix, Writes};
 ghost use Rattle.fx_port.specs.declared.pieces.PutError.TheVariants.{Failed};
 ghost use Rattle.fx_play.specs.Ends.{ended_as};
-ghost use Rattle.fx_play.specs.Views.{fault_of, texts};
+ghost use Rattle.fx_load.specs.Views.{fault_of, texts};
 
-use crate::files::{FileFault, LoadError};
-use crate::loading::load;
 use crate::player::{Player, put_lines};
 use crate::words::read_words;
 use fx_base::{Ledgers, Work};
+use fx_load::{FileFault, LoadError, load};
 use fx_plain::{FaultKind, Status};
 use fx_port::{PutError, Shelf, Sink};
 use std::alloc::{AllocError, Global};

@@ -2,14 +2,9 @@
 ghost use Rattle.std.specs.Prelude.{◌≡◌};
 ghost use Rattle.std.specs.Option.{option_map};
 ghost use Rattle.fx_plain.specs.CommandLine.{accept, plan_of};
-ghost use Rattle.fx_play.specs.Views.{plan_of_run, texts};
+ghost use Rattle.fx_load.specs.Views.{plan_of_run, texts};
 
-/// A run over files, by their names.
-#[derive(Clone, Copy)]
-pub struct Run<'a> {
-    pub scene: &'a str,
-    pub script: &'a str,
-}
+use fx_load::Run;
 
 /// The run that the words ask for, if they ask for one.
 pub fn read_words(words: &[String]) -> Option<Run<'_>>

@@ -1,0 +1,4 @@
+pub mod Loads
+pub mod Parts
+pub mod Says
+pub mod Views

@@ -1,0 +1,61 @@
+//! Loading a run: the script first, and then the scene.
+ghost use Rattle.std.specs.Prelude.{◌≡◌, ◌≤◌, Err, IfOk, Some, length, vec_len};
+ghost use Rattle.fx_plain.specs.Loading.{elaborate, nodes_of_scene};
+ghost use Rattle.fx_port.specs.Causes.{HasCause};
+ghost use Rattle.fx_port.specs.Files.{Files};
+ghost use Rattle.fx_load.specs.Loads.{loaded_of};
+ghost use Rattle.fx_load.specs.Says.{LoadSays};
+ghost use Rattle.fx_load.specs.Views.{run_of};
+ghost use Rattle.fx_load.specs.declared.files.LoadError.TheVariants.{Failed};
+
+use crate::files::{FileFault, LoadError, Run, read_file};
+use crate::scene::scene_nodes;
+use crate::scripts::read_script;
+use fx_doc::{DocError, read_document};
+use fx_plain::{FaultKind, Line, Node};
+use fx_port::Shelf;
+use std::alloc::Global;
+
+/// A scene and a script that can be played.
+#[derive(Drop)]
+pub struct Loaded {
+    pub nodes: Vec<Node>,
+    pub lines: Vec<Line>,
+}
+
+/// The scene and the script of a run, or the first fault in the order of work.
+pub fn load<'a, F: Shelf>(
+    alloc: Global,
+    run: &Run<'a>,
+    shelf: &mut F,
+) -> Result<Loaded, LoadError<'a>>
+    ensures held { F.held shelf.new ≡ F.held shelf.old }
+    ensures cause { HasCause Failed (F.faults shelf.old) (F.faults shelf.new) result }
+    ensures says { (files : Files) → F.held shelf.old ≡ Some files → LoadSays loaded_of result (elaborate (run_of run.now) files) }
+    ensures few { IfOk result (λ loaded. vec_len loaded.lines ≤ 100000) }
+{
+    let script = read_file(alloc, shelf, run.script)?;
+    let lines = read_script(alloc, run.script, script.as_slice())?;
+    let scene = read_file(alloc, shelf, run.scene)?;
+    let nodes = read_scene(alloc, run.scene, scene.as_slice())?;
+    Ok(Loaded { nodes, lines })
+}
+
+/// The nodes of a scene file, or why it is refused.
+fn read_scene<'a>(alloc: Global, name: &'a str, bytes: &[u8]) -> Result<Vec<Node>, LoadError<'a>>
+    requires { length bytes.now ≤ 4194304 }
+    ensures says { LoadSays (λ nodes. nodes.items) result (nodes_of_scene name.now bytes.now) }
+    ensures fetches_nothing { ¬ (result ≡ Err LoadError.Failed) }
+{
+    let document = match read_document(alloc, bytes) {
+        Ok(document) => document,
+        Err(DocError::NotBuilt) => {
+            return Err(LoadError::Fault(FileFault::whole(FaultKind::NotBuilt, name)));
+        }
+        Err(DocError::Memory) => return Err(LoadError::Memory),
+    };
+    match scene_nodes(alloc, &document)? {
+        Some(nodes) => Ok(nodes),
+        None => Err(LoadError::Fault(FileFault::whole(FaultKind::NotBuilt, name))),
+    }
+}

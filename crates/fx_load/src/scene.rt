@@ -1,0 +1,346 @@
+//! The nodes of a scene: what a document of a pane with regions means.
+ghost use Rattle.std.specs.Prelude.{◌≡◌, ◌<◌, IfOk, IfSome, codes, is_some, map, not, true};
+ghost use Rattle.std.specs.List.{find, list_all, list_any};
+ghost use Rattle.std.specs.Option.{option_and_then, option_map, option_map_or};
+ghost use Rattle.fx_doc.specs.Outline.{Nothing};
+ghost use Rattle.fx_doc.specs.View.{attribute_of, branch_of, document_of, nodes_of, part_of};
+ghost use Rattle.fx_plain.specs.Scene.{all_differ, checked, color_of_digits, color_of_style, has_both_sizes, has_name, hex_pair, hex_value, is_good_id, is_good_place, is_good_size, is_good_style, is_pane, is_pane_attribute, is_region, is_region_attribute, names_of, node_of, number_at, pane_of, region_named, region_of, regions_of, scene_of, value_at};
+ghost use Rattle.fx_plain.specs.Script.{same_text, small_number};
+ghost use Rattle.fx_plain.specs.World.{is_named};
+ghost use Rattle.fx_load.specs.Parts.{RegionsPushed, branch_region, pane_of_branch, part_region};
+
+use fx_base::{Color, Text, is_identifier};
+use fx_doc::{Attribute, Content, Document, Element};
+use fx_plain::Node;
+use fx_script::small_number;
+use std::alloc::{AllocError, Global};
+
+/// The nodes in document order, the pane first, if the document is a pane with regions.
+#[tactic(auto, unfolding(fx_plain::specs::Scene::scene_of))]
+pub fn scene_nodes(alloc: Global, document: &Document) -> Result<Option<Vec<Node>>, AllocError>
+    ensures { IfOk result (λ nodes. option_map (λ v. v.items) nodes ≡ scene_of (document_of document.now)) }
+{
+    if !imports_layout(document.imports.as_slice()) {
+        return Ok(None);
+    }
+    pane_with_regions(alloc, &document.root)
+}
+
+fn imports_layout(imports: &[Text]) -> bool
+    ensures { result ≡ list_any (same_text (codes "javafx.scene.layout.*")) imports.now }
+{
+    imports
+        .iter()
+        .any(|import| "javafx.scene.layout.*" == import.as_str())
+}
+
+fn pane_with_regions(alloc: Global, root: &Element) -> Result<Option<Vec<Node>>, AllocError>
+    ensures { IfOk result (λ nodes. option_map (λ v. v.items) nodes ≡ pane_of_branch (branch_of root.now)) }
+{
+    if root.name.as_str() != "Pane" {
+        return Ok(None);
+    }
+    let Some(pane) = pane_of(alloc, root.attributes.as_slice())? else {
+        return Ok(None);
+    };
+    let mut nodes = Vec::new(alloc);
+    nodes.push(pane)?;
+    if !push_regions(alloc, root.content.as_slice(), &mut nodes)? {
+        return Ok(None);
+    }
+    Ok(checked(nodes))
+}
+
+/// Appends the regions that the content is. `false` if something else stands there.
+fn push_regions(
+    alloc: Global,
+    content: &[Content],
+    nodes: &mut Vec<Node>,
+) -> Result<bool, AllocError>
+    ensures { IfOk result (λ all. RegionsPushed all (regions_of (nodes_of content.now)) nodes.old.items nodes.new.items) }
+{
+    for part in content {
+        match region_of_part(alloc, part)? {
+            Some(region) => nodes.push(region)?,
+            None => return Ok(false),
+        }
+    }
+    Ok(true)
+}
+
+fn region_of_part(alloc: Global, part: &Content) -> Result<Option<Node>, AllocError>
+    ensures { IfOk result (λ region. region ≡ part_region (part_of part.now)) }
+{
+    match part {
+        Content::Child(element) => region_of_element(alloc, element),
+        Content::Chars(_, _, _) => Ok(None),
+    }
+}
+
+fn region_of_element(alloc: Global, element: &Element) -> Result<Option<Node>, AllocError>
+    ensures { IfOk result (λ region. region ≡ branch_region (branch_of element.now)) }
+{
+    if element.content.is_empty() {
+        region_named(alloc, element.name.as_str(), element.attributes.as_slice())
+    } else {
+        Ok(None)
+    }
+}
+
+fn region_named(
+    alloc: Global,
+    name: &str,
+    attributes: &[Attribute],
+) -> Result<Option<Node>, AllocError>
+    ensures { IfOk result (λ region. region ≡ region_named name.now (map attribute_of attributes.now) Nothing) }
+{
+    if name == "Region" {
+        region_of(alloc, attributes)
+    } else {
+        Ok(None)
+    }
+}
+
+fn region_of(alloc: Global, attributes: &[Attribute]) -> Result<Option<Node>, AllocError>
+    ensures { IfOk result (λ region. region ≡ region_of (map attribute_of attributes.now)) }
+{
+    if is_region(attributes) {
+        Ok(Some(node_of(alloc, attributes)?))
+    } else {
+        Ok(None)
+    }
+}
+
+fn pane_of(alloc: Global, attributes: &[Attribute]) -> Result<Option<Node>, AllocError>
+    ensures { IfOk result (λ pane. pane ≡ pane_of (map attribute_of attributes.now)) }
+{
+    if is_pane(attributes) {
+        Ok(Some(node_of(alloc, attributes)?))
+    } else {
+        Ok(None)
+    }
+}
+
+fn is_region(attributes: &[Attribute]) -> bool
+    ensures { result ≡ is_region (map attribute_of attributes.now) }
+{
+    is_region_attribute_each(attributes)
+}
+
+fn is_region_attribute_each(attributes: &[Attribute]) -> bool
+    ensures { result ≡ list_all (λ a. is_region_attribute (attribute_of a)) attributes.now }
+{
+    attributes.iter().all(|a| is_region_attribute(a))
+}
+
+fn is_pane(attributes: &[Attribute]) -> bool
+    ensures { result ≡ is_pane (map attribute_of attributes.now) }
+{
+    are_pane_attributes(attributes) && has_both_sizes(attributes)
+}
+
+fn has_both_sizes(attributes: &[Attribute]) -> bool
+    ensures { result ≡ has_both_sizes (map attribute_of attributes.now) }
+{
+    number_at(attributes, "prefWidth").is_some() && number_at(attributes, "prefHeight").is_some()
+}
+
+fn are_pane_attributes(attributes: &[Attribute]) -> bool
+    ensures { result ≡ list_all is_pane_attribute (map attribute_of attributes.now) }
+{
+    is_pane_attribute_each(attributes)
+}
+
+fn is_pane_attribute_each(attributes: &[Attribute]) -> bool
+    ensures { result ≡ list_all (λ a. is_pane_attribute (attribute_of a)) attributes.now }
+{
+    attributes.iter().all(|a| is_pane_attribute(a))
+}
+
+#[tactic(auto, unfolding(fx_plain::specs::Scene::node_of))]
+fn node_of(alloc: Global, attributes: &[Attribute]) -> Result<Node, AllocError>
+    ensures { IfOk result (λ node. node ≡ node_of (map attribute_of attributes.now)) }
+{
+    Ok(Node {
+        name: text_at(alloc, attributes, "fx:id")?,
+        layout_x: number_at(attributes, "layoutX").unwrap_or(0),
+        layout_y: number_at(attributes, "layoutY").unwrap_or(0),
+        pref_width: number_at(attributes, "prefWidth"),
+        pref_height: number_at(attributes, "prefHeight"),
+        fill: color_at(attributes, "style"),
+    })
+}
+
+/// The attribute of this name.
+fn attribute_at<'a>(attributes: &'a [Attribute], name: &str) -> Option<&'a Attribute>
+    ensures { option_map (λ a. attribute_of a.now) result ≡ find (has_name name.now) (map attribute_of attributes.now) }
+{
+    first_named(attributes, name)
+}
+
+fn first_named<'a>(attributes: &'a [Attribute], name: &str) -> Option<&'a Attribute>
+    ensures { option_map (λ a. a.now) result ≡ find (λ a. has_name name.now (attribute_of a)) attributes.now }
+{
+    attributes.iter().find(|a| has_name(a, name))
+}
+
+fn text_at(alloc: Global, attributes: &[Attribute], name: &str) -> Result<Option<Text>, AllocError>
+    ensures { IfOk result (λ text. text ≡ value_at (map attribute_of attributes.now) name.now) }
+{
+    match attribute_at(attributes, name) {
+        Some(attribute) => Ok(Some(attribute.value.copy(alloc)?)),
+        None => Ok(None),
+    }
+}
+
+fn number_at(attributes: &[Attribute], name: &str) -> Option<u32>
+    ensures { result ≡ number_at (map attribute_of attributes.now) name.now }
+{
+    match attribute_at(attributes, name) {
+        Some(attribute) => small_number(attribute.value.as_str().as_bytes()),
+        None => None,
+    }
+}
+
+fn color_at(attributes: &[Attribute], name: &str) -> Option<Color>
+    ensures { result ≡ option_and_then color_of_style (value_at (map attribute_of attributes.now) name.now) }
+{
+    match attribute_at(attributes, name) {
+        Some(attribute) => color_of_style(attribute.value.as_str().as_bytes()),
+        None => None,
+    }
+}
+
+#[tactic(auto, unfolding(fx_plain::specs::Scene::is_region_attribute))]
+fn is_region_attribute(a: &Attribute) -> bool
+    ensures { result ≡ is_region_attribute (attribute_of a.now) }
+{
+    (is_good_id(a) || is_good_size(a)) || (is_good_place(a) || is_good_style(a))
+}
+
+#[tactic(auto, unfolding(fx_plain::specs::Scene::is_pane_attribute))]
+fn is_pane_attribute(a: &Attribute) -> bool
+    ensures { result ≡ is_pane_attribute (attribute_of a.now) }
+{
+    is_good_id(a) || is_good_size(a)
+}
+
+fn has_name(a: &Attribute, name: &str) -> bool
+    ensures { result ≡ has_name name.now (attribute_of a.now) }
+{
+    a.name.as_str() == name
+}
+
+fn is_small_number(a: &Attribute) -> bool
+    ensures { result ≡ is_some (small_number a.now.value) }
+{
+    small_number(a.value.as_str().as_bytes()).is_some()
+}
+
+fn is_good_id(a: &Attribute) -> bool
+    ensures { result ≡ is_good_id (attribute_of a.now) }
+{
+    has_name(a, "fx:id") && is_identifier(a.value.as_str())
+}
+
+fn is_good_size(a: &Attribute) -> bool
+    ensures { result ≡ is_good_size (attribute_of a.now) }
+{
+    (has_name(a, "prefWidth") || has_name(a, "prefHeight")) && is_small_number(a)
+}
+
+fn is_good_place(a: &Attribute) -> bool
+    ensures { result ≡ is_good_place (attribute_of a.now) }
+{
+    (has_name(a, "layoutX") || has_name(a, "layoutY")) && is_small_number(a)
+}
+
+fn is_good_style(a: &Attribute) -> bool
+    ensures { result ≡ is_good_style (attribute_of a.now) }
+{
+    has_name(a, "style") && color_of_style(a.value.as_str().as_bytes()).is_some()
+}
+
+/// `-fx-background-color:#rrggbb`.
+#[tactic(auto, unfolding(fx_plain::specs::Scene::color_of_style))]
+fn color_of_style(style: &[u8]) -> Option<Color>
+    ensures { result ≡ color_of_style style.now }
+{
+    if style.starts_with(b"-fx-background-color:#") {
+        color_of_digits(style.split_at(22).1)
+    } else {
+        None
+    }
+}
+
+#[tactic(auto, unfolding(fx_plain::specs::Scene::color_of_digits))]
+fn color_of_digits(digits: &[u8]) -> Option<Color>
+    ensures { result ≡ color_of_digits digits.now }
+{
+    match digits {
+        [a, b, c, d, e, f] => Some(Color {
+            r: hex_pair(*a, *b)?,
+            g: hex_pair(*c, *d)?,
+            b: hex_pair(*e, *f)?,
+            a: 255,
+        }),
+        _ => None,
+    }
+}
+
+fn hex_pair(high: u8, low: u8) -> Option<u8>
+    ensures { result ≡ hex_pair high low }
+{
+    Some(hex_value(high)? * 16 + hex_value(low)?)
+}
+
+#[tactic(auto, unfolding(fx_plain::specs::Scene::hex_value))]
+fn hex_value(digit: u8) -> Option<u8>
+    ensures value { result ≡ hex_value digit }
+    ensures small { IfSome result (λ value. value < 16) }
+{
+    match digit {
+        b'0'..=b'9' => Some(digit - b'0'),
+        b'a'..=b'f' => Some(digit - b'a' + 10),
+        b'A'..=b'F' => Some(digit - b'A' + 10),
+        _ => None,
+    }
+}
+
+/// At most 4,000 regions beside the pane, and no two nodes of one name. Compares each name with those behind it.
+fn checked(nodes: Vec<Node>) -> Option<Vec<Node>>
+    ensures { option_map (λ v. v.items) result ≡ checked nodes.items }
+{
+    if nodes.len() <= 4001 && all_differ(nodes.as_slice()) {
+        Some(nodes)
+    } else {
+        None
+    }
+}
+
+fn all_differ(nodes: &[Node]) -> bool
+    ensures { result ≡ all_differ (names_of nodes.now) }
+{
+    for i in 0..nodes.len() {
+        if !differs(&nodes[i], nodes.split_at(i + 1).1) {
+            return false;
+        }
+    }
+    true
+}
+
+/// Has no other of these nodes the node's name?
+fn differs(node: &Node, others: &[Node]) -> bool
+    ensures { result ≡ option_map_or (λ name. not (list_any (is_named name) others.now)) node.now.name true }
+{
+    match &node.name {
+        Some(name) => !is_taken(others, name.as_str()),
+        None => true,
+    }
+}
+
+fn is_taken(nodes: &[Node], name: &str) -> bool
+    ensures { result ≡ list_any (is_named name.now) nodes.now }
+{
+    nodes.iter().any(|node| node.is_named(name))
+}

@@ -3,9 +3,11 @@
 #![tactic(auto)]
 
 mod answers;
+mod laws;
 mod lines;
 mod nodes;
 
 pub use answers::{FaultKind, Refusal, Status};
+pub use laws::refused_lines_change_nothing;
 pub use lines::{Line, Target};
 pub use nodes::{Node, Number, Size};

@@ -121,7 +121,7 @@ white_low c e = elim (or_parts ((c == 32) || (c == 9)) ((c == 10) || (c == 13)) 
 white_stops : (c : ℕ) → is_white c ≡ true → goes_on c ≡ false
 white_stops c e = elim (white_low c e) [ inl t ↦ rw t refl | inr t ↦ elim t [ inl u ↦ rw u refl | inr u ↦ elim u [ inl v ↦ rw v refl | inr v ↦ rw v refl ] ] ]
 
-digit_no_white : (c : ℕ) → is_ascii_digit c ≡ true → is_white c ≡ false
+pub digit_no_white : (c : ℕ) → is_ascii_digit c ≡ true → is_white c ≡ false
 digit_no_white c d = elim (tells (is_white c)) [
     inl w ↦ let g = white_stops c w in let h : (is_ascii_digit c || (c == 46)) ≡ true = rw d refl in absurd (cc)
   | inr w ↦ w ]
@@ -264,7 +264,7 @@ rgba_complete text c i =
 
 -- names
 
-letters_decide : (a b : List ℕ) → (same_letters a b ≡ true → str_to_ascii_lowercase a ≡ str_to_ascii_lowercase b) × (str_to_ascii_lowercase a ≡ str_to_ascii_lowercase b → same_letters a b ≡ true)
+pub letters_decide : (a b : List ℕ) → (same_letters a b ≡ true → str_to_ascii_lowercase a ≡ str_to_ascii_lowercase b) × (str_to_ascii_lowercase a ≡ str_to_ascii_lowercase b → same_letters a b ≡ true)
 letters_decide a b = bytes_eq-Decides (str_to_ascii_lowercase a) (str_to_ascii_lowercase b)
 
 pub record Finds (table : List (List ℕ × ℕ)) (name : List ℕ) (e : List ℕ × ℕ) : Type 0 where

@@ -76,3 +76,14 @@ front_some test xs some e = some (sym (length-prefix_len test xs) ∙ ap length 
 -- a text whose characters all pass one test and fail another, at whose end the other may stop
 pub stops_by : (test : ℕ → Bool) (x : ℕ) (xs : List ℕ) → test x ≡ false → stops test (x ∷ xs) ≡ true
 stops_by test x xs e = rw e refl
+
+stops_after : (test : ℕ → Bool) (x : ℕ) (xs : List ℕ) (b : Bool) → test x ≡ b → stops test (behind test xs) ≡ true → stops test (drop (cond b (1 + prefix_len test xs) 0) (x ∷ xs)) ≡ true
+stops_after test x xs true e ih =
+    let one : 1 + prefix_len test xs ≡ suc (prefix_len test xs) = omega arith in
+    rw one ih
+stops_after test x xs false e ih = rw e refl
+
+-- what is behind the longest front begins with no character that passes
+pub behind_stops : (test : ℕ → Bool) (xs : List ℕ) → stops test (behind test xs) ≡ true
+behind_stops test [] = refl
+behind_stops test (x ∷ xs) = stops_after test x xs (test x) refl (behind_stops test xs)

@@ -1,6 +1,11 @@
 pub mod ColorNames
 pub mod Colors
 pub mod Decimals
+pub mod Insets
+pub mod Looks
 pub mod Numbers
+pub mod Readings
 pub mod Rounding
+pub mod StyleRows
+pub mod Styles
 pub mod Written

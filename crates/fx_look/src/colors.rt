@@ -31,7 +31,7 @@ pub fn one_color()
 {
 }
 
-fn color_at(s: &str) -> Option<Color>
+pub fn color_at(s: &str) -> Option<Color>
     ensures { result ≡ color_at s.now }
 {
     let text = s.as_bytes();

@@ -5,7 +5,17 @@
 mod color_names;
 mod colors;
 mod decimals;
+mod insets;
+mod looks;
 mod numbers;
+mod pixels;
+mod readings;
+mod styles;
 
 pub use colors::{one_color, read_color};
+pub use insets::{one_sides, read_sides};
+pub use looks::Look;
 pub use numbers::{one_number, one_size, read_number, read_size};
+pub use pixels::blend;
+pub use readings::{one_value, read_value};
+pub use styles::{CodeValue, STYLES, Style, StyleForm, StyleName, style_named, style_table};

@@ -1,0 +1,247 @@
+//! The style declarations: their names, the forms of their values, and the properties that they style.
+//! Style sheets, the class table and looks are read by this table.
+ghost use Rattle.std.specs.Prelude.{◌≡◌, IfOk, map, length};
+ghost use Rattle.std.specs.List.{position};
+ghost use Rattle.std.specs.Str.{bytes_eq};
+ghost use Rattle.std.specs.Option.{option_map};
+ghost use Rattle.fx_look.specs.Styles.{styles, kind_of_form};
+ghost use Rattle.fx_look.specs.StyleRows.{style_row, style_at, style_named};
+
+use fx_base::{Duplicate, Family, Kind, Value};
+use std::alloc::{AllocError, Global};
+
+/// A declaration by its place in `STYLES`.
+#[derive(Clone, Copy, PartialEq, Eq, Debug)]
+pub struct StyleName(pub u32);
+
+/// What the value of a declaration is written as. Each takes `inherit` too.
+#[derive(Clone, Copy, PartialEq, Eq, Debug)]
+pub enum StyleForm {
+    /// One size, or four in the order top, right, bottom, left.
+    Sides,
+    /// A constant of `Pos` in lower case, with `-` between its words.
+    Position,
+    /// A size in pixels.
+    Size,
+    /// `true` or `false`.
+    Truth,
+    /// `visible`, `hidden`, or `collapse`, which is as `hidden`.
+    Visibility,
+    /// A colour, or a name that is looked up.
+    Paint,
+    /// Paints separated by commas, one a layer.
+    Paints,
+    /// Sides separated by commas, one a layer.
+    SidesList,
+}
+
+/// A style declaration (JavaFX CSS Reference Guide).
+#[derive(Clone, Copy, Debug)]
+pub struct Style {
+    pub name: &'static str,
+    pub form: StyleForm,
+    /// The property that a winning value of the declaration sets, or none where only the look has it.
+    pub property: Option<&'static str>,
+}
+
+/// The style declarations in their order.
+pub static STYLES: [Style; 22] = [
+    Style {
+        name: "-fx-padding",
+        form: StyleForm::Sides,
+        property: Some("padding"),
+    },
+    Style {
+        name: "-fx-alignment",
+        form: StyleForm::Position,
+        property: Some("alignment"),
+    },
+    Style {
+        name: "-fx-spacing",
+        form: StyleForm::Size,
+        property: Some("spacing"),
+    },
+    Style {
+        name: "-fx-hgap",
+        form: StyleForm::Size,
+        property: Some("hgap"),
+    },
+    Style {
+        name: "-fx-vgap",
+        form: StyleForm::Size,
+        property: Some("vgap"),
+    },
+    Style {
+        name: "-fx-fill-width",
+        form: StyleForm::Truth,
+        property: Some("fillWidth"),
+    },
+    Style {
+        name: "-fx-fill-height",
+        form: StyleForm::Truth,
+        property: Some("fillHeight"),
+    },
+    Style {
+        name: "-fx-min-width",
+        form: StyleForm::Size,
+        property: Some("minWidth"),
+    },
+    Style {
+        name: "-fx-min-height",
+        form: StyleForm::Size,
+        property: Some("minHeight"),
+    },
+    Style {
+        name: "-fx-pref-width",
+        form: StyleForm::Size,
+        property: Some("prefWidth"),
+    },
+    Style {
+        name: "-fx-pref-height",
+        form: StyleForm::Size,
+        property: Some("prefHeight"),
+    },
+    Style {
+        name: "-fx-max-width",
+        form: StyleForm::Size,
+        property: Some("maxWidth"),
+    },
+    Style {
+        name: "-fx-max-height",
+        form: StyleForm::Size,
+        property: Some("maxHeight"),
+    },
+    Style {
+        name: "-fx-background-color",
+        form: StyleForm::Paints,
+        property: None,
+    },
+    Style {
+        name: "-fx-background-insets",
+        form: StyleForm::SidesList,
+        property: None,
+    },
+    Style {
+        name: "-fx-border-color",
+        form: StyleForm::Paints,
+        property: None,
+    },
+    Style {
+        name: "-fx-border-width",
+        form: StyleForm::SidesList,
+        property: None,
+    },
+    Style {
+        name: "-fx-border-insets",
+        form: StyleForm::SidesList,
+        property: None,
+    },
+    Style {
+        name: "-fx-text-fill",
+        form: StyleForm::Paint,
+        property: Some("textFill"),
+    },
+    Style {
+        name: "-fx-font-size",
+        form: StyleForm::Size,
+        property: Some("fontSize"),
+    },
+    Style {
+        name: "-fx-wrap-text",
+        form: StyleForm::Truth,
+        property: Some("wrapText"),
+    },
+    Style {
+        name: "visibility",
+        form: StyleForm::Visibility,
+        property: Some("visible"),
+    },
+];
+
+/// The style declarations in their order, as a slice.
+pub fn style_table() -> &'static [Style]
+    ensures { map style_row result.now ≡ styles }
+{
+    &STYLES
+}
+
+/// The declaration of this name.
+pub fn style_named(name: &str) -> Option<StyleName>
+    ensures { result ≡ option_map (λ place. record { 0 = place }) (style_named name.now) }
+{
+    let place = place_of(name)?;
+    Some(StyleName(place))
+}
+
+fn place_of(name: &str) -> Option<u32>
+    ensures { result ≡ style_named name.now }
+{
+    let place = find_style(style_table(), name)?;
+    Some(place as u32)
+}
+
+fn find_style(table: &[Style], name: &str) -> Option<usize>
+    ensures { result ≡ position (λ row. bytes_eq row.name name.now) (map style_row table.now) }
+{
+    find_row(table, name)
+}
+
+fn find_row(table: &[Style], name: &str) -> Option<usize>
+    ensures { result ≡ position (λ row. bytes_eq row.name.now name.now) table.now }
+{
+    table.iter().position(|row| row.name == name)
+}
+
+impl StyleName {
+    /// The declaration, if the place is one of the table's.
+    pub fn style(self) -> Option<&'static Style>
+        ensures { option_map (λ row. style_row row.now) result ≡ style_at self.0 }
+    {
+        style_table().get(self.0 as usize)
+    }
+}
+
+impl StyleForm {
+    /// The kind of the values that a declaration of this form gives to its property. Layers are no property's.
+    pub fn kind(self) -> Option<Kind>
+        ensures { result ≡ kind_of_form self }
+    {
+        match self {
+            StyleForm::Sides => Some(Kind::Sides),
+            StyleForm::Position => Some(Kind::Choice(Family::Pos)),
+            StyleForm::Size => Some(Kind::Int),
+            StyleForm::Truth => Some(Kind::Bool),
+            StyleForm::Visibility => Some(Kind::Bool),
+            StyleForm::Paint => Some(Kind::Color),
+            StyleForm::Paints => None,
+            StyleForm::SidesList => None,
+        }
+    }
+}
+
+/// A value that the scene gives a styled property, and whether a binding computes it.
+#[derive(Drop)]
+pub struct CodeValue {
+    pub style: StyleName,
+    pub value: Value,
+    pub bound: bool,
+}
+
+impl CodeValue {
+    /// A value of the same contents.
+    pub fn copy(&self, alloc: Global) -> Result<CodeValue, AllocError>
+        ensures { IfOk result (λ copy. copy ≡ self.now) }
+    {
+        Ok(CodeValue {
+            style: self.style,
+            value: self.value.copy(alloc)?,
+            bound: self.bound,
+        })
+    }
+}
+
+impl Duplicate for CodeValue {
+    fn duplicate(&self, alloc: Global) -> Result<Self, AllocError> {
+        self.copy(alloc)
+    }
+}

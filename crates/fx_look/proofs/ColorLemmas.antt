@@ -1,9 +1,9 @@
 -- The reading of colours meets their grammar: it finds one exactly where a text spells it.
-use Rattle.std.proofs.Common.{◌≡◌, ◌≢◌, ℕ, zero, suc, ◌+◌, ◌-◌, ◌*◌, ◌/◌, ◌^◌, ◌<◌, ◌≤◌, ◌⊎◌, inl, inr, Bool, true, false, cond, not, ◌||◌, ◌&&◌, ◌==◌, nat_le, nat_lt, if◌then◌else◌, min, List, [], ◌∷◌, ◌++◌, length, take, drop, map, slice_index_or, codes, Option, Some, None, refl, sym, ap, ◌∙◌, subst, arith, append_assoc, append-nil}
+use Rattle.std.proofs.Common.{◌≡◌, ◌≢◌, ℕ, zero, suc, ◌+◌, ◌-◌, ◌*◌, ◌/◌, ◌^◌, ◌<◌, ◌≤◌, ◌⊎◌, inl, inr, Bool, true, false, not, ◌||◌, ◌&&◌, ◌==◌, nat_lt, if◌then◌else◌, min, List, [], ◌∷◌, ◌++◌, length, map, slice_index_or, codes, Option, Some, None, refl, sym, ap, ◌∙◌, subst, arith, append_assoc}
 use Rattle.std.specs.Prelude.{IfSome, IfNone, MatchOption, is_none}
 use Rattle.std.specs.Borrow.{Bor}
-use Rattle.std.specs.List.{list_all, find, Contains, prefix_len}
-use Rattle.std.specs.Option.{option_and_then, option_map, option_map_or}
+use Rattle.std.specs.List.{list_all, find}
+use Rattle.std.specs.Option.{option_and_then, option_map}
 use Rattle.std.specs.Str.{bytes_eq, str_to_ascii_lowercase}
 use Rattle.std.specs.Char.{is_ascii_digit, to_ascii_lowercase}
 use Rattle.std.proofs.lemmas.Slice.Eq.{bytes_eq-Decides}
@@ -12,13 +12,13 @@ use Rattle.std.proofs.lemmas.Bool.Decides.{eqb_tells, leb_tells, nat_tests}
 use Rattle.std.proofs.lemmas.List.{map-append, length-append}
 use Rattle.std.proofs.lemmas.List.Sums.{AllPass-from_list_all}
 use Rattle.fx_base.specs.declared.color.Color.{Color}
-use Rattle.fx_look.specs.Decimals.{Decimal, IsSign, IsDigits, IsDecimal, decimal_at, number_of_digits, front, behind}
+use Rattle.fx_look.specs.Decimals.{Decimal, IsSign, IsDecimal, decimal_at, number_of_digits, front, behind}
 use Rattle.fx_look.specs.ColorNames.{names}
-use Rattle.fx_look.specs.Colors.{color, solid, same_letters, IsNamed, hex_value, IsHexDigit, IsHex, short, long, shared, is_white, IsArgument, IsChannel, IsOpacity, IsRgb, IsRgba, IsTransparent, IsColor, hexadecimal, rgb, rgba, transparent, named, entry_at, strip, pair_value, twice_value, three, hex_at, before_mark, argument_at, channel_value, opacity_value, channel_at, opacity_at, ended, rgb_at, rgba_at, word_at, color_at}
+use Rattle.fx_look.specs.Colors.{color, solid, same_letters, IsNamed, hex_value, IsHexDigit, IsHex, short, long, shared, is_white, IsArgument, IsChannel, IsOpacity, IsRgb, IsRgba, IsColor, hexadecimal, rgb, rgba, transparent, named, entry_at, strip, pair_value, twice_value, three, hex_at, before_mark, argument_at, channel_value, opacity_value, channel_at, opacity_at, ended, rgb_at, rgba_at, word_at, color_at}
 use Rattle.fx_look.specs.Rounding.{digits_of, leading}
 use Rattle.fx_look.proofs.RoundingLemmas.{quotient, ten_power, leading_front, leading_all}
 use Rattle.std.proofs.Math.Nat.{pow-le-pow_right}
-use Rattle.fx_look.proofs.FrontLemmas.{tells, bytes_tell, or_parts, else_gives, map_gives, bind_gives, stops, front-stop, behind-stop, front-passes, front_and_behind}
+use Rattle.fx_look.proofs.FrontLemmas.{tells, bytes_tell, or_parts, else_gives, map_gives, bind_gives, stops, behind-stop, front-passes, front_and_behind}
 use Rattle.fx_look.proofs.DecimalLemmas.{goes_on, decimal_sound, decimal_complete, begins, begins_digits}
 
 -- hexadecimal colours
@@ -49,15 +49,15 @@ hex_sound (x ∷ y ∷ z ∷ []) c e =
     let g = map_gives (λ value. 17 * value) (hex_value y) t.1 t.4 in
     let b = map_gives (λ value. 17 * value) (hex_value z) t.2 t.5 in
     subst (IsHex (35 ∷ x ∷ y ∷ z ∷ [])) (color_same (17 * r.0) (17 * g.0) (17 * b.0) 255 t.0 t.1 t.2 255 r.2 g.2 b.2 refl ∙ t.6)
-      (short x y z r.0 g.0 b.0 r.1 g.1 b.1)
+    (short x y z r.0 g.0 b.0 r.1 g.1 b.1)
 hex_sound (x0 ∷ x1 ∷ y0 ∷ y1 ∷ z0 ∷ z1 ∷ []) c e =
     let t = three_sound (pair_value x0 x1) (pair_value y0 y1) (pair_value z0 z1) 255 c e in
     let r = pair_sound x0 x1 t.0 t.3 in
     let g = pair_sound y0 y1 t.1 t.4 in
     let b = pair_sound z0 z1 t.2 t.5 in
     subst (IsHex (35 ∷ x0 ∷ x1 ∷ y0 ∷ y1 ∷ z0 ∷ z1 ∷ []))
-      (color_same (16 * r.0 + r.1) (16 * g.0 + g.1) (16 * b.0 + b.1) 255 t.0 t.1 t.2 255 r.4 g.4 b.4 refl ∙ t.6)
-      (long x0 x1 y0 y1 z0 z1 r.0 r.1 g.0 g.1 b.0 b.1 r.2 r.3 g.2 g.3 b.2 b.3)
+    (color_same (16 * r.0 + r.1) (16 * g.0 + g.1) (16 * b.0 + b.1) 255 t.0 t.1 t.2 255 r.4 g.4 b.4 refl ∙ t.6)
+    (long x0 x1 y0 y1 z0 z1 r.0 r.1 g.0 g.1 b.0 b.1 r.2 r.3 g.2 g.3 b.2 b.3)
 hex_sound (x0 ∷ x1 ∷ y0 ∷ y1 ∷ z0 ∷ z1 ∷ w0 ∷ w1 ∷ []) c e =
     let w = bind_gives (three (pair_value x0 x1) (pair_value y0 y1) (pair_value z0 z1)) (pair_value w0 w1) c e in
     let a = pair_sound w0 w1 w.0 w.1 in
@@ -66,8 +66,8 @@ hex_sound (x0 ∷ x1 ∷ y0 ∷ y1 ∷ z0 ∷ z1 ∷ w0 ∷ w1 ∷ []) c e =
     let g = pair_sound y0 y1 t.1 t.4 in
     let b = pair_sound z0 z1 t.2 t.5 in
     subst (IsHex (35 ∷ x0 ∷ x1 ∷ y0 ∷ y1 ∷ z0 ∷ z1 ∷ w0 ∷ w1 ∷ []))
-      (color_same (16 * r.0 + r.1) (16 * g.0 + g.1) (16 * b.0 + b.1) (16 * a.0 + a.1) t.0 t.1 t.2 w.0 r.4 g.4 b.4 a.4 ∙ t.6)
-      (shared x0 x1 y0 y1 z0 z1 w0 w1 r.0 r.1 g.0 g.1 b.0 b.1 a.0 a.1 r.2 r.3 g.2 g.3 b.2 b.3 a.2 a.3)
+    (color_same (16 * r.0 + r.1) (16 * g.0 + g.1) (16 * b.0 + b.1) (16 * a.0 + a.1) t.0 t.1 t.2 w.0 r.4 g.4 b.4 a.4 ∙ t.6)
+    (shared x0 x1 y0 y1 z0 z1 w0 w1 r.0 r.1 g.0 g.1 b.0 b.1 a.0 a.1 r.2 r.3 g.2 g.3 b.2 b.3 a.2 a.3)
 hex_sound [] c e = absurd (cc)
 hex_sound (x ∷ []) c e = absurd (cc)
 hex_sound (x ∷ y ∷ []) c e = absurd (cc)
@@ -87,10 +87,11 @@ hex_complete text c (shared x0 x1 y0 y1 z0 z1 w0 w1 r0 r1 g0 g1 b0 b1 a0 a1 p0 p
 mark_sound : (mark : ℕ) (d : Decimal) (text : List ℕ) (p : Decimal × List ℕ) → before_mark mark d text ≡ Some p → (text ≡ mark ∷ p.1) × (d ≡ p.0)
 mark_sound mark d [] p e = absurd (cc)
 mark_sound mark d (c ∷ cs) p e = elim (eqb_tells c mark) [
-    inl t ↦ let f = rw t.0 at e in
+  | inl t ↦ let f = rw t.0 at e in
       let same : (d, cs) ≡ p = cc in
       (ap (λ v. v ∷ cs) t.1 ∙ ap (λ (q : Decimal × List ℕ). mark ∷ q.1) same, ap (λ (q : Decimal × List ℕ). q.0) same)
-  | inr t ↦ let f = rw t.0 at e in absurd (cc) ]
+  | inr t ↦ let f = rw t.0 at e in absurd (cc)
+]
 
 record ReadsArgument (mark : ℕ) (text : List ℕ) (p : Decimal × List ℕ) : Type 0 where
   argument : List ℕ
@@ -109,22 +110,32 @@ argument_sound mark text p e =
     let start : text ≡ front is_white text ++ (d.digits ++ q.0.1) = front_and_behind is_white text ∙ ap (λ v. front is_white text ++ v) d.parts in
     record {
       argument = front is_white text ++ (d.digits ++ front is_white q.0.1);
-      is_argument = record { before = front is_white text; digits = d.digits; after = front is_white q.0.1; parts = refl; is_decimal = subst (IsDecimal d.digits) m.1 d.is_decimal;
-        white_before = front-passes is_white text; white_after = front-passes is_white q.0.1 };
-      parts = start ∙ ap (λ v. front is_white text ++ (d.digits ++ v)) rest ∙ assemble (front is_white text) d.digits (front is_white q.0.1) (mark ∷ p.1) }
+      is_argument = record {
+        before = front is_white text;
+        digits = d.digits;
+        after = front is_white q.0.1;
+        parts = refl;
+        is_decimal = subst (IsDecimal d.digits) m.1 d.is_decimal;
+        white_before = front-passes is_white text;
+        white_after = front-passes is_white q.0.1;
+      };
+      parts = start ∙ ap (λ v. front is_white text ++ (d.digits ++ v)) rest ∙ assemble (front is_white text) d.digits (front is_white q.0.1) (mark ∷ p.1);
+    }
 
 white_low : (c : ℕ) → is_white c ≡ true → (c ≡ 32) ⊎ ((c ≡ 9) ⊎ ((c ≡ 10) ⊎ (c ≡ 13)))
 white_low c e = elim (or_parts ((c == 32) || (c == 9)) ((c == 10) || (c == 13)) e) [
-    inl t ↦ elim (or_parts (c == 32) (c == 9) t) [ inl u ↦ inl (grind (arith, nat_tests)) | inr u ↦ inr (inl (grind (arith, nat_tests))) ]
-  | inr t ↦ elim (or_parts (c == 10) (c == 13) t) [ inl u ↦ inr (inr (inl (grind (arith, nat_tests)))) | inr u ↦ inr (inr (inr (grind (arith, nat_tests)))) ] ]
+  | inl t ↦ elim (or_parts (c == 32) (c == 9) t) [ inl u ↦ inl (grind (arith, nat_tests)) | inr u ↦ inr (inl (grind (arith, nat_tests))) ]
+  | inr t ↦ elim (or_parts (c == 10) (c == 13) t) [ inl u ↦ inr (inr (inl (grind (arith, nat_tests)))) | inr u ↦ inr (inr (inr (grind (arith, nat_tests)))) ]
+]
 
 white_stops : (c : ℕ) → is_white c ≡ true → goes_on c ≡ false
 white_stops c e = elim (white_low c e) [ inl t ↦ rw t refl | inr t ↦ elim t [ inl u ↦ rw u refl | inr u ↦ elim u [ inl v ↦ rw v refl | inr v ↦ rw v refl ] ] ]
 
 pub digit_no_white : (c : ℕ) → is_ascii_digit c ≡ true → is_white c ≡ false
 digit_no_white c d = elim (tells (is_white c)) [
-    inl w ↦ let g = white_stops c w in let h : (is_ascii_digit c || (c == 46)) ≡ true = rw d refl in absurd (cc)
-  | inr w ↦ w ]
+  | inl w ↦ let g = white_stops c w in let h : (is_ascii_digit c || (c == 46)) ≡ true = rw d refl in absurd (cc)
+  | inr w ↦ w
+]
 
 -- a decimal begins with no white
 pub decimal_no_white : (text rest : List ℕ) (d : Decimal) → IsDecimal text d → stops is_white (text ++ rest) ≡ true
@@ -135,6 +146,7 @@ decimal_no_white text rest d i =
     by_digit : (xs : List ℕ) → begins xs ≡ true → stops is_white xs ≡ true
     by_digit [] b = absurd (cc)
     by_digit (c ∷ cs) b = rw (digit_no_white c b) refl
+
     by_sign : (sign : List ℕ) (negative : Bool) → IsSign sign negative → (xs : List ℕ) → begins xs ≡ true → stops is_white (sign ++ xs) ≡ true
     by_sign sign negative (inl (n, inl e)) xs b = rw e (by_digit xs b)
     by_sign sign negative (inl (n, inr e)) xs b = rw e refl
@@ -148,7 +160,7 @@ argument_complete : (mark : ℕ) (text rest : List ℕ) (d : Decimal) → IsArgu
 argument_complete mark text rest d i white on =
     let whole : text ++ (mark ∷ rest) ≡ i.before ++ (i.digits ++ (i.after ++ (mark ∷ rest))) = ap (λ v. v ++ (mark ∷ rest)) i.parts ∙ sym (assemble i.before i.digits i.after (mark ∷ rest)) in
     let first : behind is_white (i.before ++ (i.digits ++ (i.after ++ (mark ∷ rest)))) ≡ i.digits ++ (i.after ++ (mark ∷ rest)) =
-      behind-stop is_white i.before (i.digits ++ (i.after ++ (mark ∷ rest))) i.white_before (decimal_no_white i.digits (i.after ++ (mark ∷ rest)) d i.is_decimal) in
+    behind-stop is_white i.before (i.digits ++ (i.after ++ (mark ∷ rest))) i.white_before (decimal_no_white i.digits (i.after ++ (mark ∷ rest)) d i.is_decimal) in
     let stop_on : stops goes_on (mark ∷ rest) ≡ true = rw on refl in
     let stop_white : stops is_white (mark ∷ rest) ≡ true = rw white refl in
     let decimal = decimal_complete i.digits (i.after ++ (mark ∷ rest)) d i.is_decimal (white_front_stops i.after (mark ∷ rest) i.white_after stop_on) in
@@ -169,8 +181,9 @@ channel_value_sound d n e =
 
 opacity_value_sound : (d : Decimal) (n : ℕ) → opacity_value d ≡ Some n → (length d.fraction ≤ 9) × (opacity_value d ≡ Some n)
 opacity_value_sound d n e = elim (leb_tells (suc 9) (length d.fraction)) [
-    inl t ↦ absurd (let f = rw t.0 at e in cc)
-  | inr t ↦ (omega arith, e) ]
+  | inl t ↦ absurd (let f = rw t.0 at e in cc)
+  | inr t ↦ (omega arith, e)
+]
 
 record ReadsChannel (mark : ℕ) (text : List ℕ) (p : ℕ × List ℕ) : Type 0 where
   argument : List ℕ
@@ -227,9 +240,15 @@ rgb_sound text c e =
     let y = channel_sound 44 r.0.1 g.0 g.1 in
     let z = channel_sound 41 g.0.1 b.0 b.1 in
     subst (IsRgb (codes "rgb(" ++ text)) end.1 (record {
-      red = x.argument; green = y.argument; blue = z.argument;
+      red = x.argument;
+      green = y.argument;
+      blue = z.argument;
       parts = ap (λ v. codes "rgb(" ++ v) (x.parts ∙ ap (λ v. x.argument ++ (44 ∷ v)) (y.parts ∙ ap (λ v. y.argument ++ (44 ∷ v)) (z.parts ∙ ap (λ v. z.argument ++ (41 ∷ v)) end.0)));
-      is_red = x.is_channel; is_green = y.is_channel; is_blue = z.is_channel; opaque = refl })
+      is_red = x.is_channel;
+      is_green = y.is_channel;
+      is_blue = z.is_channel;
+      opaque = refl;
+    })
 
 rgb_complete : (text : List ℕ) (c : Color) → IsRgb text c → color_at text ≡ Some c
 rgb_complete text c i =
@@ -250,9 +269,16 @@ rgba_sound text c e =
     let z = channel_sound 44 g.0.1 b.0 b.1 in
     let w = opacity_sound 41 b.0.1 a.0 a.1 in
     subst (IsRgba (codes "rgba(" ++ text)) end.1 (record {
-      red = x.argument; green = y.argument; blue = z.argument; opacity = w.argument;
+      red = x.argument;
+      green = y.argument;
+      blue = z.argument;
+      opacity = w.argument;
       parts = ap (λ v. codes "rgba(" ++ v) (x.parts ∙ ap (λ v. x.argument ++ (44 ∷ v)) (y.parts ∙ ap (λ v. y.argument ++ (44 ∷ v)) (z.parts ∙ ap (λ v. z.argument ++ (44 ∷ v)) (w.parts ∙ ap (λ v. w.argument ++ (41 ∷ v)) end.0))));
-      is_red = x.is_channel; is_green = y.is_channel; is_blue = z.is_channel; is_opacity = w.is_opacity })
+      is_red = x.is_channel;
+      is_green = y.is_channel;
+      is_blue = z.is_channel;
+      is_opacity = w.is_opacity;
+    })
 
 rgba_complete : (text : List ℕ) (c : Color) → IsRgba text c → color_at text ≡ Some c
 rgba_complete text c i =
@@ -276,12 +302,13 @@ pub record Finds (table : List (List ℕ × ℕ)) (name : List ℕ) (e : List �
 find_sound : (table : List (List ℕ × ℕ)) (name : List ℕ) (e : List ℕ × ℕ) → find (λ d. same_letters d.0 name) table ≡ Some e → Finds table name e
 find_sound [] name e f = absurd (cc)
 find_sound (d ∷ ds) name e f = elim (tells (same_letters d.0 name)) [
-    inl t ↦ let g = rw t at f in
+  | inl t ↦ let g = rw t at f in
       let same : d ≡ e = cc in
       record { at = zero; within = omega arith; is = same; same = subst (λ (x : List ℕ × ℕ). same_letters x.0 name ≡ true) same t }
   | inr t ↦ let ih = find_sound ds name e (rw t at f) in
       let bound = ih.within in
-      record { at = suc ih.at; within = omega arith; is = ih.is; same = ih.same } ]
+      record { at = suc ih.at; within = omega arith; is = ih.is; same = ih.same }
+]
 
 -- no two names are one
 abbrev pub all_differ : List (List ℕ × ℕ) → Bool
@@ -295,9 +322,10 @@ find_complete (d ∷ ds) name (suc at) e differ within same =
     let parts = and_parts (list_all (λ e. not (same_letters d.0 e.0)) ds) (all_differ ds) differ in
     let there = AllPass-from_list_all (λ (e : List ℕ × ℕ). not (same_letters d.0 e.0)) ds parts.0 at e (omega arith) in
     elim (tells (same_letters d.0 name)) [
-        inl t ↦ absurd (let both = (letters_decide d.0 (slice_index_or ds at e).0).1 ((letters_decide d.0 name).0 t ∙ sym ((letters_decide (slice_index_or ds at e).0 name).0 same)) in
+      | inl t ↦ absurd (let both = (letters_decide d.0 (slice_index_or ds at e).0).1 ((letters_decide d.0 name).0 t ∙ sym ((letters_decide (slice_index_or ds at e).0 name).0 same)) in
           let none = not-true (same_letters d.0 (slice_index_or ds at e).0) there in cc)
-      | inr t ↦ rw t (find_complete ds name at e parts.1 (omega arith) same) ]
+      | inr t ↦ rw t (find_complete ds name at e parts.1 (omega arith) same)
+    ]
 
 names_differ : all_differ names ≡ true
 unfolding names
@@ -319,8 +347,9 @@ strip_sound : (front text rest : List ℕ) → strip front text ≡ Some rest �
 strip_sound [] text rest e = cc
 strip_sound (p ∷ ps) [] rest e = absurd (cc)
 strip_sound (p ∷ ps) (c ∷ cs) rest e = elim (eqb_tells c p) [
-    inl t ↦ ap (λ v. v ∷ cs) t.1 ∙ ap (λ v. p ∷ v) (strip_sound ps cs rest (rw t.0 at e))
-  | inr t ↦ let f = rw t.0 at e in absurd (cc) ]
+  | inl t ↦ ap (λ v. v ∷ cs) t.1 ∙ ap (λ v. p ∷ v) (strip_sound ps cs rest (rw t.0 at e))
+  | inr t ↦ let f = rw t.0 at e in absurd (cc)
+]
 
 -- what begins a text begins it in lower case too
 no_front : (front text low : List ℕ) → str_to_ascii_lowercase front ≡ front → str_to_ascii_lowercase text ≡ low → is_none (strip front low) ≡ true → strip front text ≡ None
@@ -329,10 +358,10 @@ no_front front text low lower same none = by_rest (strip front text) refl
     by_rest : (o : Option (List ℕ)) → strip front text ≡ o → o ≡ None
     by_rest None e = refl
     by_rest (Some rest) e =
-      let whole : low ≡ front ++ str_to_ascii_lowercase rest =
+        let whole : low ≡ front ++ str_to_ascii_lowercase rest =
         sym same ∙ ap str_to_ascii_lowercase (strip_sound front text rest e) ∙ map-append to_ascii_lowercase front rest ∙ ap (λ v. v ++ str_to_ascii_lowercase rest) lower in
-      let some : strip front low ≡ Some (str_to_ascii_lowercase rest) = ap (strip front) whole ∙ strip_append front (str_to_ascii_lowercase rest) in
-      absurd (let f = rw some at none in cc)
+        let some : strip front low ≡ Some (str_to_ascii_lowercase rest) = ap (strip front) whole ∙ strip_append front (str_to_ascii_lowercase rest) in
+        absurd (let f = rw some at none in cc)
 
 named_complete : (text : List ℕ) (c : Color) → IsNamed text c → color_at text ≡ Some c
 named_complete text c i =
@@ -343,24 +372,26 @@ named_complete text c i =
     let first = and_parts _ _ halves.0 in
     let second = and_parts _ _ halves.1 in
     let found : entry_at names text ≡ Some i.pixel =
-      ap (option_map (λ (e : List ℕ × ℕ). e.1)) (find_complete names text i.listed.0 (i.name, i.pixel) names_differ i.listed.1 (ap (λ (e : List ℕ × ℕ). same_letters e.0 text) i.listed.2 ∙ i.same) ∙ ap (λ (e : List ℕ × ℕ). Some e) i.listed.2) in
+    ap (option_map (λ (e : List ℕ × ℕ). e.1)) (find_complete names text i.listed.0 (i.name, i.pixel) names_differ i.listed.1 (ap (λ (e : List ℕ × ℕ). same_letters e.0 text) i.listed.2 ∙ i.same) ∙ ap (λ (e : List ℕ × ℕ). Some e) i.listed.2) in
     let a = no_front (codes "#") text (str_to_ascii_lowercase i.name) refl (sym low) first.0 in
     let b = no_front (codes "rgb(") text (str_to_ascii_lowercase i.name) refl (sym low) first.1 in
     let d = no_front (codes "rgba(") text (str_to_ascii_lowercase i.name) refl (sym low) second.0 in
     let e : bytes_eq text (codes "transparent") ≡ false = elim (bytes_tell text (codes "transparent")) [
-        inl t ↦ absurd (let same : str_to_ascii_lowercase i.name ≡ codes "transparent" = low ∙ ap str_to_ascii_lowercase t.1 in
+      | inl t ↦ absurd (let same : str_to_ascii_lowercase i.name ≡ codes "transparent" = low ∙ ap str_to_ascii_lowercase t.1 in
           let f = rw same at second.1 in cc)
-      | inr t ↦ t ] in
+      | inr t ↦ t
+    ] in
     rw (a, b, d, e, found, i.value) refl
 
 word_sound : (text : List ℕ) (c : Color) → word_at text ≡ Some c → IsColor text c
 word_sound text c e = elim (bytes_tell text (codes "transparent")) [
-    inl t ↦ let f = rw t.0 at e in transparent (t.1, cc)
+  | inl t ↦ let f = rw t.0 at e in transparent (t.1, cc)
   | inr t ↦ let f = rw t at e in
       let p = map_gives solid (entry_at names text) c f in
       let q = map_gives (λ (e : List ℕ × ℕ). e.1) (find (λ d. same_letters d.0 text) names) p.0 p.1 in
       let r = find_sound names text q.0 q.1 in
-      named (record { name = q.0.0; pixel = q.0.1; listed = (r.at, r.within, r.is); same = r.same; value = sym (ap solid q.2 ∙ p.2) }) ]
+      named (record { name = q.0.0; pixel = q.0.1; listed = (r.at, r.within, r.is); same = r.same; value = sym (ap solid q.2 ∙ p.2) })
+]
 
 -- the whole
 
@@ -370,12 +401,15 @@ branch (Some rest) = inr (rest, refl)
 
 pub color_sound : (text : List ℕ) (c : Color) → color_at text ≡ Some c → IsColor text c
 color_sound text c e = elim (branch (strip (codes "#") text)) [
-    inr t ↦ hexadecimal (subst (λ v. IsHex v c) (sym (strip_sound (codes "#") text t.0 t.1)) (hex_sound t.0 c (rw t.1 at e)))
+  | inr t ↦ hexadecimal (subst (λ v. IsHex v c) (sym (strip_sound (codes "#") text t.0 t.1)) (hex_sound t.0 c (rw t.1 at e)))
   | inl t ↦ let f = rw t at e in elim (branch (strip (codes "rgb(") text)) [
-      inr u ↦ rgb (subst (λ v. IsRgb v c) (sym (strip_sound (codes "rgb(") text u.0 u.1)) (rgb_sound u.0 c (rw u.1 at f)))
+    | inr u ↦ rgb (subst (λ v. IsRgb v c) (sym (strip_sound (codes "rgb(") text u.0 u.1)) (rgb_sound u.0 c (rw u.1 at f)))
     | inl u ↦ let g = rw u at f in elim (branch (strip (codes "rgba(") text)) [
-        inr v ↦ rgba (subst (λ w. IsRgba w c) (sym (strip_sound (codes "rgba(") text v.0 v.1)) (rgba_sound v.0 c (rw v.1 at g)))
-      | inl v ↦ word_sound text c (rw v at g) ] ] ]
+      | inr v ↦ rgba (subst (λ w. IsRgba w c) (sym (strip_sound (codes "rgba(") text v.0 v.1)) (rgba_sound v.0 c (rw v.1 at g)))
+      | inl v ↦ word_sound text c (rw v at g)
+    ]
+  ]
+]
 
 pub color_complete : (text : List ℕ) (c : Color) → IsColor text c → color_at text ≡ Some c
 color_complete text c (hexadecimal i) = hex_complete text c i
@@ -418,7 +452,7 @@ opacity_least d few sign =
     let none : nat_lt 9 (length d.fraction) ≡ false = grind (arith, nat_tests) in
     let some = ten_power (length d.fraction) in
     let zero_of : (2 * (255 * 0) + 10 ^ length d.fraction) / (2 * 10 ^ length d.fraction) ≡ 0 =
-      quotient (2 * (255 * 0) + 10 ^ length d.fraction) 0 (2 * 10 ^ length d.fraction) (10 ^ length d.fraction) (omega arith) (omega (arith, some)) in
+    quotient (2 * (255 * 0) + 10 ^ length d.fraction) 0 (2 * 10 ^ length d.fraction) (10 ^ length d.fraction) (omega arith) (omega (arith, some)) in
     rw (none, sign) (ap (λ n. Some n) (sym zero_of))
 
 pub opacity_found : (d : Decimal) (below lead above r : ℕ) → length d.fraction ≤ 9 → d.negative ≡ false → below ≡ 10 ^ length d.fraction → below ≤ 1000000000 → lead ≡ min (leading (digits_of d) (length d.whole + length d.fraction)) (2 ^ 64 - 1) → above ≡ min lead below → r ≡ (2 * (255 * above) + below) / (2 * below) → Some r ≡ opacity_value d

@@ -1,13 +1,12 @@
 -- The reading of decimals meets their grammar: it finds a decimal, and it finds each decimal.
-use Rattle.std.proofs.Common.{◌≡◌, ℕ, ◌+◌, ◌≤◌, ◌⊎◌, inl, inr, Bool, true, false, cond, not, ◌||◌, ◌&&◌, ◌==◌, nat_le, List, [], ◌∷◌, ◌++◌, length, take, drop, codes, Option, Some, None, refl, sym, ap, ◌∙◌, subst, arith, append_assoc}
+use Rattle.std.proofs.Common.{◌≡◌, ℕ, ◌≤◌, inl, inr, Bool, true, false, not, ◌||◌, ◌==◌, nat_le, List, [], ◌∷◌, ◌++◌, length, take, drop, codes, Some, refl, sym, ap, ◌∙◌, subst, arith, append_assoc}
 use Rattle.std.specs.List.{list_all, prefix_len}
 use Rattle.std.specs.Char.{is_ascii_digit}
-use Rattle.std.specs.Option.{option_and_then, option_map}
 use Rattle.std.proofs.lemmas.Bool.{and_parts, not-true}
 use Rattle.std.proofs.lemmas.Bool.Decides.{eqb_tells, nat_tests}
 use Rattle.std.proofs.lemmas.List.Folds.{list_all-append}
 use Rattle.fx_look.specs.Decimals.{Decimal, IsSign, IsDigits, IsFraction, IsDecimal, is_minus, behind_sign, front, behind, digits_at, fraction_at, with_fraction, decimal_at}
-use Rattle.fx_look.proofs.FrontLemmas.{tells, else_gives, map_gives, bind_gives, stops, prefix_len-stop, front-stop, behind-stop, front-passes, front_and_behind, front_some}
+use Rattle.fx_look.proofs.FrontLemmas.{else_gives, map_gives, bind_gives, stops, prefix_len-stop, front-stop, behind-stop, front-passes, front_and_behind, front_some}
 
 -- the pieces that the reading finds are pieces of the grammar
 
@@ -19,10 +18,12 @@ pub record ReadsSign (text : List ℕ) : Type 0 where
 pub sign_sound : (text : List ℕ) → ReadsSign text
 sign_sound [] = record { sign = []; is_sign = inl (refl, inl refl); parts = refl }
 sign_sound (c ∷ cs) = elim (eqb_tells c 45) [
-    inl t ↦ record { sign = codes "-"; is_sign = inr (t.0, refl); parts = rw t.0 (ap (λ v. v ∷ cs) t.1) }
+  | inl t ↦ record { sign = codes "-"; is_sign = inr (t.0, refl); parts = rw t.0 (ap (λ v. v ∷ cs) t.1) }
   | inr t ↦ elim (eqb_tells c 43) [
-      inl u ↦ record { sign = codes "+"; is_sign = inl (t.0, inr refl); parts = rw (t.0, u.0) (ap (λ v. v ∷ cs) u.1) }
-    | inr u ↦ record { sign = []; is_sign = inl (t.0, inl refl); parts = rw (t.0, u.0) refl } ] ]
+    | inl u ↦ record { sign = codes "+"; is_sign = inl (t.0, inr refl); parts = rw (t.0, u.0) (ap (λ v. v ∷ cs) u.1) }
+    | inr u ↦ record { sign = []; is_sign = inl (t.0, inl refl); parts = rw (t.0, u.0) refl }
+  ]
+]
 
 pub digits_sound : (text : List ℕ) (p : List ℕ × List ℕ) → digits_at text ≡ Some p → IsDigits p.0 × (text ≡ p.0 ++ p.1)
 digits_sound text p e =
@@ -30,7 +31,7 @@ digits_sound text p e =
     let same : (front is_ascii_digit text, behind is_ascii_digit text) ≡ p = cc in
     let some : prefix_len is_ascii_digit text ≡ 0 → ⊥ = grind (arith, nat_tests) in
     subst (λ (r : List ℕ × List ℕ). IsDigits r.0 × (text ≡ r.0 ++ r.1)) same
-      (record { digits = front-passes is_ascii_digit text; some = front_some is_ascii_digit text some }, front_and_behind is_ascii_digit text)
+    (record { digits = front-passes is_ascii_digit text; some = front_some is_ascii_digit text some }, front_and_behind is_ascii_digit text)
 
 pub record ReadsFraction (text : List ℕ) (p : List ℕ × List ℕ) : Type 0 where
   pub fraction : List ℕ
@@ -42,11 +43,12 @@ fraction_sound [] p e =
     let same : ([], []) ≡ p = cc in
     subst (λ (r : List ℕ × List ℕ). ReadsFraction [] r) same (record { fraction = []; is_fraction = inl (refl, refl); parts = refl })
 fraction_sound (c ∷ cs) p e = elim (eqb_tells c 46) [
-    inl t ↦ let d = digits_sound cs p (rw t.0 at e) in
+  | inl t ↦ let d = digits_sound cs p (rw t.0 at e) in
       record { fraction = 46 ∷ p.0; is_fraction = inr (refl, d.0); parts = ap (λ v. v ∷ cs) t.1 ∙ ap (λ v. 46 ∷ v) d.1 }
   | inr t ↦ let f = rw t.0 at e in
       let same : ([], c ∷ cs) ≡ p = cc in
-      subst (λ (r : List ℕ × List ℕ). ReadsFraction (c ∷ cs) r) same (record { fraction = []; is_fraction = inl (refl, refl); parts = refl }) ]
+      subst (λ (r : List ℕ × List ℕ). ReadsFraction (c ∷ cs) r) same (record { fraction = []; is_fraction = inl (refl, refl); parts = refl })
+]
 
 pub record ReadsDecimal (text : List ℕ) (p : Decimal × List ℕ) : Type 0 where
   pub digits : List ℕ
@@ -64,7 +66,8 @@ decimal_sound text p e =
     subst (λ (r : Decimal × List ℕ). ReadsDecimal text r) f.2 (record {
       digits = s.sign ++ (whole.0 ++ g.fraction);
       is_decimal = record { sign = s.sign; fraction = g.fraction; parts = refl; is_sign = s.is_sign; is_whole = d.0; is_fraction = g.is_fraction };
-      parts = s.parts ∙ ap (λ v. s.sign ++ v) (d.1 ∙ ap (λ v. whole.0 ++ v) g.parts ∙ sym (append_assoc whole.0 g.fraction f.0.1)) ∙ sym (append_assoc s.sign (whole.0 ++ g.fraction) f.0.1) })
+      parts = s.parts ∙ ap (λ v. s.sign ++ v) (d.1 ∙ ap (λ v. whole.0 ++ v) g.parts ∙ sym (append_assoc whole.0 g.fraction f.0.1)) ∙ sym (append_assoc s.sign (whole.0 ++ g.fraction) f.0.1);
+    })
 
 -- each piece of the grammar is found
 
@@ -151,7 +154,7 @@ pub decimal_complete : (text rest : List ℕ) (d : Decimal) → IsDecimal text d
 decimal_complete text rest d i s =
     let behind_whole : List ℕ = i.fraction ++ rest in
     let split : text ++ rest ≡ i.sign ++ (d.whole ++ behind_whole) =
-      ap (λ v. v ++ rest) i.parts ∙ append_assoc i.sign (d.whole ++ i.fraction) rest ∙ ap (λ v. i.sign ++ v) (append_assoc d.whole i.fraction rest) in
+    ap (λ v. v ++ rest) i.parts ∙ append_assoc i.sign (d.whole ++ i.fraction) rest ∙ ap (λ v. i.sign ++ v) (append_assoc d.whole i.fraction rest) in
     let sign = sign_complete i.sign (d.whole ++ behind_whole) d.negative i.is_sign (begins_digits d.whole behind_whole i.is_whole) in
     let whole = digits_complete d.whole behind_whole i.is_whole (fraction_stop i.fraction d.fraction rest i.is_fraction s) in
     rw (split, sign.0, sign.1, whole, fraction_complete i.fraction d.fraction rest i.is_fraction s) refl

@@ -1,17 +1,16 @@
 -- The reading of four lengths meets its grammar, over any reading of a length that does.
-use Rattle.std.proofs.Common.{◌≡◌, ◌≢◌, ℕ, zero, suc, ◌+◌, ◌≤◌, ◌⊎◌, inl, inr, Bool, true, false, cond, not, ◌||◌, ◌&&◌, List, [], ◌∷◌, ◌++◌, length, take, drop, codes, Option, Some, None, ℤ, refl, sym, ap, ◌∙◌, subst, arith, append_assoc, append-nil}
+use Rattle.std.proofs.Common.{◌≡◌, ℕ, ◌⊎◌, inl, inr, Bool, true, false, ◌||◌, List, [], ◌∷◌, ◌++◌, codes, Option, Some, None, ℤ, refl, sym, ap, ◌∙◌, subst, arith, append-nil}
 use Rattle.std.specs.Prelude.{IfSome, IfNone}
-use Rattle.std.specs.List.{list_all, list_any, prefix_len}
+use Rattle.std.specs.List.{list_all, list_any}
 use Rattle.std.specs.Char.{is_ascii_digit}
 use Rattle.std.specs.Option.{option_and_then, option_map}
-use Rattle.std.specs.Cmp.Derive.{both_true}
 use Rattle.std.proofs.lemmas.Bool.{and_parts, not-true, not-false}
 use Rattle.std.proofs.lemmas.List.Folds.{list_all-append, list_any-append}
 use Rattle.fx_base.specs.declared.geometry.Sides.{Sides}
-use Rattle.fx_look.specs.Decimals.{Decimal, IsSign, IsDigits, IsFraction, IsDecimal, front, behind}
-use Rattle.fx_look.specs.Numbers.{IsUnbounded, IsBounded, IsNumber, IsPlain, IsSize, IsPower, IsExponent, Power, number_at, size_at}
+use Rattle.fx_look.specs.Decimals.{Decimal, IsSign, IsFraction, IsDecimal, front, behind}
+use Rattle.fx_look.specs.Numbers.{IsUnbounded, IsNumber, IsPlain, IsSize, IsPower, Power, number_at, size_at}
 use Rattle.fx_look.specs.Colors.{is_white}
-use Rattle.fx_look.specs.Insets.{sides, IsGap, IsFour, IsEven, IsSides, not_white, word, behind_word, four, sides_at}
+use Rattle.fx_look.specs.Insets.{sides, IsGap, IsSides, not_white, word, behind_word, four, sides_at}
 use Rattle.fx_look.proofs.FrontLemmas.{tells, map_gives, bind_gives, stops, front-stop, behind-stop, front-passes, front_and_behind, front_some, behind_stops}
 use Rattle.fx_look.proofs.NumberLemmas.{number_sound, number_complete, size_sound, size_complete}
 use Rattle.fx_look.proofs.ColorLemmas.{digit_no_white}
@@ -43,8 +42,8 @@ both_plain xs ys p q = list_all-append not_white xs ys ∙ rw (p, q) refl
 
 decimal_plain : (text : List ℕ) (d : Decimal) → IsDecimal text d → list_all not_white text ≡ true
 decimal_plain text d i = ap (list_all not_white) i.parts
-  ∙ both_plain i.sign (d.whole ++ i.fraction) (sign_plain i.sign d.negative i.is_sign)
-      (both_plain d.whole i.fraction (digits_plain d.whole i.is_whole.digits) (fraction_plain i.fraction d.fraction i.is_fraction))
+    ∙ both_plain i.sign (d.whole ++ i.fraction) (sign_plain i.sign d.negative i.is_sign)
+    (both_plain d.whole i.fraction (digits_plain d.whole i.is_whole.digits) (fraction_plain i.fraction d.fraction i.is_fraction))
 
 power_plain : (text : List ℕ) (power : Power) → IsPower text power → list_all not_white text ≡ true
 power_plain text power (inl (e, f)) = rw e refl
@@ -52,6 +51,7 @@ power_plain text power (inr i) = ap (list_all not_white) i.parts ∙ by_mark i.i
   where
     rest : list_all not_white (i.sign ++ i.digits) ≡ true
     rest = both_plain i.sign i.digits (sign_plain i.sign i.negative i.is_sign) (digits_plain i.digits i.is_digits.digits)
+
     by_mark : (i.mark ≡ 69) ⊎ (i.mark ≡ 101) → list_all not_white (i.mark ∷ (i.sign ++ i.digits)) ≡ true
     by_mark (inl m) = rw m rest
     by_mark (inr m) = rw m rest
@@ -70,6 +70,7 @@ size_plain text n i = ap (list_all not_white) i.parts ∙ both_plain i.number i.
     number_part : IsUnbounded i.number n ⊎ IsPlain i.number n → list_all not_white i.number ≡ true
     number_part (inl u) = unbounded_plain i.number n u
     number_part (inr p) = decimal_plain i.number p.decimal p.is_decimal
+
     unit_part : (i.unit ≡ []) ⊎ (i.unit ≡ codes "px") → list_all not_white i.unit ≡ true
     unit_part (inl e) = rw e refl
     unit_part (inr e) = rw e refl
@@ -108,8 +109,8 @@ gap_of text some = by_rest (behind not_white text) (behind_stops not_white text)
     by_rest : (rest : List ℕ) → stops not_white rest ≡ true → (behind is_white rest ≡ [] → ⊥) → IsGap (front is_white rest)
     by_rest [] s more = absurd (more refl)
     by_rest (c ∷ cs) s more =
-      let white : is_white c ≡ true = not-false (is_white c) (not-true (not_white c) s) in
-      record { white = front-passes is_white (c ∷ cs); some = front_some is_white (c ∷ cs) (λ z. let f = rw white at z in absurd (omega (arith, f))) }
+        let white : is_white c ≡ true = not-false (is_white c) (not-true (not_white c) s) in
+        record { white = front-passes is_white (c ∷ cs); some = front_some is_white (c ∷ cs) (λ z. let f = rw white at z in absurd (omega (arith, f))) }
 
 word_parts : (text : List ℕ) → text ≡ word text ++ (front is_white (behind not_white text) ++ behind_word text)
 word_parts text = front_and_behind not_white text ∙ ap (λ v. word text ++ v) (front_and_behind is_white (behind not_white text))
@@ -122,35 +123,43 @@ read_some read text n nothing e z = let f : read text ≡ None = ap read z ∙ n
 
 pub sides_sound : (IsLength : List ℕ → ℤ → Type 0) (read : List ℕ → Option ℤ) → IsReading IsLength read → (text : List ℕ) (s : Sides) → sides_at read text ≡ Some s → IsSides IsLength text s
 sides_sound IsLength read i text s e = elim (tells (list_any is_white text)) [
-    inl w ↦
+  | inl w ↦
       let a : List ℕ = behind_word text in
       let b : List ℕ = behind_word (behind_word text) in
       let c : List ℕ = behind_word (behind_word (behind_word text)) in
       let f = four_sound (read (word text)) (read (word (behind_word text))) (read (word (behind_word (behind_word text)))) (read (behind_word (behind_word (behind_word text)))) s (rw w at e) in
       inr (record {
-        top = word text; right = word (behind_word text); bottom = word (behind_word (behind_word text)); left = behind_word (behind_word (behind_word text));
+        top = word text;
+        right = word (behind_word text);
+        bottom = word (behind_word (behind_word text));
+        left = behind_word (behind_word (behind_word text));
         first_gap = front is_white (behind not_white text);
         second_gap = front is_white (behind not_white (behind_word text));
         third_gap = front is_white (behind not_white (behind_word (behind_word text)));
         parts = word_parts text ∙ ap (λ v. word text ++ (front is_white (behind not_white text) ++ v))
-          (word_parts (behind_word text) ∙ ap (λ v. word (behind_word text) ++ (front is_white (behind not_white (behind_word text)) ++ v)) (word_parts (behind_word (behind_word text))));
+            (word_parts (behind_word text) ∙ ap (λ v. word (behind_word text) ++ (front is_white (behind not_white (behind_word text)) ++ v)) (word_parts (behind_word (behind_word text))));
         is_first_gap = gap_of text (word_some read (behind_word text) s.right i.nothing f.right);
         is_second_gap = gap_of (behind_word text) (word_some read (behind_word (behind_word text)) s.bottom i.nothing f.bottom);
         is_third_gap = gap_of (behind_word (behind_word text)) (read_some read (behind_word (behind_word (behind_word text))) s.left i.nothing f.left);
-        is_top = i.sound (word text) s.top f.top; is_right = i.sound (word (behind_word text)) s.right f.right;
-        is_bottom = i.sound (word (behind_word (behind_word text))) s.bottom f.bottom; is_left = i.sound (behind_word (behind_word (behind_word text))) s.left f.left })
+        is_top = i.sound (word text) s.top f.top;
+        is_right = i.sound (word (behind_word text)) s.right f.right;
+        is_bottom = i.sound (word (behind_word (behind_word text))) s.bottom f.bottom;
+        is_left = i.sound (behind_word (behind_word (behind_word text))) s.left f.left;
+      })
   | inr w ↦
       let f = four_sound (read text) (read text) (read text) (read text) s (rw w at e) in
-      inl (record { length_of = s.top; is_length = i.sound text s.top f.top; value = even (read text) s f }) ]
+      inl (record { length_of = s.top; is_length = i.sound text s.top f.top; value = even (read text) s f })
+]
   where
     same : (t r b l : ℤ) → r ≡ t → b ≡ t → l ≡ t → sides t r b l ≡ sides t t t t
     same t r b l p q u = rw (p, q, u) refl
+
     even : (o : Option ℤ) (s : Sides) → Fours o o o o s → s ≡ sides s.top s.top s.top s.top
     even o s f =
-      let r : s.right ≡ s.top = cc (f.top, f.right) in
-      let b : s.bottom ≡ s.top = cc (f.top, f.bottom) in
-      let l : s.left ≡ s.top = cc (f.top, f.left) in
-      same s.top s.right s.bottom s.left r b l
+        let r : s.right ≡ s.top = cc (f.top, f.right) in
+        let b : s.bottom ≡ s.top = cc (f.top, f.bottom) in
+        let l : s.left ≡ s.top = cc (f.top, f.left) in
+        same s.top s.right s.bottom s.left r b l
 
 plain_stop : (xs rest : List ℕ) → (xs ≡ [] → ⊥) → list_all not_white xs ≡ true → stops is_white (xs ++ rest) ≡ true
 plain_stop [] rest some p = absurd (some refl)
@@ -205,8 +214,8 @@ sides_complete IsLength read i text s (inr f) =
     let three = step f.bottom f.third_gap rest_c (i.no_white f.bottom s.bottom f.is_bottom) f.is_third_gap stop_c in
     let white : list_any is_white (f.top ++ (f.first_gap ++ rest_a)) ≡ true = any_behind f.top (f.first_gap ++ rest_a) (gap_any f.first_gap rest_a f.is_first_gap) in
     ap (sides_at read) f.parts ∙ joined (f.top ++ (f.first_gap ++ rest_a)) rest_a rest_b rest_c white one.1 two.1 three.1
-      (four_complete (read (word (f.top ++ (f.first_gap ++ rest_a)))) (read (word rest_a)) (read (word rest_b)) (read rest_c) s
-        (record { top = ap read one.0 ∙ top; right = ap read two.0 ∙ right; bottom = ap read three.0 ∙ bottom; left = left }))
+    (four_complete (read (word (f.top ++ (f.first_gap ++ rest_a)))) (read (word rest_a)) (read (word rest_b)) (read rest_c) s
+    (record { top = ap read one.0 ∙ top; right = ap read two.0 ∙ right; bottom = ap read three.0 ∙ bottom; left = left }))
   where
     joined : (t a b c : List ℕ) → list_any is_white t ≡ true → behind_word t ≡ a → behind_word a ≡ b → behind_word b ≡ c → four (read (word t)) (read (word a)) (read (word b)) (read c) ≡ Some s → sides_at read t ≡ Some s
     joined t a b c w p q u e = rw (w, p, q, u) e

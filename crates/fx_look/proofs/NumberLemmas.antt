@@ -1,15 +1,15 @@
 -- The reading of numbers and sizes meets their grammar: it finds one exactly where a text spells it.
-use Rattle.std.proofs.Common.{◌≡◌, ℕ, ◌+◌, ◌≤◌, ◌⊎◌, inl, inr, Bool, true, false, cond, not, ◌||◌, ◌&&◌, ◌==◌, List, [], ◌∷◌, ◌++◌, length, codes, Option, Some, None, ℤ, refl, sym, ap, ◌∙◌, subst, arith, append_assoc, append-nil}
+use Rattle.std.proofs.Common.{◌≡◌, ℕ, ◌≤◌, ◌⊎◌, inl, inr, Bool, true, false, ◌||◌, ◌==◌, List, [], ◌∷◌, ◌++◌, length, codes, Option, Some, None, ℤ, refl, sym, ap, ◌∙◌, arith, append-nil}
 use Rattle.std.specs.List.{list_all}
 use Rattle.std.specs.Prelude.{IfSome, IfNone}
 use Rattle.std.specs.Char.{is_ascii_digit}
 use Rattle.std.specs.Str.{bytes_eq}
-use Rattle.std.specs.Option.{option_and_then, option_map}
-use Rattle.std.proofs.lemmas.Bool.Decides.{eqb_tells, nat_tests}
-use Rattle.fx_look.specs.Decimals.{Decimal, IsSign, IsDigits, IsDecimal, is_minus, behind_sign, decimal_at, number_of_digits}
-use Rattle.fx_look.specs.Numbers.{Power, IsExponent, IsPower, IsUnbounded, IsBounded, IsNumber, IsPlain, IsSize, one, greatest, least, number_of, few_digits, exponent_at, power_of, power_at, with_power, number_at, with_unit, size_at}
+use Rattle.std.specs.Option.{option_map}
+use Rattle.std.proofs.lemmas.Bool.Decides.{nat_tests}
+use Rattle.fx_look.specs.Decimals.{Decimal, IsDigits, is_minus, behind_sign, decimal_at, number_of_digits}
+use Rattle.fx_look.specs.Numbers.{Power, IsExponent, IsPower, IsUnbounded, IsNumber, IsPlain, IsSize, one, number_of, few_digits, exponent_at, power_of, power_at, with_power, number_at, with_unit, size_at}
 use Rattle.fx_look.proofs.FrontLemmas.{tells, bytes_tell, or_parts, then_gives, map_gives, bind_gives, stops}
-use Rattle.fx_look.proofs.DecimalLemmas.{goes_on, sign_sound, decimal_sound, decimal_complete, sign_complete, begins, begins_digits}
+use Rattle.fx_look.proofs.DecimalLemmas.{goes_on, sign_sound, decimal_sound, decimal_complete, sign_complete, begins_digits}
 
 -- exponents
 
@@ -41,16 +41,27 @@ power_mark c cs power m e =
     let q = map_gives (power_of (is_minus cs)) (exponent_at (behind_sign cs)) power e in
     let x = exponent_sound (behind_sign cs) q.0 q.1 in
     let s = sign_sound cs in
-    record { mark = c; sign = s.sign; digits = behind_sign cs; negative = is_minus cs; parts = ap (λ v. c ∷ v) s.parts; is_mark = m; is_sign = s.is_sign;
-      is_digits = x.0; few = x.1; size = sym q.2 ∙ ap (power_of (is_minus cs)) (sym x.2) }
+    record {
+      mark = c;
+      sign = s.sign;
+      digits = behind_sign cs;
+      negative = is_minus cs;
+      parts = ap (λ v. c ∷ v) s.parts;
+      is_mark = m;
+      is_sign = s.is_sign;
+      is_digits = x.0;
+      few = x.1;
+      size = sym q.2 ∙ ap (power_of (is_minus cs)) (sym x.2);
+    }
 
 power_sound : (text : List ℕ) (power : Power) → power_at text ≡ Some power → IsPower text power
 power_sound [] power e = inl (refl, cc)
 power_sound (c ∷ cs) power e =
     let t = then_gives (c == 69 || c == 101) (option_map (power_of (is_minus cs)) (exponent_at (behind_sign cs))) power e in
     elim (or_parts (c == 69) (c == 101) t.0) [
-        inl m ↦ inr (power_mark c cs power (inl (grind (arith, nat_tests))) t.1)
-      | inr m ↦ inr (power_mark c cs power (inr (grind (arith, nat_tests))) t.1) ]
+      | inl m ↦ inr (power_mark c cs power (inl (grind (arith, nat_tests))) t.1)
+      | inr m ↦ inr (power_mark c cs power (inr (grind (arith, nat_tests))) t.1)
+    ]
 
 marked : (mark : ℕ) (signed digits : List ℕ) (negative : Bool) (power : Power) → (mark ≡ 69) ⊎ (mark ≡ 101) → is_minus signed ≡ negative → behind_sign signed ≡ digits → exponent_at digits ≡ Some (number_of_digits digits) → power ≡ power_of negative (number_of_digits digits) → power_at (mark ∷ signed) ≡ Some power
 marked mark signed digits negative power (inl m) a b x p = rw (m, a, b, x, p) refl
@@ -63,9 +74,9 @@ power_complete text power (inr i) =
     let s = sign_complete i.sign (i.digits ++ []) i.negative i.is_sign start in
     let whole : i.digits ++ [] ≡ i.digits = append-nil i.digits in
     rw i.parts (marked i.mark (i.sign ++ i.digits) i.digits i.negative power i.is_mark
-      (ap (λ v. is_minus (i.sign ++ v)) (sym whole) ∙ s.0)
-      (ap (λ v. behind_sign (i.sign ++ v)) (sym whole) ∙ s.1 ∙ whole)
-      (exponent_complete i.digits i.is_digits i.few) i.size)
+    (ap (λ v. is_minus (i.sign ++ v)) (sym whole) ∙ s.0)
+    (ap (λ v. behind_sign (i.sign ++ v)) (sym whole) ∙ s.1 ∙ whole)
+    (exponent_complete i.digits i.is_digits i.few) i.size)
 
 power_stops : (text : List ℕ) (power : Power) → IsPower text power → stops goes_on text ≡ true
 power_stops text power (inl (e, f)) = rw e refl
@@ -83,15 +94,25 @@ not_word text word p w t = elim (bytes_tell text word) [ inl e ↦ absurd (let f
 
 pub number_sound : (text : List ℕ) (n : ℤ) → number_at text ≡ Some n → IsNumber text n
 number_sound text n e = elim (bytes_tell text (codes "Infinity")) [
-    inl t ↦ let f = rw t.0 at e in inl (inl (t.1, cc))
+  | inl t ↦ let f = rw t.0 at e in inl (inl (t.1, cc))
   | inr t ↦ let f = rw t at e in elim (bytes_tell text (codes "-Infinity")) [
-      inl u ↦ let g = rw u.0 at f in inl (inr (u.1, cc))
+    | inl u ↦ let g = rw u.0 at f in inl (inr (u.1, cc))
     | inr u ↦ let g = rw u at f in
         let d = bind_gives with_power (decimal_at text) n g in
         let r = decimal_sound text d.0 d.1 in
         let p = map_gives (number_of d.0.0) (power_at d.0.1) n d.2 in
-        inr (record { digits = r.digits; decimal = d.0.0; exponent = d.0.1; power = p.0; parts = r.parts; is_decimal = r.is_decimal;
-          is_power = power_sound d.0.1 p.0 p.1; value = sym p.2 }) ] ]
+        inr (record {
+          digits = r.digits;
+          decimal = d.0.0;
+          exponent = d.0.1;
+          power = p.0;
+          parts = r.parts;
+          is_decimal = r.is_decimal;
+          is_power = power_sound d.0.1 p.0 p.1;
+          value = sym p.2;
+        })
+  ]
+]
 
 pub number_complete : (text : List ℕ) (n : ℤ) → IsNumber text n → number_at text ≡ Some n
 number_complete text n (inl (inl (t, v))) = rw (t, v) refl
@@ -109,8 +130,9 @@ unit_sound p n e =
     let t = then_gives (bytes_eq p.1 [] || bytes_eq p.1 (codes "px")) (Some (number_of p.0 one)) n e in
     let v : number_of p.0 one ≡ n = cc in
     elim (or_parts (bytes_eq p.1 []) (bytes_eq p.1 (codes "px")) t.0) [
-        inl a ↦ (inl (same p.1 [] a), sym v)
-      | inr a ↦ (inr (same p.1 (codes "px") a), sym v) ]
+      | inl a ↦ (inl (same p.1 [] a), sym v)
+      | inr a ↦ (inr (same p.1 (codes "px") a), sym v)
+    ]
   where
     same : (xs ys : List ℕ) → bytes_eq xs ys ≡ true → xs ≡ ys
     same xs ys a = elim (bytes_tell xs ys) [ inl t ↦ t.1 | inr t ↦ absurd (cc) ]
@@ -127,14 +149,16 @@ unbounded_size text word n u (inr t) = record { number = word; unit = codes "px"
 
 pub size_sound : (text : List ℕ) (n : ℤ) → size_at text ≡ Some n → IsSize text n
 size_sound text n e = elim (tells (bytes_eq text (codes "Infinity") || bytes_eq text (codes "Infinitypx"))) [
-    inl t ↦ let f = rw t at e in unbounded_size text (codes "Infinity") n (inl (refl, cc)) (one_of_two text (codes "Infinity") (codes "Infinitypx") t)
+  | inl t ↦ let f = rw t at e in unbounded_size text (codes "Infinity") n (inl (refl, cc)) (one_of_two text (codes "Infinity") (codes "Infinitypx") t)
   | inr t ↦ let f = rw t at e in elim (tells (bytes_eq text (codes "-Infinity") || bytes_eq text (codes "-Infinitypx"))) [
-      inl u ↦ let g = rw u at f in unbounded_size text (codes "-Infinity") n (inr (refl, cc)) (one_of_two text (codes "-Infinity") (codes "-Infinitypx") u)
+    | inl u ↦ let g = rw u at f in unbounded_size text (codes "-Infinity") n (inr (refl, cc)) (one_of_two text (codes "-Infinity") (codes "-Infinitypx") u)
     | inr u ↦ let g = rw u at f in
         let d = bind_gives with_unit (decimal_at text) n g in
         let r = decimal_sound text d.0 d.1 in
         let w = unit_sound d.0 n d.2 in
-        record { number = r.digits; unit = d.0.1; parts = r.parts; is_number = inr (record { decimal = d.0.0; is_decimal = r.is_decimal; value = w.1 }); is_unit = w.0 } ] ]
+        record { number = r.digits; unit = d.0.1; parts = r.parts; is_number = inr (record { decimal = d.0.0; is_decimal = r.is_decimal; value = w.1 }); is_unit = w.0 }
+  ]
+]
 
 plain_size : (text unit : List ℕ) (d : Decimal) → decimal_at text ≡ Some (d, unit) → with_unit (d, unit) ≡ Some (number_of d one) → size_at text ≡ Some (number_of d one)
 plain_size text unit d e w =

@@ -1,9 +1,8 @@
 -- The reading of values meets the grammar of each kind.
-use Rattle.std.proofs.Common.{◌≡◌, ℕ, zero, suc, ◌+◌, ◌<◌, ◌≤◌, ◌⊎◌, inl, inr, Bool, true, false, cond, not, nat_lt, List, [], ◌∷◌, length, map, codes, Option, Some, None, ℤ, refl, sym, ap, ◌∙◌, subst, arith, slice_index_or, Fits, w32}
+use Rattle.std.proofs.Common.{◌≡◌, ℕ, zero, suc, ◌+◌, ◌<◌, ◌≤◌, inl, inr, Bool, true, false, cond, not, nat_lt, List, [], ◌∷◌, length, map, codes, Option, Some, None, refl, sym, ap, ◌∙◌, subst, arith, slice_index_or}
 use Rattle.std.specs.Prelude.{IfSome, IfNone, IfOk, Result, Ok, Err, slice_get}
-use Rattle.std.specs.List.{position, position_or_len, prefix_len}
-use Rattle.std.specs.Option.{option_map}
-use Rattle.std.specs.Str.{chars, bytes_eq, str_to_ascii_lowercase}
+use Rattle.std.specs.List.{position, prefix_len}
+use Rattle.std.specs.Str.{chars, bytes_eq}
 use Rattle.std.proofs.lemmas.Bool.Decides.{leb_tells, nat_tests}
 use Rattle.std.proofs.lemmas.List.{length-map}
 use Rattle.std.proofs.lemmas.List.Quantifiers.{position-Some}
@@ -16,8 +15,8 @@ use Rattle.fx_base.specs.declared.kinds.Kind.TheVariants as kind
 use Rattle.fx_base.specs.declared.values.Value.{Value}
 use Rattle.fx_base.specs.declared.values.Value.TheVariants.{Int, Bool as Truth, Text, Choice, Color, Sides}
 use Rattle.fx_look.specs.Numbers.{IsNumber, number_at}
-use Rattle.fx_look.specs.Colors.{IsColor, color_at, same_letters}
-use Rattle.fx_look.specs.Insets.{IsSides, sides_at}
+use Rattle.fx_look.specs.Colors.{color_at, same_letters}
+use Rattle.fx_look.specs.Insets.{sides_at}
 use Rattle.fx_look.specs.Readings.{IsTruth, IsValue, truth_at, place_of, text_at, value_at}
 use Rattle.fx_look.proofs.FrontLemmas.{tells, bytes_tell, else_gives, map_gives}
 use Rattle.fx_look.proofs.NumberLemmas.{number_sound, number_complete}
@@ -28,22 +27,25 @@ use Rattle.fx_look.proofs.InsetLemmas.{sides_sound, sides_complete, numbers_read
 
 truth_sound : (text : List ℕ) (truth : Bool) → truth_at text ≡ Some truth → IsTruth text truth
 truth_sound text truth e = elim (tells (same_letters text (codes "true"))) [
-    inl t ↦ let f = rw t at e in
+  | inl t ↦ let f = rw t at e in
       let same : true ≡ truth = cc in
       (letters_decide text (codes "true")).0 t ∙ ap truth_text same
   | inr t ↦ let f = rw t at e in elim (tells (same_letters text (codes "false"))) [
-      inl u ↦ let g = rw u at f in
+    | inl u ↦ let g = rw u at f in
         let same : false ≡ truth = cc in
         (letters_decide text (codes "false")).0 u ∙ ap truth_text same
-    | inr u ↦ let g = rw u at f in absurd (cc) ] ]
+    | inr u ↦ let g = rw u at f in absurd (cc)
+  ]
+]
 
 truth_complete : (text : List ℕ) (truth : Bool) → IsTruth text truth → truth_at text ≡ Some truth
 truth_complete text true i = rw ((letters_decide text (codes "true")).1 i) refl
 truth_complete text false i =
     let other : same_letters text (codes "true") ≡ false = elim (tells (same_letters text (codes "true"))) [
-        inl t ↦ absurd (let both : codes "false" ≡ codes "true" = sym i ∙ (letters_decide text (codes "true")).0 t in
+      | inl t ↦ absurd (let both : codes "false" ≡ codes "true" = sym i ∙ (letters_decide text (codes "true")).0 t in
           let test : false ≡ true = sym (ap (λ v. bytes_eq v (codes "false")) both) in cc)
-      | inr t ↦ t ] in
+      | inr t ↦ t
+    ] in
     rw (other, (letters_decide text (codes "false")).1 i) refl
 
 -- constants

@@ -1,5 +1,5 @@
 -- The rounding that is read off the digits is that of the exact fraction.
-use Rattle.std.proofs.Common.{◌≡◌, ℕ, zero, suc, ◌+◌, ◌-◌, ◌*◌, ◌/◌, ◌^◌, ◌<◌, ◌≤◌, ◌⊎◌, inl, inr, Bool, true, false, cond, not, ◌||◌, ◌&&◌, ◌==◌, nat_le, nat_lt, if◌then◌else◌, min, List, [], ◌∷◌, ◌++◌, length, take, drop, replicate, slice_index_or, refl, sym, ap, ◌∙◌, subst, arith, ℤ, pos, neg_ℤ, append_assoc, append-nil}
+use Rattle.std.proofs.Common.{◌≡◌, ℕ, zero, suc, ◌+◌, ◌-◌, ◌*◌, ◌/◌, ◌^◌, ◌<◌, ◌≤◌, inl, inr, Bool, true, false, ◌||◌, nat_le, nat_lt, if◌then◌else◌, min, List, [], ◌∷◌, ◌++◌, length, take, drop, replicate, slice_index_or, refl, sym, ap, ◌∙◌, arith, ℤ, pos, neg_ℤ, append-nil}
 use Rattle.std.specs.List.{list_all, list_any}
 use Rattle.std.specs.Char.{is_ascii_digit}
 use Rattle.std.proofs.lemmas.Bool.{and_parts}
@@ -112,20 +112,22 @@ stays q p m e small some half =
 none_above : (cs : List ℕ) → list_all is_ascii_digit cs ≡ true → list_any (nat_lt 48) cs ≡ false → number_of_digits cs ≡ 0
 none_above [] d e = refl
 none_above (c ∷ cs) d e = elim (leb_tells (suc 48) c) [
-    inl t ↦ absurd (let f = rw t.0 at e in cc)
+  | inl t ↦ absurd (let f = rw t.0 at e in cc)
   | inr t ↦ let f = rw t.0 at e in
       let ih = none_above cs (and_parts (is_ascii_digit c) (list_all is_ascii_digit cs) d).1 f in
       let none : c - 48 ≡ 0 = omega arith in
-      rw (none, ih) (omega arith) ]
+      rw (none, ih) (omega arith)
+]
 
 some_above : (cs : List ℕ) → list_any (nat_lt 48) cs ≡ true → 0 < number_of_digits cs
 some_above [] e = absurd (cc)
 some_above (c ∷ cs) e = elim (leb_tells (suc 48) c) [
-    inl t ↦ let one : 1 ≤ c - 48 = omega arith in
+  | inl t ↦ let one : 1 ≤ c - 48 = omega arith in
       let most = mul-le-mul_right (10 ^ length cs) one in
       let some = ten_power (length cs) in
       omega (arith, most, some)
-  | inr t ↦ let ih = some_above cs (rw t.0 at e) in omega (arith, ih) ]
+  | inr t ↦ let ih = some_above cs (rw t.0 at e) in omega (arith, ih)
+]
 
 half_up : (q c : ℕ) (cs : List ℕ) → is_ascii_digit c ≡ true → list_all is_ascii_digit cs ≡ true → (2 * (q * 10 ^ length (c ∷ cs) + number_of_digits (c ∷ cs)) + 10 ^ length (c ∷ cs) - 0) / (2 * 10 ^ length (c ∷ cs)) ≡ q + (if nat_le 53 c then 1 else 0)
 half_up q c cs d ds =
@@ -133,12 +135,13 @@ half_up q c cs d ds =
     let small = number_small cs ds in
     let whole = number_small (c ∷ cs) (both_true d ds) in
     elim (leb_tells 53 c) [
-        inl t ↦ let five : 5 ≤ c - 48 = omega arith in
+      | inl t ↦ let five : 5 ≤ c - 48 = omega arith in
           let least = mul-le-mul_right (10 ^ length cs) five in
           rw t.0 (away q (10 ^ length (c ∷ cs)) (number_of_digits (c ∷ cs)) 0 (omega arith) (omega (arith, p, least)) whole)
       | inr t ↦ let four : c - 48 ≤ 4 = omega arith in
           let most = mul-le-mul_right (10 ^ length cs) four in
-          rw t.0 (stays q (10 ^ length (c ∷ cs)) (number_of_digits (c ∷ cs)) 0 (omega arith) (ten_power (length (c ∷ cs))) (omega (arith, p, most, small)) ∙ omega arith) ]
+          rw t.0 (stays q (10 ^ length (c ∷ cs)) (number_of_digits (c ∷ cs)) 0 (omega arith) (ten_power (length (c ∷ cs))) (omega (arith, p, most, small)) ∙ omega arith)
+    ]
 
 half_down : (q c : ℕ) (cs : List ℕ) → is_ascii_digit c ≡ true → list_all is_ascii_digit cs ≡ true → (2 * (q * 10 ^ length (c ∷ cs) + number_of_digits (c ∷ cs)) + 10 ^ length (c ∷ cs) - 1) / (2 * 10 ^ length (c ∷ cs)) ≡ q + (if rounds_away true (c ∷ cs) then 1 else 0)
 half_down q c cs d ds =
@@ -147,20 +150,23 @@ half_down q c cs d ds =
     let small = number_small cs ds in
     let whole = number_small (c ∷ cs) (both_true d ds) in
     elim (eqb_tells c 53) [
-        inl t ↦ let five : c - 48 ≡ 5 = omega arith in
+      | inl t ↦ let five : c - 48 ≡ 5 = omega arith in
           let exact : number_of_digits (c ∷ cs) ≡ 5 * 10 ^ length cs + number_of_digits cs = ap (λ v. v * 10 ^ length cs + number_of_digits cs) five in
           elim (tells (list_any (nat_lt 48) cs)) [
-              inl a ↦ let more = some_above cs a in
+            | inl a ↦ let more = some_above cs a in
                 rw (t.0, a) (away q (10 ^ length (c ∷ cs)) (number_of_digits (c ∷ cs)) 1 (omega arith) (omega (arith, p, exact, more)) whole)
             | inr a ↦ let none = none_above cs ds a in
-                rw (t.0, a) (stays q (10 ^ length (c ∷ cs)) (number_of_digits (c ∷ cs)) 1 (omega arith) (ten_power (length (c ∷ cs))) (omega (arith, p, exact, none)) ∙ omega arith) ]
+                rw (t.0, a) (stays q (10 ^ length (c ∷ cs)) (number_of_digits (c ∷ cs)) 1 (omega arith) (ten_power (length (c ∷ cs))) (omega (arith, p, exact, none)) ∙ omega arith)
+          ]
       | inr t ↦ elim (leb_tells 53 c) [
-            inl u ↦ let six : 6 ≤ c - 48 = six_of c u.1 t.1 in
-              let least = mul-le-mul_right (10 ^ length cs) six in
-              rw (t.0, u.0) (away q (10 ^ length (c ∷ cs)) (number_of_digits (c ∷ cs)) 1 (omega arith) (omega (arith, p, least, some)) whole)
-          | inr u ↦ let four : c - 48 ≤ 4 = omega arith in
-              let most = mul-le-mul_right (10 ^ length cs) four in
-              rw (t.0, u.0) (stays q (10 ^ length (c ∷ cs)) (number_of_digits (c ∷ cs)) 1 (omega arith) (ten_power (length (c ∷ cs))) (omega (arith, p, most, small)) ∙ omega arith) ] ]
+        | inl u ↦ let six : 6 ≤ c - 48 = six_of c u.1 t.1 in
+            let least = mul-le-mul_right (10 ^ length cs) six in
+            rw (t.0, u.0) (away q (10 ^ length (c ∷ cs)) (number_of_digits (c ∷ cs)) 1 (omega arith) (omega (arith, p, least, some)) whole)
+        | inr u ↦ let four : c - 48 ≤ 4 = omega arith in
+            let most = mul-le-mul_right (10 ^ length cs) four in
+            rw (t.0, u.0) (stays q (10 ^ length (c ∷ cs)) (number_of_digits (c ∷ cs)) 1 (omega arith) (ten_power (length (c ∷ cs))) (omega (arith, p, most, small)) ∙ omega arith)
+      ]
+    ]
   where
     six_of : (c : ℕ) → 53 ≤ c → (c ≡ 53 → ⊥) → 6 ≤ c - 48
     six_of c a b = omega arith
@@ -179,7 +185,7 @@ round_parts negative xs p d =
     let both : list_all is_ascii_digit (take p xs ++ drop p xs) ≡ true = ap (list_all is_ascii_digit) split ∙ d in
     let rest = and_parts (list_all is_ascii_digit (take p xs)) (list_all is_ascii_digit (drop p xs)) (sym (list_all-append is_ascii_digit (take p xs) (drop p xs)) ∙ both) in
     ap (λ n. rounded negative n (10 ^ length (drop p xs))) (sym (ap number_of_digits split) ∙ number-append (take p xs) (drop p xs))
-      ∙ round_rest negative (number_of_digits (take p xs)) (drop p xs) rest.1
+    ∙ round_rest negative (number_of_digits (take p xs)) (drop p xs) rest.1
 
 rounded_shifted : (negative : Bool) (ds : List ℕ) (up p : ℕ) (q : ℕ) → list_all is_ascii_digit ds ≡ true → p ≤ length ds + up → q ≡ length ds + up - p → rounded negative (number_of_digits ds * 10 ^ up) (10 ^ q) ≡ rounded_at negative ds p
 rounded_shifted negative ds up p q d within size =
@@ -187,11 +193,11 @@ rounded_shifted negative ds up p q d within size =
     let left : length (drop p (ds ++ replicate up 48)) ≡ q = length-drop p (ds ++ replicate up 48) ∙ ap (λ v. v - p) long ∙ sym size in
     let digits : list_all is_ascii_digit (ds ++ replicate up 48) ≡ true = list_all-append is_ascii_digit ds (replicate up 48) ∙ rw (d, zeros_digits up) refl in
     let number : number_of_digits (ds ++ replicate up 48) ≡ number_of_digits ds * 10 ^ up =
-      number-append ds (replicate up 48) ∙ rw (number-zeros up, length-replicate {A = ℕ} up 48) (omega arith) in
+    number-append ds (replicate up 48) ∙ rw (number-zeros up, length-replicate {A = ℕ} up 48) (omega arith) in
     sym (ap (λ n. rounded negative n (10 ^ q)) number)
-      ∙ sym (ap (λ n. rounded negative (number_of_digits (ds ++ replicate up 48)) (10 ^ n)) left)
-      ∙ round_parts negative (ds ++ replicate up 48) p digits
-      ∙ rw (rounds_padded negative ds up p, leading_is ds up p within) refl
+    ∙ sym (ap (λ n. rounded negative (number_of_digits (ds ++ replicate up 48)) (10 ^ n)) left)
+    ∙ round_parts negative (ds ++ replicate up 48) p digits
+    ∙ rw (rounds_padded negative ds up p, leading_is ds up p within) refl
 
 tiny : (negative : Bool) (n p : ℕ) → 2 * n < p → rounded negative n p ≡ 0
 tiny negative n p small =
@@ -206,19 +212,20 @@ pub size_is : (d : Decimal) (power : Power) → list_all is_ascii_digit (digits_
 size_is d power e =
     let long : length (d.whole ++ d.fraction) ≡ length d.whole + length d.fraction = length-append d.whole d.fraction in
     elim (leb_tells (suc (length d.whole + power.up)) power.down) [
-        inl t ↦ rw t.0 (sym (tiny d.negative (above d power) (below d power) (below_half d power e t.1)))
-      | inr t ↦ rw t.0 (sym (rounded_shifted d.negative (d.whole ++ d.fraction) power.up (length d.whole + power.up - power.down) (length d.fraction + power.down) e (omega (arith, long)) (omega (arith, long)))) ]
+      | inl t ↦ rw t.0 (sym (tiny d.negative (above d power) (below d power) (below_half d power e t.1)))
+      | inr t ↦ rw t.0 (sym (rounded_shifted d.negative (d.whole ++ d.fraction) power.up (length d.whole + power.up - power.down) (length d.fraction + power.down) e (omega (arith, long)) (omega (arith, long))))
+    ]
   where
     below_half : (d : Decimal) (power : Power) → list_all is_ascii_digit (digits_of d) ≡ true → length d.whole + power.up < power.down → 2 * above d power < below d power
     below_half d power e t =
-      let long : length (d.whole ++ d.fraction) ≡ length d.whole + length d.fraction = length-append d.whole d.fraction in
-      let small = number_small (d.whole ++ d.fraction) e in
-      let more : number_of_digits (d.whole ++ d.fraction) * 10 ^ power.up ≤ 10 ^ length (d.whole ++ d.fraction) * 10 ^ power.up = mul-le-mul_right (10 ^ power.up) (omega (arith, small)) in
-      let sum : 10 ^ length (d.whole ++ d.fraction) * 10 ^ power.up ≡ 10 ^ (length (d.whole ++ d.fraction) + power.up) = sym (pow-add 10 (length (d.whole ++ d.fraction)) power.up) in
-      let step : 10 ^ suc (length (d.whole ++ d.fraction) + power.up) ≡ 10 ^ (length (d.whole ++ d.fraction) + power.up) * 10 = pow-suc 10 (length (d.whole ++ d.fraction) + power.up) in
-      let most : 10 ^ suc (length (d.whole ++ d.fraction) + power.up) ≤ 10 ^ (length d.fraction + power.down) = pow-le-pow_right (omega arith) (omega (arith, long)) in
-      let some = ten_power (length (d.whole ++ d.fraction) + power.up) in
-      omega (arith, more, sum, step, most, some)
+        let long : length (d.whole ++ d.fraction) ≡ length d.whole + length d.fraction = length-append d.whole d.fraction in
+        let small = number_small (d.whole ++ d.fraction) e in
+        let more : number_of_digits (d.whole ++ d.fraction) * 10 ^ power.up ≤ 10 ^ length (d.whole ++ d.fraction) * 10 ^ power.up = mul-le-mul_right (10 ^ power.up) (omega (arith, small)) in
+        let sum : 10 ^ length (d.whole ++ d.fraction) * 10 ^ power.up ≡ 10 ^ (length (d.whole ++ d.fraction) + power.up) = sym (pow-add 10 (length (d.whole ++ d.fraction)) power.up) in
+        let step : 10 ^ suc (length (d.whole ++ d.fraction) + power.up) ≡ 10 ^ (length (d.whole ++ d.fraction) + power.up) * 10 = pow-suc 10 (length (d.whole ++ d.fraction) + power.up) in
+        let most : 10 ^ suc (length (d.whole ++ d.fraction) + power.up) ≤ 10 ^ (length d.fraction + power.down) = pow-le-pow_right (omega arith) (omega (arith, long)) in
+        let some = ten_power (length (d.whole ++ d.fraction) + power.up) in
+        omega (arith, more, sum, step, most, some)
 
 cut_once : (negative : Bool) (size : ℕ) → saturated negative (min size (2 ^ 64 - 1)) ≡ saturated negative size
 cut_once true size =
@@ -260,7 +267,7 @@ pub leading_front : (xs ys : List ℕ) → leading (xs ++ ys) (length xs) ≡ nu
 leading_front xs ys =
     let within : length xs ≤ length (xs ++ ys) + 0 = omega (arith, length-append xs ys) in
     leading_is (xs ++ ys) 0 (length xs) within
-      ∙ ap number_of_digits (ap (take (length xs)) (append-nil (xs ++ ys)) ∙ take-append_seam xs ys)
+    ∙ ap number_of_digits (ap (take (length xs)) (append-nil (xs ++ ys)) ∙ take-append_seam xs ys)
 
 pub leading_all : (xs : List ℕ) → leading xs (length xs) ≡ number_of_digits xs
 leading_all xs = ap (λ v. leading v (length xs)) (sym (append-nil xs)) ∙ leading_front xs []

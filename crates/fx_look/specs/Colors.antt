@@ -1,5 +1,5 @@
 -- Colours as texts: first the grammar, by cases on the text, then the reading.
-use Rattle.std.specs.Prelude.{◌≡◌, ℕ, ◌+◌, ◌-◌, ◌*◌, ◌/◌, ◌^◌, ◌≤◌, ◌⊎◌, Bool, true, false, ◌||◌, ◌&&◌, ◌==◌, nat_le, nat_lt, if◌then◌else◌, List, [], ◌∷◌, ◌++◌, length, codes, Option, Some, None, IsTrue, min}
+use Rattle.std.specs.Prelude.{◌≡◌, ℕ, ◌+◌, ◌-◌, ◌*◌, ◌/◌, ◌^◌, ◌≤◌, Bool, ◌||◌, ◌&&◌, ◌==◌, nat_le, nat_lt, if◌then◌else◌, List, [], ◌∷◌, ◌++◌, length, codes, Option, Some, None, IsTrue, min}
 use Rattle.std.specs.List.{list_all, find, Contains}
 use Rattle.std.specs.Option.{option_and_then, option_map, option_map_or}
 use Rattle.std.specs.Str.{bytes_eq, str_to_ascii_lowercase}
@@ -29,7 +29,7 @@ pub record IsNamed (text : List ℕ) (c : Color) : Type 0 where
 -- the value of a hexadecimal digit, in either case of letters
 abbrev pub hex_value : ℕ → Option ℕ
 hex_value c = if nat_le 48 c && nat_le c 57 then Some (c - 48)
-  else (if nat_le 65 c && nat_le c 70 then Some (c - 55) else (if nat_le 97 c && nat_le c 102 then Some (c - 87) else None))
+    else (if nat_le 65 c && nat_le c 70 then Some (c - 55) else (if nat_le 97 c && nat_le c 102 then Some (c - 87) else None))
 
 abbrev pub IsHexDigit : ℕ → ℕ → Type 0
 IsHexDigit c value = hex_value c ≡ Some value
@@ -37,11 +37,11 @@ IsHexDigit c value = hex_value c ≡ Some value
 -- `#rgb`, `#rrggbb` and `#rrggbbaa`; in the first each digit counts twice
 pub data IsHex : List ℕ → Color → Type 0 where
   short : (x y z r g b : ℕ) → IsHexDigit x r → IsHexDigit y g → IsHexDigit z b
-    → IsHex (35 ∷ x ∷ y ∷ z ∷ []) (color (17 * r) (17 * g) (17 * b) 255)
+      → IsHex (35 ∷ x ∷ y ∷ z ∷ []) (color (17 * r) (17 * g) (17 * b) 255)
   long : (x0 x1 y0 y1 z0 z1 r0 r1 g0 g1 b0 b1 : ℕ) → IsHexDigit x0 r0 → IsHexDigit x1 r1 → IsHexDigit y0 g0 → IsHexDigit y1 g1 → IsHexDigit z0 b0 → IsHexDigit z1 b1
-    → IsHex (35 ∷ x0 ∷ x1 ∷ y0 ∷ y1 ∷ z0 ∷ z1 ∷ []) (color (16 * r0 + r1) (16 * g0 + g1) (16 * b0 + b1) 255)
+      → IsHex (35 ∷ x0 ∷ x1 ∷ y0 ∷ y1 ∷ z0 ∷ z1 ∷ []) (color (16 * r0 + r1) (16 * g0 + g1) (16 * b0 + b1) 255)
   shared : (x0 x1 y0 y1 z0 z1 w0 w1 r0 r1 g0 g1 b0 b1 a0 a1 : ℕ) → IsHexDigit x0 r0 → IsHexDigit x1 r1 → IsHexDigit y0 g0 → IsHexDigit y1 g1 → IsHexDigit z0 b0 → IsHexDigit z1 b1 → IsHexDigit w0 a0 → IsHexDigit w1 a1
-    → IsHex (35 ∷ x0 ∷ x1 ∷ y0 ∷ y1 ∷ z0 ∷ z1 ∷ w0 ∷ w1 ∷ []) (color (16 * r0 + r1) (16 * g0 + g1) (16 * b0 + b1) (16 * a0 + a1))
+      → IsHex (35 ∷ x0 ∷ x1 ∷ y0 ∷ y1 ∷ z0 ∷ z1 ∷ w0 ∷ w1 ∷ []) (color (16 * r0 + r1) (16 * g0 + g1) (16 * b0 + b1) (16 * a0 + a1))
 
 -- space, tab, line feed and carriage return
 abbrev pub is_white : ℕ → Bool
@@ -70,8 +70,8 @@ pub record IsOpacity (text : List ℕ) (opacity : ℕ) : Type 0 where
   pub is_argument : IsArgument text number
   pub few : length number.fraction ≤ 9
   pub value : let below = 10 ^ length number.fraction in
-    let above = if number.negative then 0 else min (number_of_digits (number.whole ++ number.fraction)) below in
-    opacity ≡ (2 * (255 * above) + below) / (2 * below)
+      let above = if number.negative then 0 else min (number_of_digits (number.whole ++ number.fraction)) below in
+      opacity ≡ (2 * (255 * above) + below) / (2 * below)
 
 -- `rgb(r,g,b)`
 pub record IsRgb (text : List ℕ) (c : Color) : Type 0 where
@@ -147,7 +147,7 @@ channel_value d = if nat_lt 0 (length d.fraction) then None else Some (if d.nega
 
 abbrev pub opacity_value : Decimal → Option ℕ
 opacity_value d = if nat_lt 9 (length d.fraction) then None
-  else (let below = 10 ^ length d.fraction in
+    else (let below = 10 ^ length d.fraction in
     let above = if d.negative then 0 else min (number_of_digits (d.whole ++ d.fraction)) below in
     Some ((2 * (255 * above) + below) / (2 * below)))
 

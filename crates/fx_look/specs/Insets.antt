@@ -1,6 +1,6 @@
 -- Four lengths as texts: one for all sides, or four separated by white, in the order top, right, bottom, left.
 -- First the grammar, over what a single length is, then the reading.
-use Rattle.std.specs.Prelude.{◌≡◌, ◌≢◌, ℕ, ◌⊎◌, Bool, not, if◌then◌else◌, List, [], ◌∷◌, ◌++◌, Option, Some, None, IsTrue, ℤ}
+use Rattle.std.specs.Prelude.{◌≡◌, ◌≢◌, ℕ, ◌⊎◌, Bool, not, if◌then◌else◌, List, [], ◌++◌, Option, IsTrue, ℤ}
 use Rattle.std.specs.List.{list_all, list_any}
 use Rattle.std.specs.Option.{option_and_then, option_map}
 use Rattle.fx_base.specs.declared.geometry.Sides.{Sides}
@@ -59,8 +59,8 @@ four top right bottom left = option_and_then (λ t. option_and_then (λ r. optio
 
 abbrev pub sides_at : (List ℕ → Option ℤ) → List ℕ → Option Sides
 sides_at read text = if list_any is_white text
-  then four (read (word text)) (read (word (behind_word text))) (read (word (behind_word (behind_word text)))) (read (behind_word (behind_word (behind_word text))))
-  else four (read text) (read text) (read text) (read text)
+    then four (read (word text)) (read (word (behind_word text))) (read (word (behind_word (behind_word text)))) (read (behind_word (behind_word (behind_word text))))
+    else four (read text) (read text) (read text) (read text)
 
 abbrev pub length_at : Length → List ℕ → Option ℤ
 length_at Number text = number_at text

@@ -1,5 +1,5 @@
 -- Numbers and sizes as texts, and the whole number that each is rounded to.
-use Rattle.std.specs.Prelude.{◌≡◌, ℕ, ◌+◌, ◌-◌, ◌*◌, ◌/◌, ◌^◌, ◌≤◌, ◌⊎◌, Bool, true, false, ◌||◌, ◌&&◌, ◌==◌, nat_le, if◌then◌else◌, List, [], ◌∷◌, ◌++◌, length, codes, Option, Some, None, IsTrue, min, ℤ, pos, neg_ℤ}
+use Rattle.std.specs.Prelude.{◌≡◌, ℕ, ◌+◌, ◌-◌, ◌*◌, ◌/◌, ◌^◌, ◌≤◌, ◌⊎◌, Bool, ◌||◌, ◌==◌, if◌then◌else◌, List, [], ◌∷◌, ◌++◌, length, codes, Option, Some, None, min, ℤ, pos, neg_ℤ}
 use Rattle.std.specs.List.{list_all}
 use Rattle.std.specs.Char.{is_ascii_digit}
 use Rattle.std.specs.Option.{option_and_then, option_map}
@@ -113,5 +113,5 @@ with_unit p = if bytes_eq p.1 [] || bytes_eq p.1 (codes "px") then Some (number_
 
 abbrev pub size_at : List ℕ → Option ℤ
 size_at text = if bytes_eq text (codes "Infinity") || bytes_eq text (codes "Infinitypx") then Some greatest
-  else (if bytes_eq text (codes "-Infinity") || bytes_eq text (codes "-Infinitypx") then Some least
-  else option_and_then with_unit (decimal_at text))
+    else (if bytes_eq text (codes "-Infinity") || bytes_eq text (codes "-Infinitypx") then Some least
+    else option_and_then with_unit (decimal_at text))

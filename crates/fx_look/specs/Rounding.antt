@@ -1,6 +1,6 @@
 -- Rounding as it is read off the digits: those before the moved point are a number, and the first behind it,
 -- which counts as `0` behind the last one, says whether it grows by one.
-use Rattle.std.specs.Prelude.{ℕ, zero, suc, ◌+◌, ◌-◌, ◌*◌, Bool, true, false, ◌&&◌, ◌==◌, nat_le, nat_lt, if◌then◌else◌, List, [], ◌∷◌, ◌++◌, length, drop, slice_index_or}
+use Rattle.std.specs.Prelude.{ℕ, zero, suc, ◌+◌, ◌-◌, ◌*◌, Bool, false, ◌&&◌, ◌==◌, nat_le, nat_lt, if◌then◌else◌, List, [], ◌∷◌, ◌++◌, length, drop, slice_index_or}
 use Rattle.std.specs.List.{list_any}
 use Rattle.fx_look.specs.Decimals.{Decimal}
 use Rattle.fx_look.specs.Numbers.{Power}

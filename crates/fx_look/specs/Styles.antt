@@ -20,28 +20,28 @@ decorating name form = record { name = name; form = form; property = None }
 
 unfoldable pub styles : List StyleRow
 styles = styling (codes "-fx-padding") form.Sides (codes "padding")
-  ∷ styling (codes "-fx-alignment") form.Position (codes "alignment")
-  ∷ styling (codes "-fx-spacing") form.Size (codes "spacing")
-  ∷ styling (codes "-fx-hgap") form.Size (codes "hgap")
-  ∷ styling (codes "-fx-vgap") form.Size (codes "vgap")
-  ∷ styling (codes "-fx-fill-width") form.Truth (codes "fillWidth")
-  ∷ styling (codes "-fx-fill-height") form.Truth (codes "fillHeight")
-  ∷ styling (codes "-fx-min-width") form.Size (codes "minWidth")
-  ∷ styling (codes "-fx-min-height") form.Size (codes "minHeight")
-  ∷ styling (codes "-fx-pref-width") form.Size (codes "prefWidth")
-  ∷ styling (codes "-fx-pref-height") form.Size (codes "prefHeight")
-  ∷ styling (codes "-fx-max-width") form.Size (codes "maxWidth")
-  ∷ styling (codes "-fx-max-height") form.Size (codes "maxHeight")
-  ∷ decorating (codes "-fx-background-color") form.Paints
-  ∷ decorating (codes "-fx-background-insets") form.SidesList
-  ∷ decorating (codes "-fx-border-color") form.Paints
-  ∷ decorating (codes "-fx-border-width") form.SidesList
-  ∷ decorating (codes "-fx-border-insets") form.SidesList
-  ∷ styling (codes "-fx-text-fill") form.Paint (codes "textFill")
-  ∷ styling (codes "-fx-font-size") form.Size (codes "fontSize")
-  ∷ styling (codes "-fx-wrap-text") form.Truth (codes "wrapText")
-  ∷ styling (codes "visibility") form.Visibility (codes "visible")
-  ∷ []
+    ∷ styling (codes "-fx-alignment") form.Position (codes "alignment")
+    ∷ styling (codes "-fx-spacing") form.Size (codes "spacing")
+    ∷ styling (codes "-fx-hgap") form.Size (codes "hgap")
+    ∷ styling (codes "-fx-vgap") form.Size (codes "vgap")
+    ∷ styling (codes "-fx-fill-width") form.Truth (codes "fillWidth")
+    ∷ styling (codes "-fx-fill-height") form.Truth (codes "fillHeight")
+    ∷ styling (codes "-fx-min-width") form.Size (codes "minWidth")
+    ∷ styling (codes "-fx-min-height") form.Size (codes "minHeight")
+    ∷ styling (codes "-fx-pref-width") form.Size (codes "prefWidth")
+    ∷ styling (codes "-fx-pref-height") form.Size (codes "prefHeight")
+    ∷ styling (codes "-fx-max-width") form.Size (codes "maxWidth")
+    ∷ styling (codes "-fx-max-height") form.Size (codes "maxHeight")
+    ∷ decorating (codes "-fx-background-color") form.Paints
+    ∷ decorating (codes "-fx-background-insets") form.SidesList
+    ∷ decorating (codes "-fx-border-color") form.Paints
+    ∷ decorating (codes "-fx-border-width") form.SidesList
+    ∷ decorating (codes "-fx-border-insets") form.SidesList
+    ∷ styling (codes "-fx-text-fill") form.Paint (codes "textFill")
+    ∷ styling (codes "-fx-font-size") form.Size (codes "fontSize")
+    ∷ styling (codes "-fx-wrap-text") form.Truth (codes "wrapText")
+    ∷ styling (codes "visibility") form.Visibility (codes "visible")
+    ∷ []
 
 -- the kind of the values that a declaration of a form gives to its property
 abbrev pub kind_of_form : StyleForm → Option Kind

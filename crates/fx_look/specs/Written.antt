@@ -1,5 +1,5 @@
 -- What the code's decimals and powers stand for.
-use Rattle.std.specs.Prelude.{ℕ, List, ◌++◌}
+use Rattle.std.specs.Prelude.{ℕ, List}
 use Rattle.std.specs.Borrow.{Bor}
 use Rattle.fx_look.specs.Decimals.{Decimal}
 use Rattle.fx_look.specs.Numbers.{Power}

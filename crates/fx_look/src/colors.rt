@@ -28,8 +28,7 @@ pub fn read_color(s: &str) -> Option<Color>
 /// A text spells one colour at most.
 pub fn one_color()
     ensures { (text : List ℕ) (c d : Paint) → IsColor text c → IsColor text d → c ≡ d }
-{
-}
+{}
 
 pub fn color_at(s: &str) -> Option<Color>
     ensures { result ≡ color_at s.now }
@@ -51,7 +50,12 @@ fn word_at(s: &str) -> Option<Color>
     ensures { result ≡ word_at s.now }
 {
     if s == "transparent" {
-        return Some(Color { r: 0, g: 0, b: 0, a: 0 });
+        return Some(Color {
+            r: 0,
+            g: 0,
+            b: 0,
+            a: 0,
+        });
     }
     named(s).map(|pixel| solid(pixel))
 }

@@ -24,8 +24,7 @@ pub fn read_sides(s: &str) -> Option<Sides>
 /// A text spells four sizes in one way at most.
 pub fn one_sides()
     ensures { (text : List ℕ) (s t : Insets) → IsSides IsSize text s → IsSides IsSize text t → s ≡ t }
-{
-}
+{}
 
 /// How each of the four is written: as in a document, or as in a style sheet.
 #[derive(Clone, Copy)]
@@ -62,7 +61,12 @@ pub fn sides_at(length: Length, text: &[u8]) -> Option<Sides>
 }
 
 #[tactic(auto, unfolding(crate::specs::Insets::four))]
-fn four(top: Option<i64>, right: Option<i64>, bottom: Option<i64>, left: Option<i64>) -> Option<Sides>
+fn four(
+    top: Option<i64>,
+    right: Option<i64>,
+    bottom: Option<i64>,
+    left: Option<i64>,
+) -> Option<Sides>
     ensures { result ≡ four top right bottom left }
 {
     Some(Sides {

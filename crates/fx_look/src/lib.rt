@@ -18,4 +18,9 @@ pub use looks::Look;
 pub use numbers::{one_number, one_size, read_number, read_size};
 pub use pixels::blend;
 pub use readings::{one_value, read_value};
-pub use styles::{CodeValue, STYLES, Style, StyleForm, StyleName, style_named, style_table};
+pub use styles::{
+    CodeValue, STYLES, Style, StyleForm, StyleName, each_named, style_named, style_table,
+};
+
+#[cfg(test)]
+mod tests;

@@ -33,14 +33,12 @@ pub fn read_size(s: &str) -> Option<i64>
 /// A text spells one number at most.
 pub fn one_number()
     ensures { (text : List ℕ) (m n : ℤ) → IsNumber text m → IsNumber text n → m ≡ n }
-{
-}
+{}
 
 /// A text spells one size at most.
 pub fn one_size()
     ensures { (text : List ℕ) (m n : ℤ) → IsSize text m → IsSize text n → m ≡ n }
-{
-}
+{}
 
 /// A power of ten: ten to the power `up` - `down`, one of which is 0.
 #[derive(Clone, Copy)]
@@ -51,7 +49,7 @@ struct Power {
 
 const ONE: Power = Power { up: 0, down: 0 };
 
-/// What `number_at` and `read_number` answer is one.
+/// The number that the bytes spell, as `read_number` reads them.
 pub fn number_at(text: &[u8]) -> Option<i64>
     ensures { result ≡ number_at text.now }
 {
@@ -66,7 +64,7 @@ pub fn number_at(text: &[u8]) -> Option<i64>
     Some(rounded(&decimal, power))
 }
 
-/// What `size_at` and `read_size` answer is one.
+/// The size that the bytes spell, as `read_size` reads them.
 pub fn size_at(text: &[u8]) -> Option<i64>
     ensures { result ≡ size_at text.now }
 {

@@ -1,4 +1,5 @@
 //! Colours laid over pixels.
+//! Canvases are painted by them.
 ghost use Rattle.std.specs.Prelude.{◌≡◌, ◌<◌, ◌≤◌, ◌+◌, ◌*◌, ◌-◌, ◌/◌};
 ghost use Rattle.fx_base.specs.Pixel.{channel, blended};
 

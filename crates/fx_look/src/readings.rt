@@ -1,4 +1,5 @@
 //! Property values as documents and scripts write them.
+//! Loaders and script lines read theirs here.
 ghost use Rattle.std.specs.Prelude.{◌≡◌, ◌<◌, ◌≤◌, ℕ, List, IfOk, IfSome, IfNone, map, length};
 ghost use Rattle.std.specs.Option.{option_map};
 ghost use Rattle.std.specs.List.{position};
@@ -34,8 +35,7 @@ pub fn read_value(alloc: Global, kind: Kind, s: &str) -> Result<Option<Value>, A
 /// A text spells one value of a kind at most.
 pub fn one_value()
     ensures { (kind : ValueKind) (text : List ℕ) (v w : Property) → IsValue kind text v → IsValue kind text w → v ≡ w }
-{
-}
+{}
 
 fn value_at(alloc: Global, kind: Kind, s: &str) -> Result<Option<Value>, AllocError>
     ensures { IfOk result (λ o. o ≡ value_at kind s.now) }

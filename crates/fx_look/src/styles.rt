@@ -1,10 +1,10 @@
 //! The style declarations: their names, the forms of their values, and the properties that they style.
 //! Style sheets, the class table and looks are read by this table.
-ghost use Rattle.std.specs.Prelude.{◌≡◌, IfOk, map, length};
+ghost use Rattle.std.specs.Prelude.{◌≡◌, ℕ, Some, IfOk, map};
 ghost use Rattle.std.specs.List.{position};
 ghost use Rattle.std.specs.Str.{bytes_eq};
 ghost use Rattle.std.specs.Option.{option_map};
-ghost use Rattle.fx_look.specs.Styles.{styles, kind_of_form};
+ghost use Rattle.fx_look.specs.Styles.{StyleRow, styles, kind_of_form};
 ghost use Rattle.fx_look.specs.StyleRows.{style_row, style_at, style_named};
 
 use fx_base::{Duplicate, Family, Kind, Value};
@@ -172,6 +172,11 @@ pub fn style_named(name: &str) -> Option<StyleName>
     let place = place_of(name)?;
     Some(StyleName(place))
 }
+
+/// Each declaration is found by its own name, so no two share one.
+pub fn each_named()
+    ensures { (place : ℕ) (row : StyleRow) → style_at place ≡ Some row → style_named row.name ≡ Some place }
+{}
 
 fn place_of(name: &str) -> Option<u32>
     ensures { result ≡ style_named name.now }

@@ -1,5 +1,4 @@
 use Rattle.std.proofs.Common.{◌<◌, subst, sym}
-use Rattle.fx_look.proofs.ColorLemmas.{ten_bound}
 use Rattle.fx_look.proofs.RoundingLemmas.{ten_power}
 use Rattle.fx_look.proofs.colors.ten_power.Goals as goal
 

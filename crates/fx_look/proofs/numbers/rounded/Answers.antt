@@ -6,5 +6,5 @@ use Rattle.fx_look.proofs.numbers.rounded.Goals as goal
 
 pub returns : goal.returns
 returns c = let fits : SFits w64 c.signed.result = search rules in
-  to_z-of_z w64 c.signed.result fits
-  ∙ rounded_found (written c.args.decimal.now) (power_of_ten c.args.power) c.size_of.result c.signed.result c.requires c.size_of.ensures c.signed.ensures
+    to_z-of_z w64 c.signed.result fits
+    ∙ rounded_found (written c.args.decimal.now) (power_of_ten c.args.power) c.size_of.result c.signed.result c.requires c.size_of.ensures c.signed.ensures

@@ -8,6 +8,6 @@ use Rattle.fx_look.proofs.styles.place_of.Goals as goal
 
 pub overflow_cast-result : goal.overflow_cast-result
 overflow_cast-result c =
-  let any : StyleRow = record { name = codes ""; form = form.Size; property = None } in
-  let small : c.in_ok-place.place < 22 = style_small (λ (row : StyleRow). bytes_eq row.name c.args.name.now) (map style_row c.style_table.result.now) c.in_ok-place.place any c.in_ok-place.ensures c.style_table.ensures in
-  search rules
+    let any : StyleRow = record { name = codes ""; form = form.Size; property = None } in
+    let small : c.in_ok-place.place < 22 = style_small (λ (row : StyleRow). bytes_eq row.name c.args.name.now) (map style_row c.style_table.result.now) c.in_ok-place.place any c.in_ok-place.ensures c.style_table.ensures in
+    search rules

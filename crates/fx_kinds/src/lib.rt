@@ -1,0 +1,25 @@
+//! The classes that documents name, the properties of nodes, the constraints of panes, and the facts that styling and
+//! layout are given of a node. A property is one row here.
+#![tactic(auto)]
+
+mod classes;
+mod constraints;
+mod facts;
+mod ignored;
+mod presets;
+mod property_table;
+
+pub use classes::{
+    Class, birth_style, class_of, is_control, is_node, name_of, one_class, package_of,
+    takes_children, value_kind,
+};
+pub use constraints::{ConstraintRow, constraint_of, constraint_table};
+pub use facts::{BoxFacts, Constraint, StyleFacts};
+pub use ignored::{IGNORED, ignored_names, is_ignored};
+pub use presets::Preset;
+pub use property_table::{
+    Property, initial, initial_alignment, one_property, properties, property_named, styled_back,
+};
+
+#[cfg(test)]
+mod tests;

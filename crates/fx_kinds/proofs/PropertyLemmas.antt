@@ -1,5 +1,5 @@
 -- The lists of properties are those that the table gives each class.
-use Rattle.std.proofs.Common.{◌≡◌, ℕ, zero, suc, ◌+◌, ◌<◌, ◌⊎◌, inl, inr, Bool, true, false, cond, not, unwrap_or, slice_index_or, ◌&&◌, ◌||◌, ◌==◌, List, [], ◌∷◌, length, map, Option, Some, None, refl, sym, ap, ◌∙◌, subst, arith}
+use Rattle.std.proofs.Common.{◌≡◌, ℕ, zero, suc, ◌+◌, ◌<◌, inl, inr, Bool, true, false, cond, not, unwrap_or, slice_index_or, ◌&&◌, ◌||◌, ◌==◌, List, [], ◌∷◌, length, map, Option, Some, None, refl, sym, ap, ◌∙◌, subst, arith}
 use Rattle.std.specs.Prelude.{slice_get}
 use Rattle.std.specs.List.{position, prefix_len, find, list_any, Contains}
 use Rattle.std.specs.Option.{option_map}
@@ -15,7 +15,6 @@ use Rattle.fx_look.specs.StyleRows.{style_at}
 use Rattle.fx_kinds.specs.declared.classes.Class.{Class}
 use Rattle.fx_kinds.specs.declared.classes.Class.TheVariants as class
 use Rattle.fx_kinds.specs.declared.property_table.Property.{Property}
-use Rattle.fx_kinds.specs.Classes.{is_node}
 use Rattle.fx_kinds.specs.Listing.{listed_property, listed_with, row_with, initial_value}
 use Rattle.fx_kinds.specs.Properties.{PropertyRow, ListedProperty, rows, rows_of, listed, styled_by, properties_of, initial_of}
 

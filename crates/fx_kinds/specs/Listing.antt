@@ -1,5 +1,4 @@
 -- What the code's properties stand for.
-use Rattle.std.specs.Prelude.{ℕ}
 use Rattle.std.specs.Option.{option_map}
 use Rattle.fx_base.specs.declared.kinds.Family.TheVariants.{Pos as PosFamily}
 use Rattle.fx_base.specs.declared.values.Value.{Value}

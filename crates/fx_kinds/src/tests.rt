@@ -1,9 +1,9 @@
 //! The tables against those of an independent implementation, and each other call on one value.
 use crate::{
-    BoxFacts, Class, Constraint, IGNORED, StyleFacts, birth_style, class_of, constraint_of,
-    constraint_table, ignored_names, initial, initial_alignment, is_control, is_ignored, is_node,
-    name_of, one_class, one_property, package_of, properties, property_named, styled_back,
-    takes_children, value_kind,
+    BoxFacts, Class, Constraint, IGNORED, Property, StyleFacts, birth_style, class_of,
+    constraint_of, constraint_table, ignored_names, initial, initial_alignment, is_control,
+    is_ignored, is_node, name_of, one_class, one_property, package_of, properties, property_named,
+    styled_back, takes_children, value_kind,
 };
 use fx_base::{Family, Kind, List, NodeKey, Text, Value};
 use fx_look::{CodeValue, StyleName};
@@ -158,50 +158,15 @@ static NO_CLASSES: [&str; 12] = [
     "Buttons",
 ];
 
-/// A property's name, kind, whether it is read-only, its initial value as it is printed, and its declaration.
+/// A property's name, kind, whether it is read-only, its initial value as it is printed, and its declaration. Where
+/// the initial value hangs on the class, it is `?`.
 type Expected = (&'static str, Kind, bool, &'static str, &'static str);
 
-static PANE: [Expected; 15] = [
+static ROWS: [Expected; 25] = [
     ("id", Kind::Text, false, "", ""),
     ("visible", Kind::Bool, false, "true", "visibility"),
     ("disable", Kind::Bool, false, "false", ""),
-    ("focusTraversable", Kind::Bool, false, "false", ""),
-    ("layoutX", Kind::Int, false, "0", ""),
-    ("layoutY", Kind::Int, false, "0", ""),
-    ("minWidth", Kind::Int, false, "-1", "-fx-min-width"),
-    ("minHeight", Kind::Int, false, "-1", "-fx-min-height"),
-    ("prefWidth", Kind::Int, false, "-1", "-fx-pref-width"),
-    ("prefHeight", Kind::Int, false, "-1", "-fx-pref-height"),
-    ("maxWidth", Kind::Int, false, "-1", "-fx-max-width"),
-    ("maxHeight", Kind::Int, false, "-1", "-fx-max-height"),
-    ("padding", Kind::Sides, false, "0 0 0 0", "-fx-padding"),
-    ("width", Kind::Int, true, "0", ""),
-    ("height", Kind::Int, true, "0", ""),
-];
-
-static REGION: [Expected; 15] = [
-    ("id", Kind::Text, false, "", ""),
-    ("visible", Kind::Bool, false, "true", "visibility"),
-    ("disable", Kind::Bool, false, "false", ""),
-    ("focusTraversable", Kind::Bool, false, "false", ""),
-    ("layoutX", Kind::Int, false, "0", ""),
-    ("layoutY", Kind::Int, false, "0", ""),
-    ("minWidth", Kind::Int, false, "-1", "-fx-min-width"),
-    ("minHeight", Kind::Int, false, "-1", "-fx-min-height"),
-    ("prefWidth", Kind::Int, false, "-1", "-fx-pref-width"),
-    ("prefHeight", Kind::Int, false, "-1", "-fx-pref-height"),
-    ("maxWidth", Kind::Int, false, "-1", "-fx-max-width"),
-    ("maxHeight", Kind::Int, false, "-1", "-fx-max-height"),
-    ("padding", Kind::Sides, false, "0 0 0 0", "-fx-padding"),
-    ("width", Kind::Int, true, "0", ""),
-    ("height", Kind::Int, true, "0", ""),
-];
-
-static HBOX: [Expected; 18] = [
-    ("id", Kind::Text, false, "", ""),
-    ("visible", Kind::Bool, false, "true", "visibility"),
-    ("disable", Kind::Bool, false, "false", ""),
-    ("focusTraversable", Kind::Bool, false, "false", ""),
+    ("focusTraversable", Kind::Bool, false, "?", ""),
     ("layoutX", Kind::Int, false, "0", ""),
     ("layoutY", Kind::Int, false, "0", ""),
     ("minWidth", Kind::Int, false, "-1", "-fx-min-width"),
@@ -217,184 +182,78 @@ static HBOX: [Expected; 18] = [
         "alignment",
         Kind::Choice(Family::Pos),
         false,
-        "TOP_LEFT",
+        "?",
         "-fx-alignment",
     ),
     ("spacing", Kind::Int, false, "0", "-fx-spacing"),
     ("fillHeight", Kind::Bool, false, "true", "-fx-fill-height"),
-];
-
-static VBOX: [Expected; 18] = [
-    ("id", Kind::Text, false, "", ""),
-    ("visible", Kind::Bool, false, "true", "visibility"),
-    ("disable", Kind::Bool, false, "false", ""),
-    ("focusTraversable", Kind::Bool, false, "false", ""),
-    ("layoutX", Kind::Int, false, "0", ""),
-    ("layoutY", Kind::Int, false, "0", ""),
-    ("minWidth", Kind::Int, false, "-1", "-fx-min-width"),
-    ("minHeight", Kind::Int, false, "-1", "-fx-min-height"),
-    ("prefWidth", Kind::Int, false, "-1", "-fx-pref-width"),
-    ("prefHeight", Kind::Int, false, "-1", "-fx-pref-height"),
-    ("maxWidth", Kind::Int, false, "-1", "-fx-max-width"),
-    ("maxHeight", Kind::Int, false, "-1", "-fx-max-height"),
-    ("padding", Kind::Sides, false, "0 0 0 0", "-fx-padding"),
-    ("width", Kind::Int, true, "0", ""),
-    ("height", Kind::Int, true, "0", ""),
-    (
-        "alignment",
-        Kind::Choice(Family::Pos),
-        false,
-        "TOP_LEFT",
-        "-fx-alignment",
-    ),
-    ("spacing", Kind::Int, false, "0", "-fx-spacing"),
     ("fillWidth", Kind::Bool, false, "true", "-fx-fill-width"),
-];
-
-static BORDER_PANE: [Expected; 15] = [
-    ("id", Kind::Text, false, "", ""),
-    ("visible", Kind::Bool, false, "true", "visibility"),
-    ("disable", Kind::Bool, false, "false", ""),
-    ("focusTraversable", Kind::Bool, false, "false", ""),
-    ("layoutX", Kind::Int, false, "0", ""),
-    ("layoutY", Kind::Int, false, "0", ""),
-    ("minWidth", Kind::Int, false, "-1", "-fx-min-width"),
-    ("minHeight", Kind::Int, false, "-1", "-fx-min-height"),
-    ("prefWidth", Kind::Int, false, "-1", "-fx-pref-width"),
-    ("prefHeight", Kind::Int, false, "-1", "-fx-pref-height"),
-    ("maxWidth", Kind::Int, false, "-1", "-fx-max-width"),
-    ("maxHeight", Kind::Int, false, "-1", "-fx-max-height"),
-    ("padding", Kind::Sides, false, "0 0 0 0", "-fx-padding"),
-    ("width", Kind::Int, true, "0", ""),
-    ("height", Kind::Int, true, "0", ""),
-];
-
-static STACK_PANE: [Expected; 16] = [
-    ("id", Kind::Text, false, "", ""),
-    ("visible", Kind::Bool, false, "true", "visibility"),
-    ("disable", Kind::Bool, false, "false", ""),
-    ("focusTraversable", Kind::Bool, false, "false", ""),
-    ("layoutX", Kind::Int, false, "0", ""),
-    ("layoutY", Kind::Int, false, "0", ""),
-    ("minWidth", Kind::Int, false, "-1", "-fx-min-width"),
-    ("minHeight", Kind::Int, false, "-1", "-fx-min-height"),
-    ("prefWidth", Kind::Int, false, "-1", "-fx-pref-width"),
-    ("prefHeight", Kind::Int, false, "-1", "-fx-pref-height"),
-    ("maxWidth", Kind::Int, false, "-1", "-fx-max-width"),
-    ("maxHeight", Kind::Int, false, "-1", "-fx-max-height"),
-    ("padding", Kind::Sides, false, "0 0 0 0", "-fx-padding"),
-    ("width", Kind::Int, true, "0", ""),
-    ("height", Kind::Int, true, "0", ""),
-    (
-        "alignment",
-        Kind::Choice(Family::Pos),
-        false,
-        "CENTER",
-        "-fx-alignment",
-    ),
-];
-
-static ANCHOR_PANE: [Expected; 15] = [
-    ("id", Kind::Text, false, "", ""),
-    ("visible", Kind::Bool, false, "true", "visibility"),
-    ("disable", Kind::Bool, false, "false", ""),
-    ("focusTraversable", Kind::Bool, false, "false", ""),
-    ("layoutX", Kind::Int, false, "0", ""),
-    ("layoutY", Kind::Int, false, "0", ""),
-    ("minWidth", Kind::Int, false, "-1", "-fx-min-width"),
-    ("minHeight", Kind::Int, false, "-1", "-fx-min-height"),
-    ("prefWidth", Kind::Int, false, "-1", "-fx-pref-width"),
-    ("prefHeight", Kind::Int, false, "-1", "-fx-pref-height"),
-    ("maxWidth", Kind::Int, false, "-1", "-fx-max-width"),
-    ("maxHeight", Kind::Int, false, "-1", "-fx-max-height"),
-    ("padding", Kind::Sides, false, "0 0 0 0", "-fx-padding"),
-    ("width", Kind::Int, true, "0", ""),
-    ("height", Kind::Int, true, "0", ""),
-];
-
-static GRID_PANE: [Expected; 18] = [
-    ("id", Kind::Text, false, "", ""),
-    ("visible", Kind::Bool, false, "true", "visibility"),
-    ("disable", Kind::Bool, false, "false", ""),
-    ("focusTraversable", Kind::Bool, false, "false", ""),
-    ("layoutX", Kind::Int, false, "0", ""),
-    ("layoutY", Kind::Int, false, "0", ""),
-    ("minWidth", Kind::Int, false, "-1", "-fx-min-width"),
-    ("minHeight", Kind::Int, false, "-1", "-fx-min-height"),
-    ("prefWidth", Kind::Int, false, "-1", "-fx-pref-width"),
-    ("prefHeight", Kind::Int, false, "-1", "-fx-pref-height"),
-    ("maxWidth", Kind::Int, false, "-1", "-fx-max-width"),
-    ("maxHeight", Kind::Int, false, "-1", "-fx-max-height"),
-    ("padding", Kind::Sides, false, "0 0 0 0", "-fx-padding"),
-    ("width", Kind::Int, true, "0", ""),
-    ("height", Kind::Int, true, "0", ""),
-    (
-        "alignment",
-        Kind::Choice(Family::Pos),
-        false,
-        "TOP_LEFT",
-        "-fx-alignment",
-    ),
     ("hgap", Kind::Int, false, "0", "-fx-hgap"),
     ("vgap", Kind::Int, false, "0", "-fx-vgap"),
+    ("text", Kind::Text, false, "", ""),
+    ("textFill", Kind::Color, false, "#000000ff", "-fx-text-fill"),
+    ("fontSize", Kind::Int, false, "12", "-fx-font-size"),
+    ("wrapText", Kind::Bool, false, "false", "-fx-wrap-text"),
 ];
 
-static LABEL: [Expected; 20] = [
-    ("id", Kind::Text, false, "", ""),
-    ("visible", Kind::Bool, false, "true", "visibility"),
-    ("disable", Kind::Bool, false, "false", ""),
-    ("focusTraversable", Kind::Bool, false, "false", ""),
-    ("layoutX", Kind::Int, false, "0", ""),
-    ("layoutY", Kind::Int, false, "0", ""),
-    ("minWidth", Kind::Int, false, "-1", "-fx-min-width"),
-    ("minHeight", Kind::Int, false, "-1", "-fx-min-height"),
-    ("prefWidth", Kind::Int, false, "-1", "-fx-pref-width"),
-    ("prefHeight", Kind::Int, false, "-1", "-fx-pref-height"),
-    ("maxWidth", Kind::Int, false, "-1", "-fx-max-width"),
-    ("maxHeight", Kind::Int, false, "-1", "-fx-max-height"),
-    ("padding", Kind::Sides, false, "0 0 0 0", "-fx-padding"),
-    ("width", Kind::Int, true, "0", ""),
-    ("height", Kind::Int, true, "0", ""),
+/// A class with the names of its properties, and its initial `focusTraversable` and `alignment`.
+type Listed = (Class, &'static [&'static str], &'static str, &'static str);
+
+static COMMON: [&str; 15] = [
+    "id",
+    "visible",
+    "disable",
+    "focusTraversable",
+    "layoutX",
+    "layoutY",
+    "minWidth",
+    "minHeight",
+    "prefWidth",
+    "prefHeight",
+    "maxWidth",
+    "maxHeight",
+    "padding",
+    "width",
+    "height",
+];
+
+/// Of each class what its list has behind the common names.
+static LISTS: [Listed; 10] = [
+    (Class::Pane, &[], "false", ""),
+    (Class::Region, &[], "false", ""),
     (
-        "alignment",
-        Kind::Choice(Family::Pos),
-        false,
+        Class::HBox,
+        &["alignment", "spacing", "fillHeight"],
+        "false",
+        "TOP_LEFT",
+    ),
+    (
+        Class::VBox,
+        &["alignment", "spacing", "fillWidth"],
+        "false",
+        "TOP_LEFT",
+    ),
+    (Class::BorderPane, &[], "false", ""),
+    (Class::StackPane, &["alignment"], "false", "CENTER"),
+    (Class::AnchorPane, &[], "false", ""),
+    (
+        Class::GridPane,
+        &["alignment", "hgap", "vgap"],
+        "false",
+        "TOP_LEFT",
+    ),
+    (
+        Class::Label,
+        &["alignment", "text", "textFill", "fontSize", "wrapText"],
+        "false",
         "CENTER_LEFT",
-        "-fx-alignment",
     ),
-    ("text", Kind::Text, false, "", ""),
-    ("textFill", Kind::Color, false, "#000000ff", "-fx-text-fill"),
-    ("fontSize", Kind::Int, false, "12", "-fx-font-size"),
-    ("wrapText", Kind::Bool, false, "false", "-fx-wrap-text"),
-];
-
-static BUTTON: [Expected; 20] = [
-    ("id", Kind::Text, false, "", ""),
-    ("visible", Kind::Bool, false, "true", "visibility"),
-    ("disable", Kind::Bool, false, "false", ""),
-    ("focusTraversable", Kind::Bool, false, "true", ""),
-    ("layoutX", Kind::Int, false, "0", ""),
-    ("layoutY", Kind::Int, false, "0", ""),
-    ("minWidth", Kind::Int, false, "-1", "-fx-min-width"),
-    ("minHeight", Kind::Int, false, "-1", "-fx-min-height"),
-    ("prefWidth", Kind::Int, false, "-1", "-fx-pref-width"),
-    ("prefHeight", Kind::Int, false, "-1", "-fx-pref-height"),
-    ("maxWidth", Kind::Int, false, "-1", "-fx-max-width"),
-    ("maxHeight", Kind::Int, false, "-1", "-fx-max-height"),
-    ("padding", Kind::Sides, false, "0 0 0 0", "-fx-padding"),
-    ("width", Kind::Int, true, "0", ""),
-    ("height", Kind::Int, true, "0", ""),
     (
-        "alignment",
-        Kind::Choice(Family::Pos),
-        false,
+        Class::Button,
+        &["alignment", "text", "textFill", "fontSize", "wrapText"],
+        "true",
         "CENTER",
-        "-fx-alignment",
     ),
-    ("text", Kind::Text, false, "", ""),
-    ("textFill", Kind::Color, false, "#000000ff", "-fx-text-fill"),
-    ("fontSize", Kind::Int, false, "12", "-fx-font-size"),
-    ("wrapText", Kind::Bool, false, "false", "-fx-wrap-text"),
 ];
 
 /// A constraint's name, kind and range.
@@ -442,8 +301,10 @@ static SKIPPED: [&str; 15] = [
     "textAlignment",
 ];
 
-fn assert_classes(rt: &impl Abort) {
-    for (name, class, package, node, children, control) in &CLASSES {
+type Named = (&'static str, Class, &'static str, bool, bool, bool);
+
+fn assert_classes(rt: &impl Abort, table: &[Named]) {
+    for (name, class, package, node, children, control) in table {
         assert_eq!(rt; class_of(name), Some(*class), "{name}");
         assert!(rt; name_of(*class) == *name, "{name}");
         assert!(rt; package_of(*class) == *package, "{name}");
@@ -451,39 +312,111 @@ fn assert_classes(rt: &impl Abort) {
         assert_eq!(rt; takes_children(*class), *children, "{name}");
         assert_eq!(rt; is_control(*class), *control, "{name}");
     }
-    for name in &NO_CLASSES {
+}
+
+fn assert_no_classes(rt: &impl Abort, names: &[&str]) {
+    for name in names {
         assert_eq!(rt; class_of(name), None, "{name}");
     }
 }
 
-fn assert_properties(
+fn shown(alloc: Global, class: Class, place: usize) -> Result<Option<Vec<u8>>, AllocError> {
+    if place >= properties(class).len() {
+        return Ok(None);
+    }
+    let mut printed = Vec::new(alloc);
+    initial(alloc, class, place)?.print(alloc, &mut printed)?;
+    Ok(Some(printed))
+}
+
+fn is_expected(rows: &[Expected], property: &Property) -> bool {
+    let styled = property
+        .styled
+        .and_then(|s| s.style())
+        .map_or("", |s| s.name);
+    rows.iter().any(|row| {
+        row.0 == property.name
+            && row.1 == property.kind
+            && row.2 == property.read_only
+            && row.4 == styled
+    })
+}
+
+fn assert_initial(
     rt: &impl Abort,
     alloc: Global,
-    class: Class,
-    table: &[Expected],
+    rows: &[Expected],
+    list: &Listed,
+    name: &str,
 ) -> Result<(), AllocError> {
-    let list = properties(class);
-    assert_eq!(rt; list.len(), table.len());
-    for (place, (name, kind, read_only, shown, style)) in table.iter().enumerate() {
-        assert!(rt; list[place].name == *name, "{name}");
-        assert_eq!(rt; list[place].kind, *kind, "{name}");
-        assert_eq!(rt; list[place].read_only, *read_only, "{name}");
-        let styled = list[place]
-            .styled
-            .and_then(|s| s.style())
-            .map_or("", |s| s.name);
-        assert!(rt; styled == *style, "{name}");
-        assert_eq!(rt; property_named(class, name), Some(place), "{name}");
-        let mut printed = Vec::new(alloc);
-        initial(alloc, class, place)?.print(alloc, &mut printed)?;
-        assert!(rt; printed.as_slice() == shown.as_bytes(), "{name}");
+    let place = property_named(list.0, name).unwrap_or(99);
+    let initial = match name {
+        "focusTraversable" => list.2,
+        "alignment" => list.3,
+        _ => rows
+            .iter()
+            .find(|row| row.0 == name)
+            .map_or("", |row| row.3),
+    };
+    match shown(alloc, list.0, place)? {
+        Some(text) => assert!(rt; text.as_slice() == initial.as_bytes(), "{name}"),
+        None => assert!(rt; false, "{name}"),
     }
     Ok(())
 }
 
+fn name_at(common: &[&'static str], more: &[&'static str], place: usize) -> &'static str {
+    if place < common.len() {
+        common[place]
+    } else if place - common.len() < more.len() {
+        more[place - common.len()]
+    } else {
+        ""
+    }
+}
+
+fn assert_lists(
+    rt: &impl Abort,
+    alloc: Global,
+    rows: &[Expected],
+    common: &[&'static str],
+    lists: &[Listed],
+) -> Result<(), AllocError> {
+    for list in lists {
+        let found = properties(list.0);
+        assert_eq!(rt; found.len() - common.len().min(found.len()), list.1.len());
+        for (place, property) in found.iter().enumerate() {
+            assert!(rt; property.name == name_at(common, list.1, place), "{place}");
+        }
+        assert!(rt; found.iter().all(|p| is_expected(rows, p)));
+        for property in found {
+            assert_initial(rt, alloc, rows, list, property.name)?;
+        }
+    }
+    Ok(())
+}
+
+fn assert_constraints(rt: &impl Abort, table: &[(&str, Kind, Option<(i64, i64)>)]) {
+    assert_eq!(rt; constraint_table().len(), table.len());
+    for (name, kind, range) in table {
+        let row = constraint_of(name);
+        assert_eq!(rt; row.map(|r| r.kind), Some(*kind), "{name}");
+        assert_eq!(rt; row.map(|r| r.range), Some(*range), "{name}");
+    }
+}
+
+fn assert_ignored(rt: &impl Abort, names: &[&str]) {
+    assert_eq!(rt; IGNORED.len(), names.len());
+    assert_eq!(rt; ignored_names().len(), names.len());
+    for name in names {
+        assert!(rt; is_ignored(name), "{name}");
+    }
+}
+
 #[test]
 fn classes(rt: HostRuntime) {
-    assert_classes(&rt);
+    assert_classes(&rt, &CLASSES);
+    assert_no_classes(&rt, &NO_CLASSES);
     one_class();
     assert_eq!(rt; birth_style(Class::Label), Some("label"));
     assert_eq!(rt; birth_style(Class::Pane), None);
@@ -494,17 +427,7 @@ fn classes(rt: HostRuntime) {
 
 #[test]
 fn tables(rt: HostRuntime) -> Result<(), Fail> {
-    let alloc = rt.alloc();
-    assert_properties(&rt, alloc, Class::Pane, &PANE)?;
-    assert_properties(&rt, alloc, Class::Region, &REGION)?;
-    assert_properties(&rt, alloc, Class::HBox, &HBOX)?;
-    assert_properties(&rt, alloc, Class::VBox, &VBOX)?;
-    assert_properties(&rt, alloc, Class::BorderPane, &BORDER_PANE)?;
-    assert_properties(&rt, alloc, Class::StackPane, &STACK_PANE)?;
-    assert_properties(&rt, alloc, Class::AnchorPane, &ANCHOR_PANE)?;
-    assert_properties(&rt, alloc, Class::GridPane, &GRID_PANE)?;
-    assert_properties(&rt, alloc, Class::Label, &LABEL)?;
-    assert_properties(&rt, alloc, Class::Button, &BUTTON)?;
+    assert_lists(&rt, rt.alloc(), &ROWS, &COMMON, &LISTS)?;
     assert_eq!(rt; properties(Class::Insets).len(), 0);
     assert_eq!(rt; property_named(Class::Pane, "alignment"), None);
     styled_back();
@@ -514,19 +437,10 @@ fn tables(rt: HostRuntime) -> Result<(), Fail> {
 
 #[test]
 fn constraints_and_ignored(rt: HostRuntime) {
-    assert_eq!(rt; constraint_table().len(), CONSTRAINTS.len());
-    for (name, kind, range) in &CONSTRAINTS {
-        let row = constraint_of(name);
-        assert_eq!(rt; row.map(|r| r.kind), Some(*kind), "{name}");
-        assert_eq!(rt; row.map(|r| r.range), Some(*range), "{name}");
-    }
+    assert_constraints(&rt, &CONSTRAINTS);
     assert!(rt; constraint_of("GridPane.margins").is_none());
     assert!(rt; constraint_of("HBox.vgrow").is_none());
-    assert_eq!(rt; IGNORED.len(), SKIPPED.len());
-    assert_eq!(rt; ignored_names().len(), SKIPPED.len());
-    for name in &SKIPPED {
-        assert!(rt; is_ignored(name), "{name}");
-    }
+    assert_ignored(&rt, &SKIPPED);
     assert!(rt; !is_ignored("wrapText") && !is_ignored("xmlns:fx"));
 }
 

@@ -1,0 +1,12 @@
+pub mod DecimalLemmas
+pub mod FillingLemmas
+pub mod FormLemmas
+pub mod FormSteps
+pub mod GrammarLemmas
+pub mod LevelSteps
+pub mod OperandLemmas
+pub mod Outcomes
+pub mod ReadingLemmas
+pub mod SpellingLemmas
+pub mod TextLemmas
+pub mod WordLemmas

@@ -1,0 +1,7 @@
+-- the names so far and those that are read of the rest
+use Rattle.std.proofs.Common.{◌≡◌, ◌-◌, length}
+use Rattle.fx_expr.specs.Scanning.{names_at, with_names}
+use Rattle.fx_expr.proofs.words.more_names.Given as goal
+
+abbrev pub invariant-loop : goal.invariant-loop
+invariant-loop l = with_names l.names.items (names_at (length l.text - l.counter) l.rest) ≡ with_names l.fn.first.items (names_at (length l.text) l.text)

@@ -1,0 +1,11 @@
+pub mod Decimal
+pub mod Filling
+pub mod Form
+pub mod Grammar
+pub mod Meaning
+pub mod Operands
+pub mod Reading
+pub mod Scanning
+pub mod Spelling
+pub mod Tree
+pub mod Typing

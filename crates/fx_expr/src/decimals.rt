@@ -1,0 +1,85 @@
+//! Numbers: digits with an optional fraction, rounded half up.
+ghost use Rattle.std.specs.Prelude.{◌≡◌, ◌-◌, ◌^◌, ◌+◌, min, pos, if◌then◌else◌, length, drop, ◌<◌};
+ghost use Rattle.fx_base.specs.declared.values.Value.TheVariants as value;
+ghost use Rattle.fx_expr.specs.Decimal.{is_digit, passing, behind, number_after, decimal, has_fraction, fraction_digits, fraction_rest, is_upper};
+ghost use Rattle.fx_expr.specs.declared.tokens.Token.TheVariants.{Constant};
+
+use crate::tokens::Token;
+use fx_base::Value;
+
+/// The constant whose digits stand at the front of the text, and what is behind it.
+pub fn number(text: &[char]) -> (Token, &[char])
+    ensures number { result.0 ≡ Constant (value.Int (decimal (passing is_digit text.now) (fraction_digits (behind is_digit text.now)))) }
+    ensures rest { result.1.now ≡ fraction_rest (behind is_digit text.now) }
+{
+    let (whole, behind) = digits(text);
+    let (up, rest) = fraction(behind);
+    (Token::Constant(Value::Int(rounded(whole, up))), rest)
+}
+
+fn rounded(whole: u64, up: bool) -> i64
+    ensures { result ≡ pos (min (whole + (if up then 1 else 0)) (2 ^ 63 - 1)) }
+{
+    let number = if up { whole.saturating_add(1) } else { whole };
+    number.min(i64::MAX as u64) as i64
+}
+
+/// The number of the digits at the front, at most the greatest of its type, and what is behind them.
+fn digits(text: &[char]) -> (u64, &[char])
+    ensures number { result.0 ≡ min (number_after 0 (passing is_digit text.now)) (2 ^ 64 - 1) }
+    ensures rest { result.1.now ≡ behind is_digit text.now }
+{
+    let mut number: u64 = 0;
+    let mut rest = text;
+    while let [first, behind @ ..] = rest {
+        if !is_digit(*first) {
+            return (number, rest);
+        }
+        number = number.saturating_mul(10).saturating_add(digit(*first));
+        rest = behind;
+    }
+    (number, rest)
+}
+
+/// Whether the fraction that stands here rounds up, and what is behind it.
+fn fraction(text: &[char]) -> (bool, &[char])
+    ensures up { result.0 ≡ is_upper (fraction_digits text.now) }
+    ensures rest { result.1.now ≡ fraction_rest text.now }
+{
+    match text {
+        ['.', first, rest @ ..] => {
+            if is_digit(*first) {
+                (*first >= '5', after_digits(rest))
+            } else {
+                (false, text)
+            }
+        }
+        _ => (false, text),
+    }
+}
+
+fn after_digits(text: &[char]) -> &[char]
+    ensures { result.now ≡ behind is_digit text.now }
+{
+    let mut rest = text;
+    while let [first, behind @ ..] = rest {
+        if !is_digit(*first) {
+            return rest;
+        }
+        rest = behind;
+    }
+    rest
+}
+
+/// Is it a digit?
+pub fn is_digit(c: char) -> bool
+    ensures { result ≡ is_digit c }
+{
+    matches!(c, '0'..='9')
+}
+
+fn digit(c: char) -> u64
+    ensures { result ≡ c - 48 }
+{
+    (c as u64).saturating_sub(48)
+}

@@ -1,0 +1,27 @@
+//! Expressions of scenes and scripts: their text is read into a tree, which has a kind and a meaning over
+//! the values of its operands.
+#![tactic(auto)]
+
+mod counting;
+mod decimals;
+mod filling;
+mod form;
+mod grouping;
+mod meaning;
+mod paths;
+mod reading;
+mod scanning;
+mod signs;
+mod stops;
+#[cfg(test)]
+mod tests;
+mod tokens;
+mod tree;
+mod typing;
+mod words;
+
+pub use counting::eval;
+pub use filling::{as_text, fill};
+pub use reading::{ExprError, one_reading, read_expr};
+pub use tree::{BinarySign, Expr, Parsed, UnarySign};
+pub use typing::{KindError, type_of};

@@ -13,12 +13,11 @@ use shelf::FileShelf;
 use sink::OutSink;
 use start::start;
 use std::alloc::AllocError;
-use std::env;
-use std::io;
 use std::marker::Brand;
 use std::process::ExitCode;
 use std::rt::Env;
 use std::sync::ledger::Blank;
+use std::{env, io};
 
 fn main(rt: HostRuntime) -> ExitCode {
     let Ok(words) = words_of(&rt) else {

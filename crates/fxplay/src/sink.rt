@@ -65,3 +65,64 @@ fn write_whole<W: Write>(writer: &mut W, piece: &[u8]) -> io::Result<()>
     }
     writer.flush()
 }
+
+#[cfg(test)]
+mod tests {
+    use super::*;
+    use std::test::Fail;
+
+    /// Takes three bytes at a time while it has room; its flush may fail.
+    #[derive(Drop)]
+    struct Narrow {
+        taken: Vec<u8>,
+        room: usize,
+        flushes: bool,
+    }
+
+    impl Write for Narrow {
+        fn write(&mut self, buf: &[u8]) -> io::Result<usize> {
+            let count = buf.len().min(3).min(self.room);
+            self.room -= count;
+            match self.taken.extend_from_slice(&buf[..count]) {
+                Ok(()) => Ok(count),
+                Err(_) => Err(io::Error::from(ErrorKind::OutOfMemory)),
+            }
+        }
+
+        fn flush(&mut self) -> io::Result<()> {
+            if self.flushes {
+                Ok(())
+            } else {
+                Err(io::Error::from(ErrorKind::BrokenPipe))
+            }
+        }
+    }
+
+    #[test]
+    fn puts_all_or_counts(rt: HostRuntime) -> Result<(), Fail> {
+        let alloc = rt.alloc();
+        let ten = "0123456789";
+        for (room, flushes, piece, taken, faults) in [
+            (99, true, ten, ten, 0),
+            (10, true, ten, ten, 0),
+            (7, true, ten, "0123456", 1),
+            (99, false, ten, ten, 1),
+            (0, true, "", "", 0),
+        ] {
+            let mut sink = OutSink::new(Narrow {
+                taken: Vec::new(alloc),
+                room,
+                flushes,
+            });
+            let want = if faults == 0 {
+                Ok(())
+            } else {
+                Err(PutError::Failed)
+            };
+            assert_eq!(rt; sink.put(piece.as_bytes()), want);
+            assert_eq!(rt; sink.writer.taken.as_slice(), taken.as_bytes());
+            assert_eq!(rt; sink.faults, faults);
+        }
+        Ok(())
+    }
+}

@@ -1,5 +1,5 @@
 -- How what a writer tells to hold grows over several writes.
-use Rattle.std.proofs.Common.{◌≡◌, ℕ, ◌-◌, List, ◌++◌, length, Option, Some, None, sym, ◌∙◌, ap, append_assoc, take, drop, take-append-drop}
+use Rattle.std.proofs.Common.{ℕ, ◌-◌, List, ◌++◌, length, Option, Some, None, ◌∙◌, ap, append_assoc, take, drop, take-append-drop}
 use Rattle.std.proofs.lemmas.List.{take_rest}
 use Rattle.std.specs.Io.KnownBytes.{Appends}
 use Rattle.fxplay.specs.Taken.{AppendsUpTo}

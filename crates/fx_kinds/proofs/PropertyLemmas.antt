@@ -1,5 +1,5 @@
 -- The lists of properties are those that the table gives each class.
-use Rattle.std.proofs.Common.{◌≡◌, ℕ, zero, suc, ◌+◌, ◌<◌, inl, inr, Bool, true, false, cond, not, unwrap_or, slice_index_or, ◌&&◌, ◌||◌, ◌==◌, List, [], ◌∷◌, length, map, Option, Some, None, refl, sym, ap, ◌∙◌, subst, arith}
+use Rattle.std.proofs.Common.{◌≡◌, ℕ, zero, suc, ◌+◌, ◌<◌, inl, inr, Bool, true, false, cond, not, unwrap_or, slice_index_or, ◌&&◌, ◌||◌, ◌==◌, List, [], ◌∷◌, length, map, codes, Option, Some, None, refl, sym, ap, ◌∙◌, subst, arith}
 use Rattle.std.specs.Prelude.{slice_get}
 use Rattle.std.specs.List.{position, prefix_len, find, list_any, Contains}
 use Rattle.std.specs.Option.{option_map}
@@ -8,7 +8,9 @@ use Rattle.std.proofs.lemmas.Bool.{and_parts}
 use Rattle.std.proofs.lemmas.Bool.Decides.{eqb_tells}
 use Rattle.std.proofs.lemmas.List.{length-map}
 use Rattle.std.proofs.lemmas.Option.{slice_get-map, slice_get-get_or}
+use Rattle.fx_base.specs.declared.kinds.Kind.TheVariants as kind
 use Rattle.fx_base.specs.declared.values.Value.{Value}
+use Rattle.fx_base.specs.declared.values.Value.TheVariants as value
 use Rattle.fx_look.specs.declared.styles.StyleForm.TheVariants as form
 use Rattle.fx_look.specs.Styles.{StyleRow, styles, kind_of_form}
 use Rattle.fx_look.specs.StyleRows.{style_at}
@@ -168,6 +170,97 @@ row_back (suc (suc (suc (suc (suc (suc (suc (suc (suc (suc (suc (suc (suc (suc (
 
 pub named_back : (row : PropertyRow) → Contains rows row → NamesBack row
 named_back row c = row_back c.0 row c.1 c.2
+
+-- each declaration of a property styles one
+
+abbrev Styles : List ℕ → ℕ → Type 0
+Styles property place = (row : PropertyRow) × Contains rows row × (row.name ≡ property) × (styled_by row.name ≡ Some place)
+
+abbrev any_row : PropertyRow
+any_row = record { name = []; kind = kind.Int; read_only = false; of = λ c. false; initial = λ c. value.Bool false }
+
+abbrev row_at : ℕ → PropertyRow
+row_at k = slice_index_or rows k any_row
+
+has_property : (a b : StyleRow) (property : List ℕ) → Some a ≡ Some b → b.property ≡ Some property → a.property ≡ Some property
+has_property a b property e f = let same : a ≡ b = cc in ap (λ (s : StyleRow). s.property) same ∙ f
+
+pub style_kept : (place : ℕ) (style : StyleRow) (property : List ℕ) → slice_get styles place ≡ Some style → style.property ≡ Some property → Styles property place
+unfolding rows styled_by styles
+style_kept zero style property e f =
+    let named = has_property (style_of 0) style property e f in
+    let same : codes "padding" ≡ property = cc in
+    subst (λ v. Styles v 0) same (row_at 12, (12, omega arith, refl), refl, refl)
+style_kept (suc zero) style property e f =
+    let named = has_property (style_of 1) style property e f in
+    let same : codes "alignment" ≡ property = cc in
+    subst (λ v. Styles v 1) same (row_at 15, (15, omega arith, refl), refl, refl)
+style_kept (suc (suc zero)) style property e f =
+    let named = has_property (style_of 2) style property e f in
+    let same : codes "spacing" ≡ property = cc in
+    subst (λ v. Styles v 2) same (row_at 16, (16, omega arith, refl), refl, refl)
+style_kept (suc (suc (suc zero))) style property e f =
+    let named = has_property (style_of 3) style property e f in
+    let same : codes "hgap" ≡ property = cc in
+    subst (λ v. Styles v 3) same (row_at 19, (19, omega arith, refl), refl, refl)
+style_kept (suc (suc (suc (suc zero)))) style property e f =
+    let named = has_property (style_of 4) style property e f in
+    let same : codes "vgap" ≡ property = cc in
+    subst (λ v. Styles v 4) same (row_at 20, (20, omega arith, refl), refl, refl)
+style_kept (suc (suc (suc (suc (suc zero))))) style property e f =
+    let named = has_property (style_of 5) style property e f in
+    let same : codes "fillWidth" ≡ property = cc in
+    subst (λ v. Styles v 5) same (row_at 18, (18, omega arith, refl), refl, refl)
+style_kept (suc (suc (suc (suc (suc (suc zero)))))) style property e f =
+    let named = has_property (style_of 6) style property e f in
+    let same : codes "fillHeight" ≡ property = cc in
+    subst (λ v. Styles v 6) same (row_at 17, (17, omega arith, refl), refl, refl)
+style_kept (suc (suc (suc (suc (suc (suc (suc zero))))))) style property e f =
+    let named = has_property (style_of 7) style property e f in
+    let same : codes "minWidth" ≡ property = cc in
+    subst (λ v. Styles v 7) same (row_at 6, (6, omega arith, refl), refl, refl)
+style_kept (suc (suc (suc (suc (suc (suc (suc (suc zero)))))))) style property e f =
+    let named = has_property (style_of 8) style property e f in
+    let same : codes "minHeight" ≡ property = cc in
+    subst (λ v. Styles v 8) same (row_at 7, (7, omega arith, refl), refl, refl)
+style_kept (suc (suc (suc (suc (suc (suc (suc (suc (suc zero))))))))) style property e f =
+    let named = has_property (style_of 9) style property e f in
+    let same : codes "prefWidth" ≡ property = cc in
+    subst (λ v. Styles v 9) same (row_at 8, (8, omega arith, refl), refl, refl)
+style_kept (suc (suc (suc (suc (suc (suc (suc (suc (suc (suc zero)))))))))) style property e f =
+    let named = has_property (style_of 10) style property e f in
+    let same : codes "prefHeight" ≡ property = cc in
+    subst (λ v. Styles v 10) same (row_at 9, (9, omega arith, refl), refl, refl)
+style_kept (suc (suc (suc (suc (suc (suc (suc (suc (suc (suc (suc zero))))))))))) style property e f =
+    let named = has_property (style_of 11) style property e f in
+    let same : codes "maxWidth" ≡ property = cc in
+    subst (λ v. Styles v 11) same (row_at 10, (10, omega arith, refl), refl, refl)
+style_kept (suc (suc (suc (suc (suc (suc (suc (suc (suc (suc (suc (suc zero)))))))))))) style property e f =
+    let named = has_property (style_of 12) style property e f in
+    let same : codes "maxHeight" ≡ property = cc in
+    subst (λ v. Styles v 12) same (row_at 11, (11, omega arith, refl), refl, refl)
+style_kept (suc (suc (suc (suc (suc (suc (suc (suc (suc (suc (suc (suc (suc zero))))))))))))) style property e f = let named = has_property (style_of 13) style property e f in absurd (cc)
+style_kept (suc (suc (suc (suc (suc (suc (suc (suc (suc (suc (suc (suc (suc (suc zero)))))))))))))) style property e f = let named = has_property (style_of 14) style property e f in absurd (cc)
+style_kept (suc (suc (suc (suc (suc (suc (suc (suc (suc (suc (suc (suc (suc (suc (suc zero))))))))))))))) style property e f = let named = has_property (style_of 15) style property e f in absurd (cc)
+style_kept (suc (suc (suc (suc (suc (suc (suc (suc (suc (suc (suc (suc (suc (suc (suc (suc zero)))))))))))))))) style property e f = let named = has_property (style_of 16) style property e f in absurd (cc)
+style_kept (suc (suc (suc (suc (suc (suc (suc (suc (suc (suc (suc (suc (suc (suc (suc (suc (suc zero))))))))))))))))) style property e f = let named = has_property (style_of 17) style property e f in absurd (cc)
+style_kept (suc (suc (suc (suc (suc (suc (suc (suc (suc (suc (suc (suc (suc (suc (suc (suc (suc (suc zero)))))))))))))))))) style property e f =
+    let named = has_property (style_of 18) style property e f in
+    let same : codes "textFill" ≡ property = cc in
+    subst (λ v. Styles v 18) same (row_at 22, (22, omega arith, refl), refl, refl)
+style_kept (suc (suc (suc (suc (suc (suc (suc (suc (suc (suc (suc (suc (suc (suc (suc (suc (suc (suc (suc zero))))))))))))))))))) style property e f =
+    let named = has_property (style_of 19) style property e f in
+    let same : codes "fontSize" ≡ property = cc in
+    subst (λ v. Styles v 19) same (row_at 23, (23, omega arith, refl), refl, refl)
+style_kept (suc (suc (suc (suc (suc (suc (suc (suc (suc (suc (suc (suc (suc (suc (suc (suc (suc (suc (suc (suc zero)))))))))))))))))))) style property e f =
+    let named = has_property (style_of 20) style property e f in
+    let same : codes "wrapText" ≡ property = cc in
+    subst (λ v. Styles v 20) same (row_at 24, (24, omega arith, refl), refl, refl)
+style_kept (suc (suc (suc (suc (suc (suc (suc (suc (suc (suc (suc (suc (suc (suc (suc (suc (suc (suc (suc (suc (suc zero))))))))))))))))))))) style property e f =
+    let named = has_property (style_of 21) style property e f in
+    let same : codes "visible" ≡ property = cc in
+    subst (λ v. Styles v 21) same (row_at 1, (1, omega arith, refl), refl, refl)
+style_kept (suc (suc (suc (suc (suc (suc (suc (suc (suc (suc (suc (suc (suc (suc (suc (suc (suc (suc (suc (suc (suc (suc k)))))))))))))))))))))) style property e f = absurd (cc)
 
 -- the place in a list of views
 

@@ -1,8 +1,8 @@
 //! The constraints that a pane reads of its children, as documents name them.
 //! Loaders read their values by this table.
-ghost use Rattle.std.specs.Prelude.{◌≡◌, map};
+ghost use Rattle.std.specs.Prelude.{◌≡◌, Some, map};
 ghost use Rattle.std.specs.Option.{option_map};
-ghost use Rattle.std.specs.List.{find};
+ghost use Rattle.std.specs.List.{Contains, find};
 ghost use Rattle.std.specs.Str.{bytes_eq};
 ghost use Rattle.fx_kinds.specs.Constraints.{ConstraintEntry, constraint_named, constraints};
 ghost use Rattle.fx_kinds.specs.ConstraintRows.{constraint_entry};
@@ -182,6 +182,11 @@ pub fn constraint_table() -> &'static [ConstraintRow]
 {
     &CONSTRAINTS
 }
+
+/// Each constraint is found by its own name, so no two share one.
+pub fn each_constraint_named()
+    ensures { (e : ConstraintEntry) → Contains constraints e → constraint_named e.name ≡ Some e }
+{}
 
 fn find_entry(table: &[ConstraintRow], name: &str) -> Option<ConstraintRow>
     ensures { option_map constraint_entry result ≡ find (λ (e : ConstraintEntry). bytes_eq e.name name.now) (map constraint_entry table.now) }

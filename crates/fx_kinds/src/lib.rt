@@ -13,7 +13,7 @@ pub use classes::{
     Class, birth_style, class_of, is_control, is_node, name_of, one_class, package_of,
     takes_children, value_kind,
 };
-pub use constraints::{ConstraintRow, constraint_of, constraint_table};
+pub use constraints::{ConstraintRow, constraint_of, constraint_table, each_constraint_named};
 pub use facts::{BoxFacts, Constraint, StyleFacts};
 pub use ignored::{IGNORED, ignored_names, is_ignored};
 pub use presets::Preset;

@@ -1,6 +1,6 @@
 //! The properties of nodes: of each its name, kind, initial value and style declaration, and of which classes it is.
 //! Loaders, script lines and facts for styling go by this table.
-ghost use Rattle.std.specs.Prelude.{◌≡◌, ◌≢◌, ◌<◌, ℕ, Some, IfSome, IsOkAnd, map, length, slice_get};
+ghost use Rattle.std.specs.Prelude.{◌≡◌, ◌≢◌, ◌<◌, ℕ, List, Some, IfSome, IsOkAnd, map, length, slice_get};
 ghost use Rattle.std.specs.List.{Contains, position};
 ghost use Rattle.std.specs.Str.{bytes_eq};
 ghost use Rattle.fx_look.specs.Styles.{StyleRow, kind_of_form};
@@ -358,6 +358,11 @@ fn find_row(list: &[Property], name: &str) -> Option<usize>
 /// The declaration that styles a property names it back, and its values are of the property's kind.
 pub fn styled_back()
     ensures { (row : PropertyRow) → Contains rows row → (place : ℕ) → styled_by row.name ≡ Some place → (style : StyleRow) × (style_at place ≡ Some style) × (style.property ≡ Some row.name) × (kind_of_form style.form ≡ Some row.kind) }
+{}
+
+/// A declaration that styles a property is that property's.
+pub fn each_styled()
+    ensures { (place : ℕ) (style : StyleRow) (property : List ℕ) → style_at place ≡ Some style → style.property ≡ Some property → (row : PropertyRow) × Contains rows row × (row.name ≡ property) × (styled_by row.name ≡ Some place) }
 {}
 
 /// No two properties of a class share a name.

@@ -1,9 +1,9 @@
 //! The tables against those of an independent implementation, and each other call on one value.
 use crate::{
     BoxFacts, Class, Constraint, IGNORED, Property, StyleFacts, birth_style, class_of,
-    constraint_of, constraint_table, ignored_names, initial, initial_alignment, is_control,
-    is_ignored, is_node, name_of, one_class, one_property, package_of, properties, property_named,
-    styled_back, takes_children, value_kind,
+    constraint_of, constraint_table, each_constraint_named, each_styled, ignored_names, initial,
+    initial_alignment, is_control, is_ignored, is_node, name_of, one_class, one_property,
+    package_of, properties, property_named, styled_back, takes_children, value_kind,
 };
 use fx_base::{Family, Kind, List, NodeKey, Text, Value};
 use fx_look::{CodeValue, StyleName};
@@ -431,6 +431,7 @@ fn tables(rt: HostRuntime) -> Result<(), Fail> {
     assert_eq!(rt; properties(Class::Insets).len(), 0);
     assert_eq!(rt; property_named(Class::Pane, "alignment"), None);
     styled_back();
+    each_styled();
     one_property();
     Ok(())
 }
@@ -440,6 +441,7 @@ fn constraints_and_ignored(rt: HostRuntime) {
     assert_constraints(&rt, &CONSTRAINTS);
     assert!(rt; constraint_of("GridPane.margins").is_none());
     assert!(rt; constraint_of("HBox.vgrow").is_none());
+    each_constraint_named();
     assert_ignored(&rt, &SKIPPED);
     assert!(rt; !is_ignored("wrapText") && !is_ignored("xmlns:fx"));
 }

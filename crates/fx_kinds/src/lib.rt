@@ -18,7 +18,8 @@ pub use facts::{BoxFacts, Constraint, StyleFacts};
 pub use ignored::{IGNORED, ignored_names, is_ignored};
 pub use presets::Preset;
 pub use property_table::{
-    Property, initial, initial_alignment, one_property, properties, property_named, styled_back,
+    Property, each_styled, initial, initial_alignment, one_property, properties, property_named,
+    styled_back,
 };
 
 #[cfg(test)]

@@ -1,9 +1,9 @@
-pub mod Plain
-pub mod ViewLemmas
+pub mod Texts
+pub mod Trees
+pub mod Defaults
+pub mod Trims
+pub mod Names
+pub mod Stacks
 pub mod Loops
-pub mod Lists
-pub mod Sound
-pub mod Nesting
-pub mod Complete
-pub mod Whole
-pub mod WalkLemmas
+pub mod Answered
+pub mod JudgementLemmas

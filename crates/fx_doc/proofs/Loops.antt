@@ -1,59 +1,105 @@
--- The loops of the reader against their functions on lists.
-use Rattle.std.proofs.Common.{◌≡◌, ℕ, zero, suc, ◌+◌, ◌-◌, ◌<◌, ◌≤◌, List, [], ◌∷◌, ◌++◌, length, Option, Some, None, sym, ap, ◌∙◌, arith, nat_lt, cond, lt-ltb}
-use Rattle.fx_doc.specs.Outline.{Attr}
-use Rattle.fx_doc.specs.Machine.{State}
-use Rattle.fx_doc.specs.declared.error.DocError.{DocError}
-use Rattle.fx_doc.specs.declared.error.DocError.TheVariants.{NotBuilt, Memory}
-use Rattle.fx_doc.specs.Reading.{At, Fails, ◌>>=◌, next_of, more_at, attributes_at, past_white, next_at, read_over}
+-- A loop over the characters of a text: what has come so far, the character at hand, and the rest; and what a turn gives.
+-- Below the answers on the reader's loop.
+use Rattle.std.proofs.Common.{◌≡◌, ℕ, ◌+◌, ◌<◌, ◌≤◌, ◌^◌, Bool, true, false, List, [], ◌∷◌, ◌++◌, suc, map, length, take, drop, get_or, drop-cons, refl, sym, ◌∙◌, ap, subst, arith, Some, None, Result, Ok, Err, ◌||◌}
+use Rattle.std.proofs.lemmas.List.{take-append-drop, map-id}
+use Rattle.std.specs.Result.{IsErrAnd}
+use lib.Dec.{leb, ltb}
+use Rattle.fx_markup.specs.Characters.{start, after_all}
+use Rattle.fx_markup.specs.Grammar.{Spells}
+use Rattle.fx_markup.specs.Machine.{Mode, Naming, initial, run, answer, is_long, mode_long, level_long, stack_depth}
+use Rattle.fx_markup.specs.Beginnings.{IsWithinLimits, IsStopped}
+use Rattle.fx_markup.proofs.Advance.{sound}
+use Rattle.fx_markup.proofs.Roots.{line_bound, column_bound}
+use Rattle.fx_markup.proofs.Turns.{run_more, limits_more, stopped_here, stopped_end, too_long, too_deep}
+use Rattle.fx_markup.specs.declared.Place.{Place}
+use Rattle.fx_doc.specs.Views.{view, reading, IsDeepMode, mode_view, stack_view}
+use Rattle.fx_doc.specs.Reads.{IsNext, IsRead, place_of}
+use Rattle.fx_doc.specs.declared.document.Document.{Document}
+use Rattle.fx_doc.specs.declared.document.DocError.{DocError}
+use Rattle.fx_doc.specs.declared.document.DocError.TheVariants.{NotUtf8, Markup, Depth, Long, Memory}
+use Rattle.fx_doc.specs.declared.modes.Reader.{Reader}
+use Rattle.fx_doc.specs.declared.modes.Mode.{Mode as ModeHere}
+use Rattle.fx_doc.specs.declared.modes.Mode.TheVariants as v
 
-attributes_turn : (n i : ℕ) (seen : List Attr) (a : At) → i < n → attributes_at (n - i) seen a ≡ (more_at seen a >>= λ r. next_of seen r.0 (λ more. attributes_at (n - (i + 1)) (seen ++ (more ∷ [])) r.1) r.1)
-attributes_turn n i seen a h = let e : n - i ≡ suc (n - (i + 1)) = omega arith in ap (λ k. attributes_at k seen a) e
+pub record IsTurn (all said : List ℕ) (c : ℕ) : Type 0 where
+  pub more : List ℕ
+  pub split : all ≡ said ++ (c ∷ more)
+  pub short : length said < length all
 
-pub one_more : (n i : ℕ) (seen : List Attr) (a b : At) (x : Attr) (all : Option (List Attr × At)) → i < n → attributes_at (n - i) seen a ≡ all → more_at seen a ≡ Some (Some x, b)
-    → attributes_at (n - (i + 1)) (seen ++ (x ∷ [])) b ≡ all
-one_more n i seen a b x all h inv e =
-    sym (ap (λ o. o >>= λ r. next_of seen r.0 (λ more. attributes_at (n - (i + 1)) (seen ++ (more ∷ [])) r.1) r.1) e) ∙ (sym (attributes_turn n i seen a h) ∙ inv)
+pub turn : (all said : List ℕ) (c : ℕ) → map (λ (x : ℕ). x) said ≡ take (length said) all → length said < length all → c ≡ get_or all (length said) c → IsTurn all said c
+turn all said c e h g = record {
+  more = drop (suc (length said)) all;
+  split = sym (take-append-drop (length said) all) ∙ (ap (λ y. y ++ drop (length said) all) (sym e ∙ map-id said) ∙ ap (λ y. said ++ y) (drop-cons all (length said) c h ∙ ap (λ y. y ∷ drop (suc (length said)) all) (sym g)));
+  short = h;
+}
 
-pub no_more : (n i : ℕ) (seen : List Attr) (a b : At) (all : Option (List Attr × At)) → i < n → attributes_at (n - i) seen a ≡ all → more_at seen a ≡ Some (None, b) → all ≡ Some (seen, b)
-no_more n i seen a b all h inv e =
-    sym inv ∙ (attributes_turn n i seen a h ∙ ap (λ o. o >>= λ r. next_of seen r.0 (λ more. attributes_at (n - (i + 1)) (seen ++ (more ∷ [])) r.1) r.1) e)
+pub line_small : (all said : List ℕ) (p : Place) (n : ℕ) → length said < length all → length all ≤ n → n ≤ 4194304 → p ≡ after_all start said → p.line < 2 ^ 31
+line_small all said p n h k m q =
+    let b : (after_all start said).line ≤ 1 + length said = line_bound start said in
+    let e : p.line ≡ (after_all start said).line = ap (λ (y : Place). y.line) q in
+    omega arith
 
-pub more_fails : (n i : ℕ) (seen : List Attr) (a : At) (all : Option (List Attr × At)) → i < n → attributes_at (n - i) seen a ≡ all → more_at seen a ≡ None → all ≡ None
-more_fails n i seen a all h inv e =
-    sym inv ∙ (attributes_turn n i seen a h ∙ ap (λ o. o >>= λ r. next_of seen r.0 (λ more. attributes_at (n - (i + 1)) (seen ++ (more ∷ [])) r.1) r.1) e)
+pub column_small : (all said : List ℕ) (p : Place) (n : ℕ) → length said < length all → length all ≤ n → n ≤ 4194304 → p ≡ after_all start said → p.column < 2 ^ 31
+column_small all said p n h k m q =
+    let b : (after_all start said).column ≤ 1 + length said = column_bound start said in
+    let e : p.column ≡ (after_all start said).column = ap (λ (y : Place). y.column) q in
+    omega arith
 
-pub too_long : (n i : ℕ) (seen : List Attr) (a : At) (all : Option (List Attr × At)) → n ≤ i → attributes_at (n - i) seen a ≡ all → all ≡ None
-too_long n i seen a all h inv = let e : n - i ≡ zero = omega arith in sym inv ∙ ap (λ k. attributes_at k seen a) e
+-- no reader holds a text that is too long: its drafts are short
 
-read_turn : (n i : ℕ) (s : State) (a : At) → i < n → read_over (n - i) s a ≡ cond (nat_lt 0 (length (past_white a).rest)) (next_at s (past_white a) >>= λ r. read_over (n - (i + 1)) r.0 r.1) (Some s)
-read_turn n i s a h = let e : n - i ≡ suc (n - (i + 1)) = omega arith in ap (λ k. read_over k s a) e
+not_past : (n : ℕ) → n ≤ 4096 → ltb 4096 n ≡ false
+not_past n h = grind arith
 
-pub piece_more : (n i : ℕ) (s t : State) (a b c : At) (all : Option State) → i < n → read_over (n - i) s a ≡ all → b ≡ past_white a → 0 < length b.rest → next_at s b ≡ Some (t, c) → read_over (n - (i + 1)) t c ≡ all
-piece_more n i s t a b c all h inv w l e =
-    sym (ap (λ o. o >>= λ r. read_over (n - (i + 1)) r.0 r.1) e)
-    ∙ (sym (ap (λ x. cond x (next_at s b >>= λ r. read_over (n - (i + 1)) r.0 r.1) (Some s)) (lt-ltb 0 (length b.rest) l)) ∙ (ap (λ (x : At). cond (nat_lt 0 (length x.rest)) (next_at s x >>= λ r. read_over (n - (i + 1)) r.0 r.1) (Some s)) w ∙ (sym (read_turn n i s a h) ∙ inv)))
+or_none : (a b : Bool) → a ≡ false → b ≡ false → (a || b) ≡ false
+or_none true b e f = Prim.cc
+or_none false b e f = f
 
-pub piece_fails : (n i : ℕ) (s : State) (a b : At) (all : Option State) → i < n → read_over (n - i) s a ≡ all → b ≡ past_white a → 0 < length b.rest → next_at s b ≡ None → all ≡ None
-piece_fails n i s a b all h inv w l e =
-    sym inv ∙ (read_turn n i s a h ∙ (sym (ap (λ (x : At). cond (nat_lt 0 (length x.rest)) (next_at s x >>= λ r. read_over (n - (i + 1)) r.0 r.1) (Some s)) w)
-    ∙ (ap (λ x. cond x (next_at s b >>= λ r. read_over (n - (i + 1)) r.0 r.1) (Some s)) (lt-ltb 0 (length b.rest) l) ∙ ap (λ o. o >>= λ r. read_over (n - (i + 1)) r.0 r.1) e)))
+mode_short : (r : Reader) (m : ModeHere) → r.mode ≡ m → mode_long (mode_view (stack_view r.held.stack.items) m) ≡ false
+mode_short r (v.Instructing w) e = not_past _ w.short
+mode_short r (v.Naming p w) e = not_past _ w.short
+mode_short r (v.Keyed h p w) e = not_past _ w.short
+mode_short r (v.Quoted x) e = not_past x.value.count x.value.short
+mode_short r (v.ValueReferring x p f) e = not_past x.value.count x.value.short
+mode_short r m e = refl
 
-pub at_end : (n i : ℕ) (s : State) (a b : At) (all : Option State) → i < n → read_over (n - i) s a ≡ all → b ≡ past_white a → length b.rest ≡ 0 → all ≡ Some s
-at_end n i s a b all h inv w l =
-    sym inv ∙ (read_turn n i s a h ∙ (sym (ap (λ (x : At). cond (nat_lt 0 (length x.rest)) (next_at s x >>= λ r. read_over (n - (i + 1)) r.0 r.1) (Some s)) w)
-    ∙ ap (λ x. cond (nat_lt 0 x) (next_at s b >>= λ r. read_over (n - (i + 1)) r.0 r.1) (Some s)) l))
+pub never_long : (r : Reader) → is_long (view r) ≡ false
+never_long r = or_none (mode_long (view r).mode) (level_long (view r).held) (mode_short r r.mode refl) (not_past r.held.level.run.count r.held.level.run.short)
 
-pub no_piece : (n i : ℕ) (s : State) (a : At) (all : Option State) → n ≤ i → read_over (n - i) s a ≡ all → all ≡ None
-no_piece n i s a all h inv = let e : n - i ≡ zero = omega arith in sym inv ∙ ap (λ k. read_over k s a) e
+-- a turn that goes on
 
--- the same where the ones before are lent as a slice
-pub one_more_lent : (n i : ℕ) (seen lent : List Attr) (a b : At) (x : Attr) (all : Option (List Attr × At)) → i < n → attributes_at (n - i) seen a ≡ all → lent ≡ seen → more_at lent a ≡ Some (Some x, b)
-    → attributes_at (n - (i + 1)) (seen ++ (x ∷ [])) b ≡ all
-one_more_lent n i seen lent a b x all h inv l e = one_more n i seen a b x all h inv (sym (ap (λ s. more_at s a) l) ∙ e)
+pub goes_on : (said : List ℕ) (c : ℕ) (p : Place) (r r' : Reader) → run start (Some initial) said ≡ Some (view r) → p ≡ after_all start said → IsNext (view r) p c (Ok r') → run start (Some initial) (said ++ (c ∷ [])) ≡ Some (view r')
+goes_on said c p r r' h q x = run_more said c p (view r) (view r') h q x.0
 
-pub no_more_lent : (n i : ℕ) (seen lent : List Attr) (a b : At) (all : Option (List Attr × At)) → i < n → attributes_at (n - i) seen a ≡ all → lent ≡ seen → more_at lent a ≡ Some (None, b) → all ≡ Some (seen, b)
-no_more_lent n i seen lent a b all h inv l e = no_more n i seen a b all h inv (sym (ap (λ s. more_at s a) l) ∙ e)
+pub within_on : (said : List ℕ) (c : ℕ) (p : Place) (r r' : Reader) → run start (Some initial) said ≡ Some (view r) → p ≡ after_all start said → IsWithinLimits said → IsNext (view r) p c (Ok r') → IsWithinLimits (said ++ (c ∷ []))
+within_on said c p r r' h q w x = limits_more said c p (view r) (view r') h q x.0 w x.1 (never_long r')
 
-pub attributes_fail_lent : (e : DocError) (n i : ℕ) (seen lent : List Attr) (a : At) (all : Option (List Attr × At)) → i < n → attributes_at (n - i) seen a ≡ all → lent ≡ seen → Fails e (more_at lent a) → Fails e all
-attributes_fail_lent NotBuilt n i seen lent a all h inv l f = more_fails n i seen a all h inv (sym (ap (λ s. more_at s a) l) ∙ f)
-attributes_fail_lent Memory n i seen lent a all h inv l f = tt
+-- a turn that stops
+
+deep_naming : (m : Mode) (p : Place) → IsDeepMode m p → (n : List ℕ) × (m ≡ Naming p n)
+deep_naming (Naming q n) p e = (n, ap (λ y. Naming y n) e)
+deep_naming m p e = absurd e
+
+deep_leb : (n : ℕ) → 128 ≤ n → leb 128 n ≡ true
+deep_leb n h = grind arith
+
+pub stops : (all said : List ℕ) (c : ℕ) (p : Place) (r : Reader) (e : DocError) → IsTurn all said c → run start (Some initial) said ≡ Some (view r) → p ≡ after_all start said → IsWithinLimits said → IsNext (view r) p c (Err e) → IsRead all (Err e)
+stops all said c p r (Markup line column) t h q w x = stopped_here all said c t.more p (place_of line column) (view r) t.split h q w x.0 x.1
+stops all said c p r (Long line column) t h q w x = too_long all said c t.more p (place_of line column) (view r) x.0 t.split h q w x.1 (never_long r) x.2 x.3
+stops all said c p r (Depth line column) t h q w x =
+    let n = deep_naming x.0.mode (place_of line column) x.2.0 in
+    too_deep all said c t.more p (place_of line column) (view r) x.0 n.0 t.split h q w x.1 n.1 (deep_leb (stack_depth x.0.held.stack) x.2.1)
+stops all said c p r (NotUtf8 n) t h q w x = absurd x
+stops all said c p r Memory t h q w x = tt
+
+-- the end of the text
+
+pub ends_read : (all said : List ℕ) (r : Reader) (d : Document) → said ≡ all → run start (Some initial) said ≡ Some (view r) → IsWithinLimits said → answer (view r) ≡ Some (reading d) → IsRead all (Ok d)
+ends_read all said r d e h w a = (subst (λ y. Spells y (reading d)) e (sound said (view r) (reading d) h a), subst IsWithinLimits e w)
+
+pub ends_stopped : (all said : List ℕ) (p : Place) (r : Reader) → said ≡ all → run start (Some initial) said ≡ Some (view r) → p ≡ after_all start said → IsWithinLimits said → answer (view r) ≡ None → IsStopped all p
+ends_stopped all said p r e h q w a = stopped_end all said p (view r) (sym e) h q w a
+
+-- an error that is passed on
+pub passed : (all : List ℕ) (r : Result Document DocError) (e : DocError) → IsErrAnd r (λ y. y ≡ e) → IsRead all (Err e) → IsRead all r
+passed all (Ok d) e h x = absurd h
+passed all (Err y) e h x = subst (λ (z : DocError). IsRead all (Err z)) (sym h) x

@@ -1,6 +1,3 @@
-pub mod Grammar
-pub mod Machine
-pub mod Names
-pub mod Outline
-pub mod Reading
-pub mod View
+pub mod Views
+pub mod Reads
+pub mod Judgements

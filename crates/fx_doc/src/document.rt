@@ -1,77 +1,72 @@
-//! The reading of a whole document.
-//! Piece after piece goes from the reader to the builder.
-ghost use Rattle.std.specs.Prelude.{◌≡◌, ◌≤◌, ◌+◌, length, Err, IfOk, List, ℕ};
-ghost use Rattle.fx_doc.specs.Grammar.{Spells, start};
-ghost use Rattle.fx_doc.specs.Machine.{initial, state_of};
-ghost use Rattle.fx_doc.specs.Outline.{Outline};
-ghost use Rattle.fx_doc.specs.Reading.{at_of, Gives, Reads, next_at, read_over, read_of};
-ghost use Rattle.fx_doc.specs.View.{document_of};
+//! A document as it is read, and why bytes are none.
+//! The reader makes these; the loader walks them.
+use fx_base::{List, Text};
+use std::alloc::AllocError;
+use thiserror::Error;
 
-use crate::builder::Builder;
-use crate::error::DocError;
-use crate::reader::Reader;
-use crate::tags::{closing, instruction, tag};
-use crate::tree::Document;
-use std::alloc::Global;
+/// A document: what its import instructions name, and its root element.
+#[derive(Drop)]
+pub struct Document {
+    /// The trimmed texts of the `import` instructions before the root.
+    pub imports: List<Text>,
+    pub root: Element,
+}
 
-/// One piece more.
-#[tactic(auto, unfolding(crate::specs::Reading::next_at, crate::specs::Reading::mark_at))]
-fn next(alloc: Global, builder: Builder, reader: &mut Reader<'_>) -> Result<Builder, DocError>
-    ensures { Reads state_of result (at_of reader.new) (next_at (state_of builder) (at_of reader.old)) }
-{
-    let place = reader.place;
-    if reader.literal(b"</") {
-        let name = closing(alloc, reader)?;
-        return builder.finish(name);
+/// An element, at the place of its `<`.
+#[cycle(tree)]
+#[derive(Drop)]
+pub struct Element {
+    pub name: Text,
+    pub attributes: List<Attribute>,
+    pub content: Vec<Content>,
+    pub line: u32,
+    pub column: u32,
+}
+
+/// An attribute, at the place of its name's first character.
+#[derive(Drop)]
+pub struct Attribute {
+    pub name: Text,
+    pub value: Text,
+    pub line: u32,
+    pub column: u32,
+}
+
+/// What stands between the tags of an element.
+#[cycle(tree)]
+#[derive(Drop)]
+pub enum Content {
+    Child(Element),
+    /// A run of characters, not blank, at the line and column of its first character that isn't white.
+    Chars(Text, u32, u32),
+}
+
+/// Why bytes are no document that can be read. Places are line and column, both from 1, counted in characters.
+#[derive(Debug, Drop, Error, PartialEq)]
+pub enum DocError {
+    /// The bytes aren't UTF-8; so many bytes before the first bad one are.
+    #[error("not UTF-8 behind {0} bytes")]
+    NotUtf8(usize),
+    /// No document goes on as the bytes do: the end of the longest prefix that some document begins with.
+    #[error("no document at {0}:{1}")]
+    Markup(u32, u32),
+    /// The `<` of an element within 128 others.
+    #[error("elements too deep at {0}:{1}")]
+    Depth(u32, u32),
+    /// The first character past 4,096 of a name, a value or a run of characters.
+    #[error("a text is too long at {0}:{1}")]
+    Long(u32, u32),
+    #[error("out of memory")]
+    Memory,
+}
+
+impl From<AllocError> for DocError {
+    ghost use Rattle.std.specs.Prelude.{◌≡◌};
+    ghost use Rattle.fx_doc.specs.declared.document.DocError.TheVariants.{Memory};
+
+    ghost from_gives = { λ _ e. e ≡ Memory };
+
+    fn from(_e: AllocError) -> DocError {
+        DocError::Memory
     }
-    if reader.literal(b"<?") {
-        let text = instruction(reader)?;
-        return builder.import(alloc, text);
-    }
-    reader.expect(b"<")?;
-    let start = tag(alloc, reader, place)?;
-    builder.start(alloc, start)
 }
-
-/// All pieces.
-fn pieces(alloc: Global, bytes: &[u8]) -> Result<Builder, DocError>
-    requires { length bytes.now ≤ 4194304 }
-    ensures { Gives state_of result (read_over (length bytes.now + 1) initial (record { rest = bytes.now; spot = start })) }
-{
-    let mut reader = Reader::new(bytes);
-    let mut builder = Builder::new(alloc);
-    for _ in 0..bytes.len() + 1 {
-        reader.white();
-        if reader.rest.is_empty() {
-            return Ok(builder);
-        }
-        builder = next(alloc, builder, &mut reader)?;
-    }
-    Err(DocError::NotBuilt)
-}
-
-fn whole_document(alloc: Global, bytes: &[u8]) -> Result<Document, DocError>
-    requires { length bytes.now ≤ 4194304 }
-    ensures { Gives document_of result (read_of bytes.now) }
-{
-    pieces(alloc, bytes)?.answer()
-}
-
-/// The document that the bytes spell (Introduction to FXML): import instructions, and one element of elements
-/// and attributes in ASCII. Imports behind the root, and those of over 4,096 characters, aren't listed. Elements
-/// nest at most 128 deep. Text, comments, references and other instructions are refused.
-pub fn read_document(alloc: Global, bytes: &[u8]) -> Result<Document, DocError>
-    requires { length bytes.now ≤ 4194304 }
-    ensures ok { IfOk result (λ d. Spells bytes.now (document_of d)) }
-    ensures not_built { result ≡ Err DocError.NotBuilt → (o : Outline) → Spells bytes.now o → ⊥ }
-
-    // The same by the function that the definitions above read with.
-    ensures read { Gives document_of result (read_of bytes.now) }
-{
-    whole_document(alloc, bytes)
-}
-
-/// No bytes spell two documents.
-pub fn one_document()
-    ensures { (text : List ℕ) (a b : Outline) → Spells text a → Spells text b → a ≡ b }
-{}

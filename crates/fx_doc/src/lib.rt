@@ -1,19 +1,22 @@
-//! Documents of FXML (Introduction to FXML): imports, and a tree of elements with attributes and places.
-//! The layer between a file's bytes and the scene that is built of them.
+//! The reader of FXML documents: bytes to a tree of elements, or where and why they are no document.
+//! It keeps to the grammar of `fx_markup`; what elements and attributes mean is left to the layers above.
 #![tactic(auto)]
 
-mod builder;
-mod characters;
+mod bytes;
 mod document;
-mod error;
-mod place;
+mod drafts;
+mod imports;
+mod instructions;
+mod levels;
+mod markup;
+mod modes;
 mod reader;
 mod tags;
-mod tree;
+mod values;
 
-pub use document::{one_document, read_document};
-pub use error::DocError;
-pub use tree::{Attribute, Content, Document, Element};
+pub use bytes::place_behind;
+pub use document::{Attribute, Content, DocError, Document, Element};
+pub use reader::read_document;
 
 #[cfg(test)]
 mod tests;

@@ -1,76 +1,221 @@
-//! A reader over the bytes of a document: what is left of them, and where it begins.
-//! It knows of characters and places, and nothing of elements.
-ghost use Rattle.std.specs.Prelude.{◌≡◌, ◌+◌, ◌≤◌, length};
+//! The reader over a whole text: a step for each character, the limit on depth, and the document at the end.
+//! It is the machine of `fx_markup`, so it reads what the grammar there spells.
+ghost use Rattle.std.specs.Prelude.{◌≡◌, ◌≤◌, ◌+◌, false, length, Option, Some, None, MatchOption, IfSome, IfNone, IfOk, IfErr, OnOk};
+ghost use Rattle.std.specs.Str.{chars, IsUtf8};
+ghost use Rattle.fx_markup.specs.Grammar.{Spells};
+ghost use Rattle.fx_markup.specs.Verdicts.{Verdict, IsVerdict};
+ghost use Rattle.fx_markup.specs.Beginnings.{IsWithinLimits};
+ghost use Rattle.fx_markup.specs.Machine.{initial, step, sign_place, answer, is_deep};
+ghost use Rattle.fx_markup.specs.declared.Place.{Place};
+ghost use Rattle.fx_doc.specs.Judgements.{Tells, judgement};
+ghost use Rattle.fx_doc.specs.Reads.{IsNext, IsStep, IsRead, HasFault, IsGiven, IsRefused, document_text};
+ghost use Rattle.fx_doc.specs.Views.{view, viewed, Gives, IsDeepAt, reading, inside_view, AnswersRoot, onto, onto_element, IsRun};
 
-use crate::characters::white_count;
-use crate::error::DocError;
-use crate::place::{Place, after_all};
+use crate::bytes::text_in;
+use crate::document::{Content, DocError, Document, Element};
+use crate::drafts::Halt;
+use crate::instructions::{asked, end_asked, instructed, instructing, name_asked};
+use crate::markup::{
+    bang_dashed, banged, commented, dash_dashed, dashed, inside, opening, referring,
+};
+use crate::modes::{Held, Level, Mode, Reader};
+use crate::tags::{ended, key_spaced, keyed, naming, signed, slashed, spaced, tight};
+use crate::values::{ending, quoted, value_referring};
+use fx_base::List;
+use fx_markup::Place;
+use std::alloc::Global;
 
-#[derive(Clone, Copy)]
-pub struct Reader<'a> {
-    pub rest: &'a [u8],
-    pub place: Place,
-    ghost lines_fit: { place.line + length rest.now ≤ 8388608 },
-    ghost columns_fit: { place.column + length rest.now ≤ 8388608 },
+/// The greatest number of elements that may be open where one begins.
+const DEPTH_LIMIT: usize = 128;
+
+impl Reader {
+    pub fn new(alloc: Global) -> Reader
+        ensures { view result ≡ initial }
+    {
+        let held = Held {
+            imports: Vec::new(alloc),
+            stack: Vec::new(alloc),
+            level: Level::new(alloc),
+        };
+        Reader {
+            held,
+            mode: Mode::Inside,
+        }
+    }
+
+    /// Behind this character, which stands at that place; None where no document goes on so.
+    pub fn step(self, alloc: Global, place: Place, c: char) -> Result<Option<Reader>, Halt>
+        ensures { Gives (step place (view self) c) result }
+    {
+        let Reader { held, mode } = self;
+        match mode {
+            Mode::Inside => inside(held, place, c),
+            Mode::Referring(at, entity) => referring(held, at, entity, c),
+            Mode::Opening(at) => opening(alloc, held, at, c),
+            Mode::Banged => banged(held, c),
+            Mode::BangDashed => bang_dashed(held, c),
+            Mode::Commented => commented(held, c),
+            Mode::Dashed => dashed(held, c),
+            Mode::DashDashed => dash_dashed(held, c),
+            Mode::Asked => asked(alloc, held, c),
+            Mode::Instructing(name) => instructing(alloc, held, name, c),
+            Mode::NameAsked(name) => name_asked(alloc, held, name, c),
+            Mode::Instructed(name, text) => instructed(held, name, text, c),
+            Mode::EndAsked(name, text) => end_asked(alloc, held, name, text, c),
+            Mode::Naming(at, name) => naming(alloc, held, at, name, c),
+            Mode::Spaced(head) => spaced(alloc, held, head, place, c),
+            Mode::Tight(head) => tight(alloc, held, head, c),
+            Mode::Keyed(head, at, key) => keyed(held, head, at, key, c),
+            Mode::KeySpaced(head, at, key) => key_spaced(held, head, at, key, c),
+            Mode::Signed(head, at, key) => signed(alloc, held, head, at, key, c),
+            Mode::Quoted(valued) => quoted(held, valued, place, c),
+            Mode::ValueReferring(valued, at, entity) => value_referring(
+                held, valued, at, entity, c,
+            ),
+            Mode::Slashed(head) => slashed(alloc, held, head, c),
+            Mode::Ending(at) => ending(alloc, held, at, c),
+            Mode::Ended => ended(alloc, held, c),
+        }
+    }
+
+    /// Where the sign begins whose last character stands at that place: a reference at its `&`.
+    fn sign_place(&self, place: Place) -> Place
+        ensures { result ≡ sign_place place (view self.now).mode }
+    {
+        match &self.mode {
+            Mode::Referring(at, _) => *at,
+            Mode::ValueReferring(_, at, _) => *at,
+            _ => place,
+        }
+    }
+
+    /// The place of the element that begins within 128 others.
+    fn deep_place(&self) -> Option<Place>
+        ensures { MatchOption result (is_deep (view self.now) ≡ false) (λ p. IsDeepAt (view self.now) p) }
+    {
+        match &self.mode {
+            Mode::Naming(at, _) => {
+                if self.held.stack.len() >= DEPTH_LIMIT {
+                    Some(*at)
+                } else {
+                    None
+                }
+            }
+            _ => None,
+        }
+    }
+
+    /// One character further, within the limits on depth and length.
+    pub fn next(self, alloc: Global, place: Place, c: char) -> Result<Reader, DocError>
+        ensures { IsNext (view self) place c result }
+    {
+        let sign = self.sign_place(place);
+        match self.step(alloc, place, c) {
+            Ok(next) => moved(next, place),
+            Err(Halt::Long) => Err(DocError::Long(sign.line, sign.column)),
+            Err(Halt::Memory) => Err(DocError::Memory),
+        }
+    }
+
+    /// The document, if the text may end here.
+    pub fn into_document(self) -> Option<Document>
+        requires { AnswersRoot (view self) }
+        ensures { MatchOption result (answer (view self) ≡ None) (λ d. answer (view self) ≡ Some (reading d)) }
+    {
+        let Reader { held, mode } = self;
+        let Mode::Inside = mode else {
+            return None;
+        };
+        held.into_document()
+    }
 }
 
-impl<'a> Reader<'a> {
-    ghost use Rattle.std.specs.Prelude.{if◌then◌else◌, Some, None, take, false};
-    ghost use Rattle.std.specs.List.{prefix_len};
-    ghost use Rattle.fx_doc.specs.Grammar.{is_white, start};
-    ghost use Rattle.fx_doc.specs.Reading.{at_of, skip, literal, past_white, Moves};
-
-    pub fn new(text: &'a [u8]) -> Reader<'a>
-        requires { length text.now ≤ 4194304 }
-        ensures { at_of result ≡ record { rest = text.now; spot = start } }
+impl Held {
+    fn into_document(self) -> Option<Document>
+        requires { AnswersRoot (inside_view self) }
+        ensures { MatchOption result (answer (inside_view self) ≡ None) (λ d. answer (inside_view self) ≡ Some (reading d)) }
     {
-        Reader {
-            rest: text,
-            place: Place { line: 1, column: 1 },
+        if self.is_within() {
+            return None;
+        }
+        let Held {
+            imports,
+            stack: _,
+            level,
+        } = self;
+        let Level {
+            mut content,
+            run: _,
+            first: _,
+        } = level;
+        let piece = content.pop()?;
+        match child_in(piece) {
+            Some(root) => Some(Document {
+                imports: List::from_vec(imports),
+                root,
+            }),
+            None => None,
         }
     }
+}
 
-    /// Goes on over so many bytes, and gives them.
-    pub fn skip(&mut self, count: usize) -> &'a [u8]
-        requires { count ≤ length self.old.rest.now }
-        ensures text { result.now ≡ take count self.old.rest.now }
-        ensures moved { at_of self.new ≡ skip count (at_of self.old) }
-    {
-        let (text, rest) = self.rest.split_at(count);
-        let place = after_all(self.place, text);
-        *self = Reader { rest, place };
-        text
+/// The reader goes on, unless no document does or an element begins too deep.
+fn moved(next: Option<Reader>, place: Place) -> Result<Reader, DocError>
+    ensures { (sign : Place) → IsStep (viewed next) place sign result }
+{
+    let Some(next) = next else {
+        return Err(DocError::Markup(place.line, place.column));
+    };
+    match next.deep_place() {
+        None => Ok(next),
+        Some(deep) => Err(DocError::Depth(deep.line, deep.column)),
     }
+}
 
-    /// Goes on over this text if it stands here.
-    #[tactic(auto, unfolding(crate::specs::Reading::literal))]
-    pub fn literal(&mut self, text: &[u8]) -> bool
-        ensures moved { literal text.now (at_of self.old) ≡ (if result then Some (at_of self.new) else None) }
-        ensures stays { result ≡ false → at_of self.new ≡ at_of self.old }
-    {
-        if self.rest.starts_with(text) {
-            self.skip(text.len());
-            return true;
-        }
-        false
+/// The element that a piece of content is, unless it is a run.
+fn child_in(piece: Content) -> Option<Element>
+    ensures child { IfSome result (λ e. onto piece ≡ onto_element e) }
+    ensures run { IfNone result (IsRun piece) }
+{
+    match piece {
+        Content::Child(element) => Some(element),
+        Content::Chars(_, _, _) => None,
     }
+}
 
-    /// Goes on over this text, which has to stand here.
-    pub fn expect(&mut self, text: &[u8]) -> Result<(), DocError>
-        ensures { Moves result (at_of self.new) (literal text.now (at_of self.old)) }
-    {
-        if self.literal(text) {
-            return Ok(());
-        }
-        Err(DocError::NotBuilt)
+/// The document of a text, or why it is none.
+pub fn read_text(alloc: Global, text: &str) -> Result<Document, DocError>
+    requires { length text.now ≤ 4194304 }
+    ensures { IsRead (chars text.now) result }
+{
+    let mut reader = Reader::new(alloc);
+    let mut place = Place::START;
+    for c in text.chars() {
+        reader = reader.next(alloc, place, c)?;
+        place = place.after(c);
     }
+    match reader.into_document() {
+        Some(document) => Ok(document),
+        None => Err(DocError::Markup(place.line, place.column)),
+    }
+}
 
-    /// Goes on over the white that stands here.
-    #[tactic(auto, unfolding(crate::specs::Reading::past_white))]
-    pub fn white(&mut self)
-        ensures { at_of self.new ≡ past_white (at_of self.old) }
-    {
-        let count = white_count(self.rest);
-        self.skip(count);
+/// The document of these bytes of an FXML file (Introduction to FXML, over the grammar of `fx_markup`), or why they are none:
+/// not UTF-8, the end of the longest prefix that some document begins with, the `<` of an element within 128 others,
+/// or the first character past 4,096 of a name, a value or a run.
+pub fn read_document(alloc: Global, bytes: &[u8]) -> Result<Document, DocError>
+    requires { length bytes.now ≤ 4194304 }
+    ensures read { IfOk result (λ d. Spells (document_text bytes.now) (reading d)) }
+    ensures within { OnOk result (IsUtf8 bytes.now × IsWithinLimits (document_text bytes.now)) }
+    ensures fault { IfErr result (HasFault bytes.now) }
+    ensures exact { (v : Verdict) → IsUtf8 bytes.now → IsVerdict (document_text bytes.now) v → IsGiven v result }
+    ensures refused { (IsUtf8 bytes.now → ⊥) → IsRefused result }
+
+    // The same as one function of the bytes.
+    ensures judged { Tells result (judgement bytes.now) }
+{
+    match text_in(bytes) {
+        Ok(text) => read_text(alloc, text),
+        Err(valid) => Err(DocError::NotUtf8(valid)),
     }
 }

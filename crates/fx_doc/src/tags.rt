@@ -1,240 +1,234 @@
-//! The pieces between `<` and `>`: names, attributes, tags and instructions.
-//! Each is read from where the reader stands.
-ghost use Rattle.std.specs.Prelude.{◌≡◌, ◌≤◌, ◌+◌, true, length, IfOk, IfSome, option_map, map, [], nat_eq};
-ghost use Rattle.std.specs.List.{list_all, list_any};
-ghost use Rattle.std.specs.Cmp.Lexicographic.{pointwise};
-ghost use Rattle.fx_doc.specs.Grammar.{is_white, begins_name, is_plain, among};
-ghost use Rattle.fx_doc.specs.View.{attribute_of};
-ghost use Rattle.fx_doc.specs.Reading.{at_of, spot_at, Reads, name_at, value_at, attribute_at, more_at, attributes_at, closing_at, inside_at, instruction_at, end_from, begins, tag_end, tag_from, mark_of};
+//! The reader in tags, one function for each mode; attribute values are in `values`.
+//! Each answers what the machine of `fx_markup` does in that mode.
+ghost use Rattle.std.specs.Prelude.{◌≡◌, true, [], ◌∷◌, ◌++◌, drop, not};
+ghost use Rattle.std.specs.String.{string_bytes};
+ghost use Rattle.fx_markup.specs.Characters.{class_of, in_name};
+ghost use Rattle.fx_markup.specs.Machine.{at, Inside, some_if, open_element, is_fresh, in_naming, in_spaced, in_tight, in_keyed, in_key_spaced, in_signed, in_slashed, in_ended, in_ending};
+ghost use Rattle.fx_doc.specs.Views.{bare_head, head_view, stack_view, held_view, open_name, Gives, inside_state, naming_state, keyed_state, key_spaced_state, signed_state};
 
-use crate::characters::{
-    all_plain, begins_name, is_name, is_white, name_count, trimmed, value_character, value_count,
-};
-use crate::error::DocError;
-use crate::place::Place;
-use crate::reader::Reader;
-use crate::tree::Attribute;
-use fx_base::{List, Text};
-use std::alloc::{AllocError, Global};
+use crate::drafts::{Draft, Halt, Word};
+use crate::levels::goes;
+use crate::modes::{Head, Held, Mode, Reader, Valued};
+use fx_markup::{Class, Place, Quote};
+use std::alloc::Global;
 
-/// What begins an element. Its place is that of its `<`.
-#[derive(Drop)]
-pub struct Start {
-    pub name: Text,
-    pub attributes: List<Attribute>,
-    pub place: Place,
-    pub whole: bool,
-}
+impl Head {
+    /// The tag of this name alone.
+    fn bare(alloc: Global, place: Place, name: Word) -> Head
+        ensures { head_view result ≡ bare_head place (string_bytes name.text) }
+    {
+        Head {
+            name: name.into_text(),
+            attributes: Vec::new(alloc),
+            place,
+        }
+    }
 
-/// A short text of ASCII characters.
-pub fn plain_text(alloc: Global, text: &[u8]) -> Result<Text, AllocError>
-    requires plain { list_all is_plain text.now ≡ true }
-    requires short { length text.now ≤ 4096 }
-    ensures { IfOk result (λ t. t ≡ text.now) }
-{
-    let Ok(text) = str::from_utf8(text) else {
-        unreachable!()
-    };
-    match Text::from_string(String::from_str(alloc, text)?) {
-        Some(text) => Ok(text),
-        None => unreachable!(),
+    /// Has the tag no attribute of this name?
+    fn is_fresh(&self, key: &Word) -> bool
+        ensures { result ≡ is_fresh (string_bytes key.now.text) (head_view self.now) }
+    {
+        for attribute in &self.attributes {
+            if attribute.name.equals(key.text.as_str()) {
+                return false;
+            }
+        }
+        true
     }
 }
 
-#[tactic(auto, unfolding(crate::specs::Reading::name_at))]
-fn name(alloc: Global, reader: &mut Reader<'_>) -> Result<Text, DocError>
-    ensures { Reads (λ t. t) result (at_of reader.new) (name_at (at_of reader.old)) }
+/// An element begins with this tag.
+fn opens(alloc: Global, held: Held, head: Head) -> Result<Option<Reader>, Halt>
+    ensures { Gives (inside_state (open_element (held_view held) (head_view head))) result }
 {
-    let count = name_count(reader.rest);
-    let text = reader.skip(count);
-    if !is_name(text) || text.len() > 4096 {
-        return Err(DocError::NotBuilt);
-    }
-    Ok(plain_text(alloc, text)?)
+    goes(held.opened(alloc, head)?, Mode::Inside)
 }
 
-/// The characters of a value, up to its end.
-#[tactic(auto, unfolding(crate::specs::Reading::value_at))]
-fn value(alloc: Global, reader: &mut Reader<'_>) -> Result<Text, DocError>
-    ensures { Reads (λ t. t) result (at_of reader.new) (value_at (at_of reader.old)) }
-{
-    let count = value_count(reader.rest);
-    let text = reader.skip(count);
-    if text.len() > 4096 {
-        return Err(DocError::NotBuilt);
-    }
-    let characters: Vec<u8> = text.iter().map(|c| value_character(*c)).collect(alloc)?;
-    Ok(plain_text(alloc, characters.as_slice())?)
-}
-
-#[tactic(auto, unfolding(crate::specs::Reading::attribute_at))]
-fn attribute(alloc: Global, reader: &mut Reader<'_>) -> Result<Attribute, DocError>
-    ensures { Reads attribute_of result (at_of reader.new) (attribute_at (at_of reader.old)) }
-{
-    let place = reader.place;
-    let name = name(alloc, reader)?;
-    reader.expect(b"=\"")?;
-    let value = value(alloc, reader)?;
-    reader.expect(b"\"")?;
-    Ok(Attribute {
-        name,
-        value,
-        line: place.line,
-        column: place.column,
-    })
-}
-
-fn stands_white(text: &[u8]) -> bool
-    ensures { result ≡ begins is_white text.now }
-{
-    match text {
-        [c, ..] => is_white(*c),
-        [] => false,
-    }
-}
-
-fn stands_name(text: &[u8]) -> bool
-    ensures { result ≡ begins begins_name text.now }
-{
-    match text {
-        [c, ..] => begins_name(*c),
-        [] => false,
-    }
-}
-
-fn is_among(name: &Text, seen: &[Attribute]) -> bool
-    ensures { result ≡ among name.now (map attribute_of seen.now) }
-{
-    any_named(name, seen)
-}
-
-fn any_named(name: &Text, seen: &[Attribute]) -> bool
-    ensures { result ≡ list_any (λ a. pointwise nat_eq a.name name.now) seen.now }
-{
-    seen.iter().any(|a| a.name == *name)
-}
-
-/// One more attribute behind these, if one stands here.
-#[tactic(auto, unfolding(crate::specs::Reading::more_at))]
-fn next_attribute(
+#[tactic(auto, using(crate::proofs::Defaults::naming_rest))]
+pub fn naming(
     alloc: Global,
-    reader: &mut Reader<'_>,
-    seen: &[Attribute],
-) -> Result<Option<Attribute>, DocError>
-    ensures { Reads (option_map attribute_of) result (at_of reader.new) (more_at (map attribute_of seen.now) (at_of reader.old)) }
+    held: Held,
+    place: Place,
+    name: Word,
+    c: char,
+) -> Result<Option<Reader>, Halt>
+    ensures { Gives (in_naming place (string_bytes name.text) (held_view held) c (class_of c)) result }
 {
-    let apart = stands_white(reader.rest);
-    reader.white();
-    if !stands_name(reader.rest) {
+    match Class::of(c) {
+        Class::White => goes(held, Mode::Spaced(Head::bare(alloc, place, name))),
+        Class::Slash => goes(held, Mode::Slashed(Head::bare(alloc, place, name))),
+        Class::Greater => opens(alloc, held, Head::bare(alloc, place, name)),
+        class => longer_name(held, place, name, c, class),
+    }
+}
+
+#[tactic(auto, using(crate::proofs::Defaults::long_name))]
+fn longer_name(
+    held: Held,
+    place: Place,
+    name: Word,
+    c: char,
+    class: Class,
+) -> Result<Option<Reader>, Halt>
+    requires { class ≡ class_of c }
+    ensures { Gives (some_if (in_name class) (naming_state (held_view held) place (string_bytes name.text ++ (c ∷ [])))) result }
+{
+    if !class.is_named() {
         return Ok(None);
     }
-    if !apart {
-        return Err(DocError::NotBuilt);
-    }
-    let attribute = attribute(alloc, reader)?;
-    if is_among(&attribute.name, seen) {
-        return Err(DocError::NotBuilt);
-    }
-    Ok(Some(attribute))
+    goes(held, Mode::Naming(place, name.with(c)?))
 }
 
-fn attributes(alloc: Global, reader: &mut Reader<'_>) -> Result<Vec<Attribute>, DocError>
-    ensures { Reads (λ v. map attribute_of v.items) result (at_of reader.new) (attributes_at (length reader.old.rest.now) [] (at_of reader.old)) }
+pub fn spaced(
+    alloc: Global,
+    held: Held,
+    head: Head,
+    place: Place,
+    c: char,
+) -> Result<Option<Reader>, Halt>
+    ensures { Gives (in_spaced place (head_view head) (held_view held) c (class_of c)) result }
 {
-    let mut attributes = Vec::new(alloc);
-    for _ in 0..reader.rest.len() {
-        let Some(attribute) = next_attribute(alloc, reader, attributes.as_slice())? else {
-            return Ok(attributes);
-        };
-        attributes.push(attribute)?;
+    match Class::of(c) {
+        Class::White => goes(held, Mode::Spaced(head)),
+        Class::Slash => goes(held, Mode::Slashed(head)),
+        Class::Greater => opens(alloc, held, head),
+        Class::Letter => goes(held, Mode::Keyed(head, place, Word::of(alloc, c)?)),
+        _ => Ok(None),
     }
-    Err(DocError::NotBuilt)
 }
 
-/// Does the tag end as a whole element?
-#[tactic(auto, unfolding(crate::specs::Reading::tag_end))]
-fn tag_end(reader: &mut Reader<'_>) -> Result<bool, DocError>
-    ensures { Reads (λ b. b) result (at_of reader.new) (tag_end (at_of reader.old)) }
+/// Behind a value: no attribute begins without white before it.
+pub fn tight(alloc: Global, held: Held, head: Head, c: char) -> Result<Option<Reader>, Halt>
+    ensures { Gives (in_tight (head_view head) (held_view held) (class_of c)) result }
 {
-    if reader.literal(b"/>") {
-        return Ok(true);
+    match Class::of(c) {
+        Class::White => goes(held, Mode::Spaced(head)),
+        Class::Slash => goes(held, Mode::Slashed(head)),
+        Class::Greater => opens(alloc, held, head),
+        _ => Ok(None),
     }
-    reader.expect(b">")?;
-    Ok(false)
 }
 
-/// The tag whose `<` stands at this place, from behind it.
-#[tactic(auto, unfolding(crate::specs::Reading::tag_from))]
-pub fn tag(alloc: Global, reader: &mut Reader<'_>, place: Place) -> Result<Start, DocError>
-    ensures { Reads mark_of result (at_of reader.new) (tag_from (spot_at place) (at_of reader.old)) }
+#[tactic(auto, using(crate::proofs::Defaults::keyed_rest))]
+pub fn keyed(
+    held: Held,
+    head: Head,
+    place: Place,
+    key: Word,
+    c: char,
+) -> Result<Option<Reader>, Halt>
+    ensures { Gives (in_keyed (head_view head) place (string_bytes key.text) (held_view held) c (class_of c)) result }
 {
-    let name = name(alloc, reader)?;
-    let attributes = attributes(alloc, reader)?;
-    let whole = tag_end(reader)?;
-    Ok(Start {
-        name,
-        attributes: List::from_vec(attributes),
-        place,
-        whole,
-    })
-}
-
-/// The name of an end tag, from behind its `</`.
-#[tactic(auto, unfolding(crate::specs::Reading::closing_at))]
-pub fn closing(alloc: Global, reader: &mut Reader<'_>) -> Result<Text, DocError>
-    ensures { Reads (λ t. t) result (at_of reader.new) (closing_at (at_of reader.old)) }
-{
-    let name = name(alloc, reader)?;
-    reader.white();
-    reader.expect(b">")?;
-    Ok(name)
-}
-
-/// How many characters stand before the first end of an instruction.
-fn end_of(text: &[u8]) -> Option<usize>
-    ensures first { result ≡ end_from 0 text.now }
-    ensures within { IfSome result (λ n. n + 2 ≤ length text.now) }
-{
-    let mut count = 0;
-    let mut rest = text;
-    while let [_, others @ ..] = rest {
-        if rest.starts_with(b"?>") {
-            return Some(count);
-        }
-        count += 1;
-        rest = others;
+    match Class::of(c) {
+        Class::White => behind_key(held, head, place, key),
+        Class::Equals => behind_sign(held, head, place, key),
+        class => longer_key(held, head, place, key, c, class),
     }
-    None
 }
 
-/// The text of an instruction up to its end, without the white around it.
-#[tactic(auto, unfolding(crate::specs::Reading::inside_at))]
-fn inside<'a>(reader: &mut Reader<'a>) -> Result<&'a [u8], DocError>
-    ensures read { Reads (λ t. t.now) result (at_of reader.new) (inside_at (at_of reader.old)) }
-    ensures plain { IfOk result (λ t. list_all is_plain t.now ≡ true) }
+fn behind_key(held: Held, head: Head, place: Place, key: Word) -> Result<Option<Reader>, Halt>
+    ensures { Gives (some_if (is_fresh (string_bytes key.text) (head_view head)) (key_spaced_state (held_view held) (head_view head) place (string_bytes key.text))) result }
 {
-    let rest = reader.rest;
-    let Some(count) = end_of(rest) else {
-        return Err(DocError::NotBuilt);
-    };
-    let text = &rest[..count];
-    if !all_plain(text) {
-        return Err(DocError::NotBuilt);
+    if !head.is_fresh(&key) {
+        return Ok(None);
     }
-    reader.skip(count + 2);
-    Ok(trimmed(text))
+    goes(held, Mode::KeySpaced(head, place, key))
 }
 
-/// The text of an import instruction, from behind its `<?`.
-#[tactic(auto, unfolding(crate::specs::Reading::instruction_at))]
-pub fn instruction<'a>(reader: &mut Reader<'a>) -> Result<&'a [u8], DocError>
-    ensures read { Reads (λ t. t.now) result (at_of reader.new) (instruction_at (at_of reader.old)) }
-    ensures plain { IfOk result (λ t. list_all is_plain t.now ≡ true) }
+fn behind_sign(held: Held, head: Head, place: Place, key: Word) -> Result<Option<Reader>, Halt>
+    ensures { Gives (some_if (is_fresh (string_bytes key.text) (head_view head)) (signed_state (held_view held) (head_view head) place (string_bytes key.text))) result }
 {
-    reader.expect(b"import")?;
-    if !stands_white(reader.rest) {
-        return Err(DocError::NotBuilt);
+    if !head.is_fresh(&key) {
+        return Ok(None);
     }
-    reader.skip(1);
-    inside(reader)
+    goes(held, Mode::Signed(head, place, key))
+}
+
+#[tactic(auto, using(crate::proofs::Defaults::long_name))]
+fn longer_key(
+    held: Held,
+    head: Head,
+    place: Place,
+    key: Word,
+    c: char,
+    class: Class,
+) -> Result<Option<Reader>, Halt>
+    requires { class ≡ class_of c }
+    ensures { Gives (some_if (in_name class) (keyed_state (held_view held) (head_view head) place (string_bytes key.text ++ (c ∷ [])))) result }
+{
+    if !class.is_named() {
+        return Ok(None);
+    }
+    goes(held, Mode::Keyed(head, place, key.with(c)?))
+}
+
+pub fn key_spaced(
+    held: Held,
+    head: Head,
+    place: Place,
+    key: Word,
+    c: char,
+) -> Result<Option<Reader>, Halt>
+    ensures { Gives (in_key_spaced (head_view head) place (string_bytes key.text) (held_view held) (class_of c)) result }
+{
+    match Class::of(c) {
+        Class::White => goes(held, Mode::KeySpaced(head, place, key)),
+        Class::Equals => goes(held, Mode::Signed(head, place, key)),
+        _ => Ok(None),
+    }
+}
+
+pub fn signed(
+    alloc: Global,
+    held: Held,
+    head: Head,
+    place: Place,
+    key: Word,
+    c: char,
+) -> Result<Option<Reader>, Halt>
+    ensures { Gives (in_signed (head_view head) place (string_bytes key.text) (held_view held) (class_of c)) result }
+{
+    match Class::of(c) {
+        Class::White => goes(held, Mode::Signed(head, place, key)),
+        Class::Quotation => goes(
+            held,
+            Mode::Quoted(Valued {
+                head,
+                place,
+                key,
+                quote: Quote::Double,
+                value: Draft::new(alloc),
+            }),
+        ),
+        Class::Apostrophe => goes(
+            held,
+            Mode::Quoted(Valued {
+                head,
+                place,
+                key,
+                quote: Quote::Single,
+                value: Draft::new(alloc),
+            }),
+        ),
+        _ => Ok(None),
+    }
+}
+
+pub fn slashed(alloc: Global, held: Held, head: Head, c: char) -> Result<Option<Reader>, Halt>
+    ensures { Gives (in_slashed (head_view head) (held_view held) (class_of c)) result }
+{
+    match Class::of(c) {
+        Class::Greater => goes(held.with_leaf(alloc, head)?, Mode::Inside),
+        _ => Ok(None),
+    }
+}
+
+pub fn ended(alloc: Global, held: Held, c: char) -> Result<Option<Reader>, Halt>
+    ensures { Gives (in_ended (held_view held) (class_of c)) result }
+{
+    match Class::of(c) {
+        Class::White => goes(held, Mode::Ended),
+        Class::Greater => held.close(alloc),
+        _ => Ok(None),
+    }
 }

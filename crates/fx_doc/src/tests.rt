@@ -1,170 +1,306 @@
-//! Documents that are read, with their places, and texts that are none.
-//! A walk over a document shows how a caller takes one apart.
-ghost use Rattle.std.specs.Prelude.{◌≡◌, ◌||◌, [], ◌∷◌};
-ghost use Rattle.fx_doc.specs.Names.{holds_name};
-ghost use Rattle.fx_doc.specs.Outline.{Nothing};
-ghost use Rattle.fx_doc.specs.View.{element_of, joined, nodes_of, part_of};
-
-use crate::*;
+//! Documents with the answers of the reference reader, and the limits.
+//! A document's outline is one line: tags with their places, attributes and runs in brackets.
+use crate::{Content, DocError, Document, Element, read_document};
 use std::alloc::Global;
-use std::process::Abort;
+use std::fmt::Write;
 use std::test::Fail;
 
-/// Does an element of this name stand in the element, at any depth?
-#[cycle(walk)]
-fn holds(element: &Element, name: &str) -> bool
-    ensures { result ≡ holds_name name.now (element_of element.now Nothing) }
-{
-    let own = element.name.as_str() == name;
-    let inside = any_holds(&element.content, name);
-    own || inside
-}
-
-#[cycle(walk)]
-fn any_holds(content: &Vec<Content>, name: &str) -> bool
-    ensures { result ≡ holds_name name.now (nodes_of content.now.items) }
-{
-    let mut found = false;
-    for part in content {
-        found = either(found, part_holds(part, name));
+fn write_element(out: &mut String, element: &Element) -> Result<(), Fail> {
+    write!(
+        out,
+        "<{}@{}:{}",
+        element.name.as_str(),
+        element.line,
+        element.column
+    )?;
+    for attribute in element.attributes.as_slice() {
+        let value = attribute.value.as_str();
+        write!(
+            out,
+            " {}@{}:{}=[{value}]",
+            attribute.name.as_str(),
+            attribute.line,
+            attribute.column
+        )?;
     }
-    found
-}
-
-#[cycle(walk)]
-fn part_holds(part: &Content, name: &str) -> bool
-    ensures { result ≡ holds_name name.now (joined Nothing (part_of part.now ∷ [])) }
-{
-    match part {
-        Content::Child(element) => holds(element, name),
-        Content::Chars(..) => false,
-    }
-}
-
-fn either(a: bool, b: bool) -> bool
-    ensures { result ≡ (a || b) }
-{
-    a || b
-}
-
-fn read(alloc: Global, text: &str) -> Result<Document, DocError> {
-    if text.len() > 4194304 {
-        return Err(DocError::NotBuilt);
-    }
-    read_document(alloc, text.as_bytes())
-}
-
-fn is_attribute(
-    rt: &impl Abort,
-    attribute: &Attribute,
-    name: &str,
-    value: &str,
-    line: u32,
-    column: u32,
-) {
-    assert_eq!(rt; attribute.name.as_str(), name);
-    assert_eq!(rt; attribute.value.as_str(), value);
-    assert_eq!(rt; (attribute.line, attribute.column), (line, column));
-}
-
-#[test]
-fn reads_a_pane(rt: HostRuntime) -> Result<(), Fail> {
-    let text = "<?import javafx.scene.layout.*?>\n<Pane prefWidth=\"4\" prefHeight=\"2\"/>";
-    let document = read(rt.alloc(), text)?.copy(rt.alloc())?;
-    let imports = document.imports.as_slice();
-    assert_eq!(rt; imports.len(), 1);
-    assert_eq!(rt; imports[0].as_str(), "javafx.scene.layout.*");
-    let root = &document.root;
-    assert_eq!(rt; root.name.as_str(), "Pane");
-    assert_eq!(rt; (root.line, root.column), (2, 1));
-    assert!(rt; root.content.is_empty());
-    let attributes = root.attributes.as_slice();
-    assert_eq!(rt; attributes.len(), 2);
-    is_attribute(&rt, &attributes[0], "prefWidth", "4", 2, 7);
-    is_attribute(&rt, &attributes[1], "prefHeight", "2", 2, 21);
-    Ok(())
-}
-
-#[test]
-fn reads_nested_elements(rt: HostRuntime) -> Result<(), Fail> {
-    let text = " <a>\r\n\t<b x=\"p\tq\nr\" ></b>\n<c:d/>\n</a >\n<?import e ?>";
-    let document = read(rt.alloc(), text)?;
-    assert!(rt; document.imports.as_slice().is_empty());
-    let root = document.root.copy(rt.alloc())?;
-    assert_eq!(rt; (root.line, root.column), (1, 2));
-    assert_eq!(rt; root.content.len(), 2);
-    match &root.content[0] {
-        Content::Child(b) => {
-            assert_eq!(rt; (b.line, b.column), (2, 2));
-            let attributes = b.attributes.as_slice();
-            assert_eq!(rt; attributes.len(), 1);
-            is_attribute(&rt, &attributes[0], "x", "p q r", 2, 5);
+    out.push('>')?;
+    for piece in &element.content {
+        match piece {
+            Content::Child(child) => write_element(out, child)?,
+            Content::Chars(text, line, column) => {
+                write!(out, "{{{}}}@{line}:{column}", text.as_str())?;
+            }
         }
-        Content::Chars(..) => assert!(rt; false),
     }
-    assert!(rt; holds(&root, "c:d") && holds(&root, "a") && !holds(&root, "x"));
+    out.push_str("</>")?;
+    Ok(())
+}
+
+fn outline(alloc: Global, document: &Document) -> Result<String, Fail> {
+    let mut out = String::new(alloc);
+    for import in document.imports.as_slice() {
+        write!(out, "import[{}]", import.as_str())?;
+    }
+    write_element(&mut out, &document.root)?;
+    Ok(out)
+}
+
+/// What is read of the bytes, as one line.
+fn answer(alloc: Global, bytes: &[u8]) -> Result<String, Fail> {
+    if bytes.len() > 4_194_304 {
+        return Ok(format!(in alloc; "too large")?);
+    }
+    match read_document(alloc, bytes) {
+        Ok(document) => outline(alloc, &document),
+        Err(DocError::NotUtf8(valid)) => Ok(format!(in alloc; "notutf8 {valid}")?),
+        Err(DocError::Markup(line, column)) => Ok(format!(in alloc; "markup {line}:{column}")?),
+        Err(DocError::Depth(line, column)) => Ok(format!(in alloc; "depth {line}:{column}")?),
+        Err(DocError::Long(line, column)) => Ok(format!(in alloc; "long {line}:{column}")?),
+        Err(DocError::Memory) => Err(DocError::Memory.into()),
+    }
+}
+
+#[test]
+fn refuses_bad_bytes(rt: HostRuntime) -> Result<(), Fail> {
+    let alloc = rt.alloc();
+    assert_eq!(rt; answer(alloc, b"\x3c\xff")?.as_str(), "notutf8 1");
+    assert_eq!(rt; answer(alloc, b"<a>\xc3</a>")?.as_str(), "notutf8 3");
+    assert_eq!(rt; answer(alloc, b"\xef\xbb<a/>")?.as_str(), "notutf8 0");
     Ok(())
 }
 
 #[test]
-fn refuses_other_texts(rt: HostRuntime) -> Result<(), Fail> {
-    for text in [
-        "",
-        "<Pane",
-        "<a x=\"1\" x=\"2\"/>",
-        "<a x=\"a&b\"/>",
-        "<a x=\"a<b\"/>",
-        "<a>t</a>",
-        "<a><!-- c --></a>",
-        "<a></b>",
-        "<a>",
-        "<a/",
-        "</a>",
-        "<a x=\"1\"y=\"2\"/>",
-        "<a x = \"1\"/>",
-        "<a x='1'/>",
-        "<a/><b/>",
-        "<a/>t",
-        "<?import?><a/>",
-        "<?language a?><a/>",
-        "<a><?import b?></a>",
-        "<1a/>",
-        "< a/>",
-        "<é/>",
-        "<a x=\"é\"/>",
-    ] {
-        assert!(rt;
-            matches!(read(rt.alloc(), text), Err(DocError::NotBuilt)),
-            "{text}"
-        );
+fn answers_as_the_reference_does(rt: HostRuntime) -> Result<(), Fail> {
+    let rows = [
+        ("", "markup 1:1"),
+        ("<", "markup 1:2"),
+        ("<Pane", "markup 1:6"),
+        ("<a/>", "<a@1:1></>"),
+        ("<a", "markup 1:3"),
+        ("<a ", "markup 1:4"),
+        ("<a/", "markup 1:4"),
+        ("<a></a>", "<a@1:1></>"),
+        ("<a></b>", "markup 1:6"),
+        ("<a></a ", "markup 1:8"),
+        ("<a></a\n>\n", "<a@1:1></>"),
+        ("<a  b = \"1\"\tc='2'/>", "<a@1:1 b@1:5=[1] c@1:13=[2]></>"),
+        ("<a b=\"1\" b=\"2\"/>", "markup 1:11"),
+        ("<a b=\"1\" bc=\"2\"/>", "<a@1:1 b@1:4=[1] bc@1:10=[2]></>"),
+        ("<a b=\"1\"c=\"2\"/>", "markup 1:9"),
+        (
+            "<a b=\"x\ty\r\nz&#10;&#9;\"/>",
+            "<a@1:1 b@1:4=[x y  z\n\t]></>",
+        ),
+        (
+            "<a b=\"&lt;&gt;&amp;&quot;&apos;\"/>",
+            "<a@1:1 b@1:4=[<>&\"']></>",
+        ),
+        ("<a b='\"&#x41;&#65;'/>", "<a@1:1 b@1:4=[\"AA]></>"),
+        ("<a b=\"<\"/>", "markup 1:7"),
+        ("<a>&</a>", "markup 1:5"),
+        ("<a>&l</a>", "markup 1:6"),
+        ("<a>&ap</a>", "markup 1:7"),
+        ("<a>&apos;&amp;</a>", "<a@1:1>{'&}@1:4</>"),
+        ("<a>&#0;</a>", "markup 1:7"),
+        ("<a>&#xD800;</a>", "markup 1:11"),
+        ("<a>&#1114111;</a>", "<a@1:1>{\u{10ffff}}@1:4</>"),
+        ("<a>&#1114112;</a>", "markup 1:12"),
+        ("<a>&#x110000;</a>", "markup 1:12"),
+        ("<a>&#x10FFFF;</a>", "<a@1:1>{\u{10ffff}}@1:4</>"),
+        ("<a>&#;</a>", "markup 1:6"),
+        ("<a>&#x;</a>", "markup 1:7"),
+        ("<a>&#00065;&#x0041;</a>", "<a@1:1>{AA}@1:4</>"),
+        ("<a>&x;</a>", "markup 1:5"),
+        ("<a> \n </a>", "<a@1:1></>"),
+        ("<a> x <!-- c --> y </a>", "<a@1:1>{ x  y }@1:5</>"),
+        ("<a> &#32; </a>", "<a@1:1></>"),
+        ("<a> &#65; </a>", "<a@1:1>{ A }@1:5</>"),
+        (
+            "<a>x<?p q?>y<b/>z</a>",
+            "<a@1:1>{xy}@1:4<b@1:13></>{z}@1:17</>",
+        ),
+        ("<!-- a -- b --><a/>", "<a@1:16></>"),
+        ("<!-- a --><a/>", "<a@1:11></>"),
+        ("<!----><a/>", "<a@1:8></>"),
+        ("<!--><a/>", "markup 1:10"),
+        ("<!---><a/>", "markup 1:11"),
+        ("<!-- x --->\n<a/>", "<a@2:1></>"),
+        ("<!- x", "markup 1:4"),
+        ("<?x?><a/>", "<a@1:6></>"),
+    ];
+    for (text, expected) in rows {
+        assert_eq!(rt; answer(rt.alloc(), text.as_bytes())?.as_str(), expected);
     }
     Ok(())
 }
 
-fn nested(alloc: Global, depth: usize) -> Result<String, Fail> {
-    let mut text = String::new(alloc);
-    for _ in 0..depth {
-        text.push_str("<a>")?;
+#[test]
+fn answers_as_the_reference_does_on_more(rt: HostRuntime) -> Result<(), Fail> {
+    let rows = [
+        ("<?x y?><a/>", "<a@1:8></>"),
+        ("<?x?y?><a/>", "markup 1:5"),
+        ("<?x ? > ??><a/>", "<a@1:12></>"),
+        ("<?import a.b.*?><a/>", "import[a.b.*]<a@1:17></>"),
+        (
+            "<?import   c\t?>\n<?import d?><a/><?import e?>",
+            "import[c]import[d]<a@2:13></>",
+        ),
+        ("<?import?><a/>", "import[]<a@1:11></>"),
+        ("<?importx y?><a/>", "<a@1:14></>"),
+        ("<? x?><a/>", "markup 1:3"),
+        ("<?1?><a/>", "markup 1:3"),
+        ("<a/><b/>", "markup 1:6"),
+        ("<a/>x", "markup 1:5"),
+        ("x<a/>", "markup 1:1"),
+        ("<a/> \n<!-- e -->", "<a@1:1></>"),
+        ("&amp;<a/>", "markup 1:1"),
+        (
+            "<a><b>1</b>2<c d=\"3\"/></a>",
+            "<a@1:1><b@1:4>{1}@1:7</>{2}@1:12<c@1:13 d@1:16=[3]></></>",
+        ),
+        ("<a:b.c-d _e=\"f\"/>", "<a:b.c-d@1:1 _e@1:10=[f]></>"),
+        ("<1/>", "markup 1:2"),
+        ("<-a/>", "markup 1:2"),
+        ("</a>", "markup 1:2"),
+        ("<a></a", "markup 1:7"),
+        ("<a b/>", "markup 1:5"),
+        ("<a b=1/>", "markup 1:6"),
+        ("<a b=\"1/>", "markup 1:10"),
+        (
+            "<a>\r\n<b/>\n \u{e9}<c/></a>",
+            "<a@1:1><b@2:1></>{\n \u{e9}}@3:2<c@3:3></></>",
+        ),
+        ("\u{feff}<a>\n</a>", "<a@1:1></>"),
+        ("\u{feff}\u{feff}<a/>", "markup 1:1"),
+        ("<a\n\n b\n=\n\"1\"\n/>", "<a@1:1 b@3:2=[1]></>"),
+        ("<a>]]></a>", "<a@1:1>{]]>}@1:4</>"),
+        ("<a b=\">\"/>", "<a@1:1 b@1:4=[>]></>"),
+        ("<\u{e9}/>", "markup 1:2"),
+        ("<a \u{e9}=\"1\"/>", "markup 1:4"),
+        ("<a>\u{e9}&eacute;</a>", "markup 1:6"),
+        ("<a b=\" x  y \"/>", "<a@1:1 b@1:4=[ x  y ]></>"),
+        (
+            "<?import \n java.util.* \r\n?>\n<V xmlns:fx=\"http://javafx.com/fxml\" fx:id=\"v\"><children><L text=\"hi\"/></children></V>",
+            "import[java.util.*]<V@4:1 xmlns:fx@4:4=[http://javafx.com/fxml] fx:id@4:38=[v]><children@4:48><L@4:58 text@4:61=[hi]></></></>",
+        ),
+        ("\u{feff}", "markup 1:1"),
+        (
+            "<?import javafx.scene.layout.*?><?import javafx.scene.control.*?>\n<Pane fx:id=\"r\" prefWidth=\"4\" prefHeight=\"2\"/>",
+            "import[javafx.scene.layout.*]import[javafx.scene.control.*]<Pane@2:1 fx:id@2:7=[r] prefWidth@2:17=[4] prefHeight@2:31=[2]></>",
+        ),
+        (
+            "<?import javafx.scene.layout.*?><?import javafx.scene.control.*?>\n<Region/>",
+            "import[javafx.scene.layout.*]import[javafx.scene.control.*]<Region@2:1></>",
+        ),
+        (
+            "<?import javafx.scene.layout.*?>\n<!-- c -->\n<Pane prefWidth=\"3\" prefHeight='2'>\n <Region id=\"a&lt;&#66;\"/><children ><Pane></&lt;&apos;\n &gt",
+            "markup 4:46",
+        ),
+        ("<?import javafx.scene.layou", "markup 1:28"),
+        (
+            "<?import javafx.scene.layout.*?>\n<!-- c -->\n<Pane prefWidth=\"3\" prefHe",
+            "markup 3:27",
+        ),
+        ("<?import javafx", "markup 1:16"),
+        ("\t&#x]]>\"", "markup 1:2"),
+        (
+            "<?import javafx.scene.layout.*?>\n<!-- c -->\n<Pane prefWidth=\"3\" prefHeight='2'>\n <Region id=\"a&lt;&#66;\"/><children ><Pane></Pane",
+            "markup 4:50",
+        ),
+        ("\timport", "markup 1:2"),
+        (" b='2'D800&quot;<= a=\"1\">55296>\t<&;", "markup 1:2"),
+        ("=._\u{e9}", "markup 1:1"),
+        ("&amp<?Pane]]>\t;/ ?>", "markup 1:1"),
+    ];
+    for (text, expected) in rows {
+        assert_eq!(rt; answer(rt.alloc(), text.as_bytes())?.as_str(), expected);
     }
-    for _ in 0..depth {
-        text.push_str("</a>")?;
+    Ok(())
+}
+
+/// What Scene Builder writes.
+const SCENE: &str =
+    "<?xml version=\"1.0\" encoding=\"UTF-8\"?>\n\n<?import javafx.scene.control.Button?>\n<?import javafx.scene.control.Label?>\n<?import javafx.scene.layout.AnchorPane?>\n<?import javafx.scene.text.Font?>\n\n<AnchorPane maxHeight=\"-Infinity\" maxWidth=\"-Infinity\" minHeight=\"-Infinity\" minWidth=\"-Infinity\" prefHeight=\"400.0\" prefWidth=\"600.0\" stylesheets=\"@style.css\" xmlns=\"http://javafx.com/javafx/21\" xmlns:fx=\"http://javafx.com/fxml/1\" fx:controller=\"app.Main\">\n   <children>\n      <Label fx:id=\"title\" layoutX=\"14.0\" layoutY=\"14.0\" text=\"Hello\">\n         <font>\n            <Font size=\"18.0\" />\n         </font>\n      </Label>\n      <Button fx:id=\"ok\" layoutX=\"14.0\" layoutY=\"60.0\" mnemonicParsing=\"false\" onAction=\"#hello\" text=\"OK\" />\n   </children>\n</AnchorPane>\n";
+
+#[test]
+fn reads_what_scene_builder_writes(rt: HostRuntime) -> Result<(), Fail> {
+    let expected =
+        "import[javafx.scene.control.Button]import[javafx.scene.control.Label]import[javafx.scene.layout.AnchorPane]import[javafx.scene.text.Font]<AnchorPane@8:1 maxHeight@8:13=[-Infinity] maxWidth@8:35=[-Infinity] minHeight@8:56=[-Infinity] minWidth@8:78=[-Infinity] prefHeight@8:99=[400.0] prefWidth@8:118=[600.0] stylesheets@8:136=[@style.css] xmlns@8:161=[http://javafx.com/javafx/21] xmlns:fx@8:197=[http://javafx.com/fxml/1] fx:controller@8:233=[app.Main]><children@9:4><Label@10:7 fx:id@10:14=[title] layoutX@10:28=[14.0] layoutY@10:43=[14.0] text@10:58=[Hello]><font@11:10><Font@12:13 size@12:19=[18.0]></></></><Button@15:7 fx:id@15:15=[ok] layoutX@15:26=[14.0] layoutY@15:41=[60.0] mnemonicParsing@15:56=[false] onAction@15:80=[#hello] text@15:98=[OK]></></></>";
+    assert_eq!(rt; answer(rt.alloc(), SCENE.as_bytes())?.as_str(), expected);
+    Ok(())
+}
+
+#[test]
+fn stops_at_the_end_of_each_prefix(rt: HostRuntime) -> Result<(), Fail> {
+    let alloc = rt.alloc();
+    let mut prefix = Vec::new(alloc);
+    let mut line = 1u32;
+    let mut column = 1u32;
+    for byte in SCENE.trim_end().as_bytes() {
+        let expected = format!(in alloc; "markup {line}:{column}")?;
+        assert_eq!(rt;
+            answer(alloc, prefix.as_slice())?.as_str(),
+            expected.as_str()
+        );
+        prefix.push(*byte)?;
+        if *byte == b'\n' {
+            line = line.wrapping_add(1);
+            column = 1;
+        } else {
+            column = column.wrapping_add(1);
+        }
     }
+    Ok(())
+}
+
+/// The text, a part so many times, and the rest.
+fn repeated(
+    alloc: Global,
+    before: &str,
+    part: &str,
+    times: usize,
+    behind: &str,
+) -> Result<String, Fail> {
+    let mut text = String::from_str(alloc, before)?;
+    for _ in 0..times {
+        text.push_str(part)?;
+    }
+    text.push_str(behind)?;
     Ok(text)
 }
 
 #[test]
-fn keeps_the_limits(rt: HostRuntime) -> Result<(), Fail> {
+fn keeps_the_limit_on_depth(rt: HostRuntime) -> Result<(), Fail> {
     let alloc = rt.alloc();
-    assert!(rt; read(alloc, nested(alloc, 128)?.as_str()).is_ok());
-    assert!(rt; read(alloc, nested(alloc, 129)?.as_str()).is_err());
-    let mut text = String::from_str(alloc, "<?import \t b ?><?import ")?;
-    for _ in 0..4097 {
-        text.push('a')?;
+    let ends = repeated(alloc, "", "</a>", 128, "")?;
+    let deep = repeated(alloc, "", "<a>", 128, ends.as_str())?;
+    assert!(rt;
+        answer(alloc, deep.as_bytes())?
+            .as_str()
+            .starts_with("<a@1:1><a@1:4>")
+    );
+    let deeper = repeated(alloc, "", "<a>", 129, "")?;
+    assert_eq!(rt; answer(alloc, deeper.as_bytes())?.as_str(), "depth 1:385");
+    Ok(())
+}
+
+#[test]
+fn keeps_the_limit_on_lengths(rt: HostRuntime) -> Result<(), Fail> {
+    let alloc = rt.alloc();
+    let rows = [
+        ("<", "a", 4097, "/>", "long 1:4098"),
+        ("<?", "p", 4097, "", "long 1:4099"),
+        ("<a ", "b", 4097, "", "long 1:4100"),
+        ("<a b=\"", "x", 4096, "&lt;\"/>", "long 1:4103"),
+        ("<a b=\"", "x", 4096, "&l", "markup 1:4105"),
+        ("<a>", " ", 4096, "\n", "long 1:4100"),
+        ("<a>", "x", 4096, "<!-- y -->&#x41;", "long 1:4110"),
+        ("<a>", "x", 4096, "<!-- y --></b", "markup 1:4112"),
+        ("", " ", 5000, "<a/>", "<a@1:5001></>"),
+    ];
+    for (before, part, times, behind, expected) in rows {
+        let text = repeated(alloc, before, part, times, behind)?;
+        assert_eq!(rt; answer(alloc, text.as_bytes())?.as_str(), expected);
     }
-    text.push_str("?><a/>")?;
-    let document = read(alloc, text.as_str())?;
-    let imports = document.imports.as_slice();
-    assert_eq!(rt; imports.len(), 1);
-    assert_eq!(rt; imports[0].as_str(), "b");
     Ok(())
 }

@@ -1,19 +1,22 @@
 -- What a document's parts mean to a scene, one part more at a time.
-use Rattle.std.proofs.Common.{arith, cond, vec_len, Vec, Global, not, ◌||◌, ◌≡◌, ◌<◌, ℕ, ◌+◌, suc, Bool, true, false, ◌&&◌, List, [], ◌∷◌, ◌++◌, length, get_or, take, drop, map, Option, Some, None, Bor, sym, ◌∙◌, ap, refl, subst, append_assoc, take-append-drop, eqb}
+use Rattle.std.proofs.Common.{cond, vec_len, Vec, Global, not, ◌||◌, ◌≡◌, ◌<◌, ℕ, ◌+◌, Bool, true, false, ◌&&◌, List, [], ◌∷◌, ◌++◌, length, get_or, take, drop, map, Option, Some, None, Bor, sym, ◌∙◌, ap, refl, subst, append_assoc, take-append-drop, eqb}
 use Rattle.std.specs.Option.{option_map, option_map_or}
 use Rattle.std.specs.List.{cons_option, find, list_any}
-use Rattle.std.proofs.lemmas.Bool.{eqb-true}
 use Rattle.std.proofs.lemmas.List.{drop_more, map-append, take_more}
-use Rattle.fx_doc.specs.Outline.{Attr, Nodes, Nothing, Letters, Node as Branching}
-use Rattle.fx_doc.specs.View.{Part, Grown, Written, attribute_of, branch_of, joined, nodes_of, part_of, put}
-use Rattle.fx_doc.specs.declared.tree.Content.{Content}
-use Rattle.fx_doc.specs.declared.tree.Element.{Element, out-Element}
-use Rattle.fx_doc.proofs.ViewLemmas.{branch_of-out, joined-append, nodes_of-push}
+use Rattle.fx_markup.specs.Grammar.{Attr, Nodes, Nothing, Letters, Node as Branching}
+use Rattle.fx_markup.specs.Machine.{is_nothing}
+use Rattle.fx_doc.specs.Views.{Onto, attr_view, built, content_step, element_step, nodes_of, onto, onto_element}
+use Rattle.fx_doc.specs.declared.document.Content.{Content}
+use Rattle.fx_doc.specs.declared.document.Content.TheOpen as o
+use Rattle.fx_doc.specs.declared.document.Content.TheFolds as f
+use Rattle.fx_doc.specs.declared.document.Content.TheViews as w
+use Rattle.fx_doc.specs.declared.document.Element.{Element}
+use Rattle.fx_doc.proofs.Trees.{element_head, element_node, nodes_of_push, nothing_is}
 use Rattle.fx_plain.specs.Scene.{all_differ, names_of, one_more, region_named, regions_of}
 use Rattle.fx_plain.specs.Script.{same_text}
 use Rattle.fx_plain.specs.World.{is_named}
 use Rattle.fx_plain.specs.declared.nodes.Node.{Node}
-use Rattle.fx_load.specs.Parts.{RegionsPushed, branch_region, part_region}
+use Rattle.fx_load.specs.Parts.{RegionsPushed, part_region}
 
 pub find-map : {A B : Type 0} (test : B → Bool) (f : A → B) (xs : List A) → find test (map f xs) ≡ option_map f (find (λ x. test (f x)) xs)
 find-map test f [] = refl
@@ -28,32 +31,43 @@ option_map-now f None = refl
 option_map-now f (Some a) = refl
 
 -- one region more, or something else
-region_joined : (before : Nodes) (p : Part) → regions_of (joined before (p ∷ [])) ≡ one_more (regions_of before) (part_region p)
-region_joined before (Grown b) = refl
-region_joined before (Written text spot) = nothing (regions_of before)
-  where
-    nothing : (r : Option (List Node)) → None ≡ one_more r None
-    nothing None = refl
-    nothing (Some rs) = refl
+nothing_more : (r : Option (List Node)) → None ≡ one_more r None
+nothing_more None = refl
+nothing_more (Some rs) = refl
+
+stepped : (x : o.Content-F Content Element) (n : Nodes)
+    → regions_of (content_step (f.map-Content Content Element Onto Onto (f.fold-Content Onto Onto content_step element_step) (f.fold-Element Onto Onto content_step element_step) x) n)
+    ≡ one_more (regions_of n) (part_region (content_step (f.map-Content Content Element Onto Onto (f.fold-Content Onto Onto content_step element_step) (f.fold-Element Onto Onto content_step element_step) x) Nothing))
+stepped (o.Child e) n = ap regions_of (element_node e n) ∙ ap (λ y. one_more (regions_of n) (part_region y)) (sym (element_node e Nothing))
+stepped (o.Chars t line column) n = nothing_more (regions_of n)
+
+region_joined : (before : Nodes) (c : Content) → regions_of (onto c before) ≡ one_more (regions_of before) (part_region (onto c Nothing))
+region_joined before c =
+    ap (λ (g : Onto). regions_of (g before)) (f.fold_out-Content Onto Onto content_step element_step c)
+    ∙ (stepped (w.out-Content c) before
+    ∙ ap (λ (g : Onto). one_more (regions_of before) (part_region (g Nothing))) (sym (f.fold_out-Content Onto Onto content_step element_step c)))
 
 pub regions_more : (content : List Content) (i : ℕ) (x : Content) → i < length content → x ≡ get_or content i x
-    → regions_of (nodes_of (take (i + 1) content)) ≡ one_more (regions_of (nodes_of (take i content))) (part_region (part_of x))
+    → regions_of (nodes_of (take (i + 1) content)) ≡ one_more (regions_of (nodes_of (take i content))) (part_region (onto x Nothing))
 regions_more content i x h is =
     ap (λ xs. regions_of (nodes_of xs)) (take_more content i x h ∙ ap (λ y. take i content ++ (y ∷ [])) (sym is))
-    ∙ (ap regions_of (nodes_of-push (take i content) x) ∙ region_joined (nodes_of (take i content)) (part_of x))
+    ∙ (ap regions_of (nodes_of_push (take i content) x) ∙ region_joined (nodes_of (take i content)) x)
 
 -- where something else stands, nothing behind it makes regions of it
-stays_none : (before : Nodes) (parts : List Part) → regions_of before ≡ None → regions_of (joined before parts) ≡ None
+stays_none : (before : Nodes) (content : List Content) → regions_of before ≡ None → regions_of (built before (map onto content)) ≡ None
 stays_none before [] e = e
-stays_none before (Grown b ∷ parts) e = stays_none (put b before) parts (ap (λ r. one_more r (part_region (Grown b))) e)
-stays_none before (Written text spot ∷ parts) e = stays_none (Letters before text spot) parts refl
+stays_none before (c ∷ cs) e = stays_none (onto c before) cs (region_joined before c ∙ ap (λ r. one_more r (part_region (onto c Nothing))) e)
+
+built_append : (before : Nodes) (fs gs : List Onto) → built before (fs ++ gs) ≡ built (built before fs) gs
+built_append before [] gs = refl
+built_append before (g ∷ fs) gs = built_append (g before) fs gs
 
 pub regions_none : (content : List Content) (i : ℕ) → regions_of (nodes_of (take i content)) ≡ None → regions_of (nodes_of content) ≡ None
 regions_none content i e =
     ap (λ xs. regions_of (nodes_of xs)) (sym (take-append-drop i content))
-    ∙ (ap (λ ps. regions_of (joined Nothing ps)) (map-append part_of (take i content) (drop i content))
-    ∙ (ap regions_of (joined-append Nothing (map part_of (take i content)) (map part_of (drop i content)))
-    ∙ stays_none (nodes_of (take i content)) (map part_of (drop i content)) e))
+    ∙ (ap (λ fs. regions_of (built Nothing fs)) (map-append onto (take i content) (drop i content))
+    ∙ (ap regions_of (built_append Nothing (map onto (take i content)) (map onto (drop i content)))
+    ∙ stays_none (nodes_of (take i content)) (drop i content) e))
 
 pub pushes_more : (r : Option (List Node)) (old now new : List Node) (region : Node) → RegionsPushed true r old now → new ≡ now ++ (region ∷ [])
     → RegionsPushed true (one_more r (Some region)) old new
@@ -65,7 +79,7 @@ one_more-none None = refl
 one_more-none (Some rs) = refl
 
 -- a part that is no region
-pub pushes_none : (content : List Content) (i : ℕ) (x : Content) (old now : List Node) → i < length content → x ≡ get_or content i x → None ≡ part_region (part_of x)
+pub pushes_none : (content : List Content) (i : ℕ) (x : Content) (old now : List Node) → i < length content → x ≡ get_or content i x → None ≡ part_region (onto x Nothing)
     → RegionsPushed false (regions_of (nodes_of content)) old now
 pushes_none content i x old now h is e =
     let IsPushed : Option (List Node) → Type 0 = λ r. RegionsPushed false r old now in
@@ -75,13 +89,8 @@ pushes_none content i x old now h is e =
 length_of : (v : Vec Content Global) → length v.items ≡ vec_len v
 length_of v = cc
 
-abbrev IsFull : Nodes → Type 0
-IsFull Nothing = ⊥
-IsFull (Letters before text spot) = Unit {0}
-IsFull (Branching before name attributes spot inner) = Unit {0}
-
 pub pushes_next : (content : List Content) (i : ℕ) (x : Content) (region : Node) (old now new : List Node) → i < length content → x ≡ get_or content i x
-    → Some region ≡ part_region (part_of x) → RegionsPushed true (regions_of (nodes_of (take i content))) old now → new ≡ now ++ (region ∷ [])
+    → Some region ≡ part_region (onto x Nothing) → RegionsPushed true (regions_of (nodes_of (take i content))) old now → new ≡ now ++ (region ∷ [])
     → RegionsPushed true (regions_of (nodes_of (take (i + 1) content))) old new
 pushes_next content i x region old now new h is e pushed more =
     let IsPushed : Option (List Node) → Type 0 = λ r. RegionsPushed true r old new in
@@ -89,32 +98,25 @@ pushes_next content i x region old now new h is e pushed more =
     (pushes_more (regions_of (nodes_of (take i content))) old now new region pushed more)
 
 -- an element with content is no region
-full : (name : List ℕ) (attributes : List Attr) (xs : List Part) (before : Nodes) → IsFull before → region_named name attributes (joined before xs) ≡ None
-full name attributes [] Nothing f = absurd f
-full name attributes [] (Letters before text spot) f = refl
-full name attributes [] (Branching before n a spot inner) f = refl
-full name attributes (Grown b ∷ xs) before f = full name attributes xs (put b before) tt
-full name attributes (Written text spot ∷ xs) before f = full name attributes xs (Letters before text spot) tt
+full : (name : List ℕ) (attributes : List Attr) (n : Nodes) → is_nothing n ≡ false → region_named name attributes n ≡ None
+full name attributes Nothing e = absurd (let h : true ≡ false = e in cc)
+full name attributes (Letters before text spot) e = refl
+full name attributes (Branching before head inner) e = refl
 
-pub no_region : (e : Element) → eqb (vec_len (out-Element e).content) 0 ≡ false → branch_region (branch_of e) ≡ None
-no_region e h = ap branch_region (branch_of-out e) ∙ begins (out-Element e).content.items (ap (λ n. eqb n 0) (length_of (out-Element e).content) ∙ h)
-  where
-    first : (p : Part) (ps : List Part) → region_named (out-Element e).name (map attribute_of (out-Element e).attributes) (joined Nothing (p ∷ ps)) ≡ None
-    first (Grown b) ps = full (out-Element e).name (map attribute_of (out-Element e).attributes) ps (put b Nothing) tt
-    first (Written text spot) ps = full (out-Element e).name (map attribute_of (out-Element e).attributes) ps (Letters Nothing text spot) tt
+bare : (name : List ℕ) (attributes : List Attr) (n : Nodes) → is_nothing n ≡ true → region_named name attributes n ≡ region_named name attributes Nothing
+bare name attributes Nothing e = refl
+bare name attributes (Letters before text spot) e = absurd (let h : false ≡ true = e in cc)
+bare name attributes (Branching before head inner) e = absurd (let h : false ≡ true = e in cc)
 
-    begins : (items : List Content) → eqb (length items) 0 ≡ false → region_named (out-Element e).name (map attribute_of (out-Element e).attributes) (nodes_of items) ≡ None
-    begins [] h = absurd (cc)
-    begins (x ∷ xs) h = first (part_of x) (map part_of xs)
+content_is : (e : Element) → eqb (vec_len (w.out-Element e).content) 0 ≡ is_nothing (nodes_of (w.out-Element e).content.items)
+content_is e = nothing_is (w.out-Element e).content.items (vec_len (w.out-Element e).content) (sym (length_of (w.out-Element e).content))
 
-pub empty_region : (e : Element) → eqb (vec_len (out-Element e).content) 0 ≡ true
-    → branch_region (branch_of e) ≡ region_named (out-Element e).name (map attribute_of (out-Element e).attributes) Nothing
-empty_region e h = ap branch_region (branch_of-out e) ∙ empty (out-Element e).content.items (ap (λ n. eqb n 0) (length_of (out-Element e).content) ∙ h)
-  where
-    empty : (items : List Content) → eqb (length items) 0 ≡ true
-        → region_named (out-Element e).name (map attribute_of (out-Element e).attributes) (nodes_of items) ≡ region_named (out-Element e).name (map attribute_of (out-Element e).attributes) Nothing
-    empty [] h = refl
-    empty (x ∷ xs) h = let z : suc (length xs) ≡ 0 = eqb-true (suc (length xs)) 0 h in absurd (omega arith)
+pub no_region : (e : Element) → eqb (vec_len (w.out-Element e).content) 0 ≡ false → part_region (onto_element e Nothing) ≡ None
+no_region e h = ap part_region (element_node e Nothing) ∙ full (element_head e).name (element_head e).attributes (nodes_of (w.out-Element e).content.items) (sym (content_is e) ∙ h)
+
+pub empty_region : (e : Element) → eqb (vec_len (w.out-Element e).content) 0 ≡ true
+    → part_region (onto_element e Nothing) ≡ region_named (w.out-Element e).name (map attr_view (w.out-Element e).attributes) Nothing
+empty_region e h = ap part_region (element_node e Nothing) ∙ bare (element_head e).name (element_head e).attributes (nodes_of (w.out-Element e).content.items) (sym (content_is e) ∙ h)
 
 -- a name among those of the nodes behind it
 any_named : (name : List ℕ) (nodes : List Node) → list_any (λ other. same_text other name) (names_of nodes) ≡ list_any (is_named name) nodes

@@ -1,21 +1,14 @@
 -- What one piece of a document means to a scene.
-use Rattle.std.specs.Prelude.{◌≡◌, Bool, true, false, List, ◌++◌, Option, Some, None, codes, if◌then◌else◌}
-use Rattle.fx_doc.specs.View.{Branch, Part, Grown, Written}
-use Rattle.fx_plain.specs.Scene.{pane_of, region_named, regions_of, with_regions}
-use Rattle.fx_plain.specs.Script.{same_text}
+use Rattle.std.specs.Prelude.{◌≡◌, Bool, true, false, List, ◌++◌, Option, Some, None}
+use Rattle.fx_markup.specs.Grammar.{Nodes, Nothing, Letters, Node as Element}
+use Rattle.fx_plain.specs.Scene.{region_named}
 use Rattle.fx_plain.specs.declared.nodes.Node.{Node}
 
--- the region that an element is, if it is one
-abbrev pub branch_region : Branch → Option Node
-branch_region b = region_named b.name b.attributes b.content
-
-abbrev pub part_region : Part → Option Node
-part_region (Grown b) = branch_region b
-part_region (Written text spot) = None
-
--- the nodes of a pane with its regions
-abbrev pub pane_of_branch : Branch → Option (List Node)
-pane_of_branch b = if same_text b.name (codes "Pane") then with_regions (pane_of b.attributes) (regions_of b.content) else None
+-- the region that a piece by itself is, if it is one
+abbrev pub part_region : Nodes → Option Node
+part_region Nothing = None
+part_region (Letters before text spot) = None
+part_region (Element before head content) = region_named head.name head.attributes content
 
 -- all regions were appended, or there is something else among them
 abbrev pub RegionsPushed : Bool → Option (List Node) → List Node → List Node → Type 0

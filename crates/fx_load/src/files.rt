@@ -2,12 +2,13 @@
 ghost use Rattle.std.specs.Prelude.{◌≡◌, ◌≤◌, IfOk, Some, length};
 ghost use Rattle.fx_port.specs.Causes.{HasCause};
 ghost use Rattle.fx_port.specs.Files.{Files};
-ghost use Rattle.fx_plain.specs.Faults.{whole_fault};
+ghost use Rattle.fx_plain.specs.Faults.{fault_at, whole_fault};
 ghost use Rattle.fx_plain.specs.Loading.{bytes_of};
 ghost use Rattle.fx_load.specs.Says.{LoadSays};
 ghost use Rattle.fx_load.specs.Views.{fault_of};
 ghost use Rattle.fx_load.specs.declared.files.LoadError.TheVariants.{Failed};
 
+use fx_markup::Place;
 use fx_plain::FaultKind;
 use fx_port::{FetchError, Fetched, Shelf};
 use std::alloc::{AllocError, Global};
@@ -41,6 +42,18 @@ impl<'a> FileFault<'a> {
             file,
             line: 0,
             column: 0,
+        }
+    }
+
+    /// The file is refused at a place.
+    pub fn at(kind: FaultKind, file: &'a str, place: Place) -> FileFault<'a>
+        ensures { fault_of result ≡ fault_at kind file.now place }
+    {
+        FileFault {
+            kind,
+            file,
+            line: place.line,
+            column: place.column,
         }
     }
 }

@@ -1,6 +1,12 @@
 //! Loading a run: the script first, and then the scene.
-ghost use Rattle.std.specs.Prelude.{◌≡◌, ◌≤◌, Err, IfOk, Some, length, vec_len};
-ghost use Rattle.fx_plain.specs.Loading.{elaborate, nodes_of_scene};
+ghost use Rattle.std.specs.Prelude.{◌≡◌, ◌≤◌, Err, IfOk, Some, Vec, length, vec_len};
+ghost use Rattle.std.specs.Global.{Global};
+ghost use Rattle.fx_doc.specs.Judgements.{Judgement, Tells};
+ghost use Rattle.fx_doc.specs.Reads.{HasFault};
+ghost use Rattle.fx_doc.specs.Views.{reading};
+ghost use Rattle.fx_markup.specs.Verdicts.{Reads};
+ghost use Rattle.fx_plain.specs.Loading.{elaborate, nodes_of_judgement, nodes_of_scene, nodes_of_verdict};
+ghost use Rattle.fx_plain.specs.declared.nodes.Node.{Node};
 ghost use Rattle.fx_port.specs.Causes.{HasCause};
 ghost use Rattle.fx_port.specs.Files.{Files};
 ghost use Rattle.fx_load.specs.Loads.{loaded_of};
@@ -11,7 +17,8 @@ ghost use Rattle.fx_load.specs.declared.files.LoadError.TheVariants.{Failed};
 use crate::files::{FileFault, LoadError, Run, read_file};
 use crate::scene::scene_nodes;
 use crate::scripts::read_script;
-use fx_doc::{DocError, read_document};
+use fx_doc::{DocError, Document, place_behind, read_document};
+use fx_markup::Place;
 use fx_plain::{FaultKind, Line, Node};
 use fx_port::Shelf;
 use std::alloc::Global;
@@ -47,15 +54,44 @@ fn read_scene<'a>(alloc: Global, name: &'a str, bytes: &[u8]) -> Result<Vec<Node
     ensures says { LoadSays (λ nodes. nodes.items) result (nodes_of_scene name.now bytes.now) }
     ensures fetches_nothing { ¬ (result ≡ Err LoadError.Failed) }
 {
-    let document = match read_document(alloc, bytes) {
-        Ok(document) => document,
-        Err(DocError::NotBuilt) => {
-            return Err(LoadError::Fault(FileFault::whole(FaultKind::NotBuilt, name)));
-        }
-        Err(DocError::Memory) => return Err(LoadError::Memory),
-    };
-    match scene_nodes(alloc, &document)? {
+    match read_document(alloc, bytes) {
+        Ok(document) => nodes_in(alloc, name, &document),
+        Err(error) => Err(refused(name, bytes, error)),
+    }
+}
+
+fn nodes_in<'a>(
+    alloc: Global,
+    name: &'a str,
+    document: &Document,
+) -> Result<Vec<Node>, LoadError<'a>>
+    ensures says { LoadSays (λ nodes. nodes.items) result (nodes_of_verdict name.now (Reads (reading document.now))) }
+    ensures fetches_nothing { ¬ (result ≡ Err LoadError.Failed) }
+{
+    match scene_nodes(alloc, document)? {
         Some(nodes) => Ok(nodes),
         None => Err(LoadError::Fault(FileFault::whole(FaultKind::NotBuilt, name))),
+    }
+}
+
+/// The refusal of a file that is no document.
+fn refused<'a>(name: &'a str, bytes: &[u8], error: DocError) -> LoadError<'a>
+    requires size { length bytes.now ≤ 4194304 }
+    requires fault { HasFault bytes.now error }
+    ensures says { (j : Judgement) → Tells (Err error) j → LoadSays (λ (nodes : Vec Node Global). nodes.items) (Err result) (nodes_of_judgement name.now bytes.now j) }
+    ensures fetches_nothing { ¬ (result ≡ LoadError.Failed) }
+{
+    match error {
+        DocError::NotUtf8(valid) => {
+            let place = place_behind(bytes.split_at(valid).0);
+            LoadError::Fault(FileFault::at(FaultKind::NotUtf8, name, place))
+        }
+        DocError::Markup(line, column) => {
+            LoadError::Fault(FileFault::at(FaultKind::Markup, name, Place { line, column }))
+        }
+        DocError::Depth(line, column) | DocError::Long(line, column) => {
+            LoadError::Fault(FileFault::at(FaultKind::Limit, name, Place { line, column }))
+        }
+        DocError::Memory => LoadError::Memory,
     }
 }

@@ -2,12 +2,12 @@
 ghost use Rattle.std.specs.Prelude.{◌≡◌, ◌<◌, IfOk, IfSome, codes, is_some, map, not, true};
 ghost use Rattle.std.specs.List.{find, list_all, list_any};
 ghost use Rattle.std.specs.Option.{option_and_then, option_map, option_map_or};
-ghost use Rattle.fx_doc.specs.Outline.{Nothing};
-ghost use Rattle.fx_doc.specs.View.{attribute_of, branch_of, document_of, nodes_of, part_of};
-ghost use Rattle.fx_plain.specs.Scene.{all_differ, checked, color_of_digits, color_of_style, has_both_sizes, has_name, hex_pair, hex_value, is_good_id, is_good_place, is_good_size, is_good_style, is_pane, is_pane_attribute, is_region, is_region_attribute, names_of, node_of, number_at, pane_of, region_named, region_of, regions_of, scene_of, value_at};
+ghost use Rattle.fx_doc.specs.Views.{attr_view, nodes_of, onto, onto_element, reading};
+ghost use Rattle.fx_markup.specs.Grammar.{Nothing};
+ghost use Rattle.fx_plain.specs.Scene.{all_differ, checked, color_of_digits, color_of_style, has_both_sizes, has_name, hex_pair, hex_value, is_good_id, is_good_place, is_good_size, is_good_style, is_pane, is_pane_attribute, is_region, is_region_attribute, names_of, node_of, number_at, pane_of, pane_with_regions, region_named, region_of, regions_of, scene_of, value_at};
 ghost use Rattle.fx_plain.specs.Script.{same_text, small_number};
 ghost use Rattle.fx_plain.specs.World.{is_named};
-ghost use Rattle.fx_load.specs.Parts.{RegionsPushed, branch_region, pane_of_branch, part_region};
+ghost use Rattle.fx_load.specs.Parts.{RegionsPushed, part_region};
 
 use fx_base::{Color, Text, is_identifier};
 use fx_doc::{Attribute, Content, Document, Element};
@@ -18,7 +18,7 @@ use std::alloc::{AllocError, Global};
 /// The nodes in document order, the pane first, if the document is a pane with regions.
 #[tactic(auto, unfolding(fx_plain::specs::Scene::scene_of))]
 pub fn scene_nodes(alloc: Global, document: &Document) -> Result<Option<Vec<Node>>, AllocError>
-    ensures { IfOk result (λ nodes. option_map (λ v. v.items) nodes ≡ scene_of (document_of document.now)) }
+    ensures { IfOk result (λ nodes. option_map (λ v. v.items) nodes ≡ scene_of (reading document.now)) }
 {
     if !imports_layout(document.imports.as_slice()) {
         return Ok(None);
@@ -35,7 +35,7 @@ fn imports_layout(imports: &[Text]) -> bool
 }
 
 fn pane_with_regions(alloc: Global, root: &Element) -> Result<Option<Vec<Node>>, AllocError>
-    ensures { IfOk result (λ nodes. option_map (λ v. v.items) nodes ≡ pane_of_branch (branch_of root.now)) }
+    ensures { IfOk result (λ nodes. option_map (λ v. v.items) nodes ≡ pane_with_regions (onto_element root.now Nothing)) }
 {
     if root.name.as_str() != "Pane" {
         return Ok(None);
@@ -69,7 +69,7 @@ fn push_regions(
 }
 
 fn region_of_part(alloc: Global, part: &Content) -> Result<Option<Node>, AllocError>
-    ensures { IfOk result (λ region. region ≡ part_region (part_of part.now)) }
+    ensures { IfOk result (λ region. region ≡ part_region (onto part.now Nothing)) }
 {
     match part {
         Content::Child(element) => region_of_element(alloc, element),
@@ -78,7 +78,7 @@ fn region_of_part(alloc: Global, part: &Content) -> Result<Option<Node>, AllocEr
 }
 
 fn region_of_element(alloc: Global, element: &Element) -> Result<Option<Node>, AllocError>
-    ensures { IfOk result (λ region. region ≡ branch_region (branch_of element.now)) }
+    ensures { IfOk result (λ region. region ≡ part_region (onto_element element.now Nothing)) }
 {
     if element.content.is_empty() {
         region_named(alloc, element.name.as_str(), element.attributes.as_slice())
@@ -92,7 +92,7 @@ fn region_named(
     name: &str,
     attributes: &[Attribute],
 ) -> Result<Option<Node>, AllocError>
-    ensures { IfOk result (λ region. region ≡ region_named name.now (map attribute_of attributes.now) Nothing) }
+    ensures { IfOk result (λ region. region ≡ region_named name.now (map attr_view attributes.now) Nothing) }
 {
     if name == "Region" {
         region_of(alloc, attributes)
@@ -102,7 +102,7 @@ fn region_named(
 }
 
 fn region_of(alloc: Global, attributes: &[Attribute]) -> Result<Option<Node>, AllocError>
-    ensures { IfOk result (λ region. region ≡ region_of (map attribute_of attributes.now)) }
+    ensures { IfOk result (λ region. region ≡ region_of (map attr_view attributes.now)) }
 {
     if is_region(attributes) {
         Ok(Some(node_of(alloc, attributes)?))
@@ -112,7 +112,7 @@ fn region_of(alloc: Global, attributes: &[Attribute]) -> Result<Option<Node>, Al
 }
 
 fn pane_of(alloc: Global, attributes: &[Attribute]) -> Result<Option<Node>, AllocError>
-    ensures { IfOk result (λ pane. pane ≡ pane_of (map attribute_of attributes.now)) }
+    ensures { IfOk result (λ pane. pane ≡ pane_of (map attr_view attributes.now)) }
 {
     if is_pane(attributes) {
         Ok(Some(node_of(alloc, attributes)?))
@@ -122,44 +122,44 @@ fn pane_of(alloc: Global, attributes: &[Attribute]) -> Result<Option<Node>, Allo
 }
 
 fn is_region(attributes: &[Attribute]) -> bool
-    ensures { result ≡ is_region (map attribute_of attributes.now) }
+    ensures { result ≡ is_region (map attr_view attributes.now) }
 {
     is_region_attribute_each(attributes)
 }
 
 fn is_region_attribute_each(attributes: &[Attribute]) -> bool
-    ensures { result ≡ list_all (λ a. is_region_attribute (attribute_of a)) attributes.now }
+    ensures { result ≡ list_all (λ a. is_region_attribute (attr_view a)) attributes.now }
 {
     attributes.iter().all(|a| is_region_attribute(a))
 }
 
 fn is_pane(attributes: &[Attribute]) -> bool
-    ensures { result ≡ is_pane (map attribute_of attributes.now) }
+    ensures { result ≡ is_pane (map attr_view attributes.now) }
 {
     are_pane_attributes(attributes) && has_both_sizes(attributes)
 }
 
 fn has_both_sizes(attributes: &[Attribute]) -> bool
-    ensures { result ≡ has_both_sizes (map attribute_of attributes.now) }
+    ensures { result ≡ has_both_sizes (map attr_view attributes.now) }
 {
     number_at(attributes, "prefWidth").is_some() && number_at(attributes, "prefHeight").is_some()
 }
 
 fn are_pane_attributes(attributes: &[Attribute]) -> bool
-    ensures { result ≡ list_all is_pane_attribute (map attribute_of attributes.now) }
+    ensures { result ≡ list_all is_pane_attribute (map attr_view attributes.now) }
 {
     is_pane_attribute_each(attributes)
 }
 
 fn is_pane_attribute_each(attributes: &[Attribute]) -> bool
-    ensures { result ≡ list_all (λ a. is_pane_attribute (attribute_of a)) attributes.now }
+    ensures { result ≡ list_all (λ a. is_pane_attribute (attr_view a)) attributes.now }
 {
     attributes.iter().all(|a| is_pane_attribute(a))
 }
 
 #[tactic(auto, unfolding(fx_plain::specs::Scene::node_of))]
 fn node_of(alloc: Global, attributes: &[Attribute]) -> Result<Node, AllocError>
-    ensures { IfOk result (λ node. node ≡ node_of (map attribute_of attributes.now)) }
+    ensures { IfOk result (λ node. node ≡ node_of (map attr_view attributes.now)) }
 {
     Ok(Node {
         name: text_at(alloc, attributes, "fx:id")?,
@@ -173,19 +173,19 @@ fn node_of(alloc: Global, attributes: &[Attribute]) -> Result<Node, AllocError>
 
 /// The attribute of this name.
 fn attribute_at<'a>(attributes: &'a [Attribute], name: &str) -> Option<&'a Attribute>
-    ensures { option_map (λ a. attribute_of a.now) result ≡ find (has_name name.now) (map attribute_of attributes.now) }
+    ensures { option_map (λ a. attr_view a.now) result ≡ find (has_name name.now) (map attr_view attributes.now) }
 {
     first_named(attributes, name)
 }
 
 fn first_named<'a>(attributes: &'a [Attribute], name: &str) -> Option<&'a Attribute>
-    ensures { option_map (λ a. a.now) result ≡ find (λ a. has_name name.now (attribute_of a)) attributes.now }
+    ensures { option_map (λ a. a.now) result ≡ find (λ a. has_name name.now (attr_view a)) attributes.now }
 {
     attributes.iter().find(|a| has_name(a, name))
 }
 
 fn text_at(alloc: Global, attributes: &[Attribute], name: &str) -> Result<Option<Text>, AllocError>
-    ensures { IfOk result (λ text. text ≡ value_at (map attribute_of attributes.now) name.now) }
+    ensures { IfOk result (λ text. text ≡ value_at (map attr_view attributes.now) name.now) }
 {
     match attribute_at(attributes, name) {
         Some(attribute) => Ok(Some(attribute.value.copy(alloc)?)),
@@ -194,7 +194,7 @@ fn text_at(alloc: Global, attributes: &[Attribute], name: &str) -> Result<Option
 }
 
 fn number_at(attributes: &[Attribute], name: &str) -> Option<u32>
-    ensures { result ≡ number_at (map attribute_of attributes.now) name.now }
+    ensures { result ≡ number_at (map attr_view attributes.now) name.now }
 {
     match attribute_at(attributes, name) {
         Some(attribute) => small_number(attribute.value.as_str().as_bytes()),
@@ -203,7 +203,7 @@ fn number_at(attributes: &[Attribute], name: &str) -> Option<u32>
 }
 
 fn color_at(attributes: &[Attribute], name: &str) -> Option<Color>
-    ensures { result ≡ option_and_then color_of_style (value_at (map attribute_of attributes.now) name.now) }
+    ensures { result ≡ option_and_then color_of_style (value_at (map attr_view attributes.now) name.now) }
 {
     match attribute_at(attributes, name) {
         Some(attribute) => color_of_style(attribute.value.as_str().as_bytes()),
@@ -213,20 +213,20 @@ fn color_at(attributes: &[Attribute], name: &str) -> Option<Color>
 
 #[tactic(auto, unfolding(fx_plain::specs::Scene::is_region_attribute))]
 fn is_region_attribute(a: &Attribute) -> bool
-    ensures { result ≡ is_region_attribute (attribute_of a.now) }
+    ensures { result ≡ is_region_attribute (attr_view a.now) }
 {
     (is_good_id(a) || is_good_size(a)) || (is_good_place(a) || is_good_style(a))
 }
 
 #[tactic(auto, unfolding(fx_plain::specs::Scene::is_pane_attribute))]
 fn is_pane_attribute(a: &Attribute) -> bool
-    ensures { result ≡ is_pane_attribute (attribute_of a.now) }
+    ensures { result ≡ is_pane_attribute (attr_view a.now) }
 {
     is_good_id(a) || is_good_size(a)
 }
 
 fn has_name(a: &Attribute, name: &str) -> bool
-    ensures { result ≡ has_name name.now (attribute_of a.now) }
+    ensures { result ≡ has_name name.now (attr_view a.now) }
 {
     a.name.as_str() == name
 }
@@ -238,25 +238,25 @@ fn is_small_number(a: &Attribute) -> bool
 }
 
 fn is_good_id(a: &Attribute) -> bool
-    ensures { result ≡ is_good_id (attribute_of a.now) }
+    ensures { result ≡ is_good_id (attr_view a.now) }
 {
     has_name(a, "fx:id") && is_identifier(a.value.as_str())
 }
 
 fn is_good_size(a: &Attribute) -> bool
-    ensures { result ≡ is_good_size (attribute_of a.now) }
+    ensures { result ≡ is_good_size (attr_view a.now) }
 {
     (has_name(a, "prefWidth") || has_name(a, "prefHeight")) && is_small_number(a)
 }
 
 fn is_good_place(a: &Attribute) -> bool
-    ensures { result ≡ is_good_place (attribute_of a.now) }
+    ensures { result ≡ is_good_place (attr_view a.now) }
 {
     (has_name(a, "layoutX") || has_name(a, "layoutY")) && is_small_number(a)
 }
 
 fn is_good_style(a: &Attribute) -> bool
-    ensures { result ≡ is_good_style (attribute_of a.now) }
+    ensures { result ≡ is_good_style (attr_view a.now) }
 {
     has_name(a, "style") && color_of_style(a.value.as_str().as_bytes()).is_some()
 }

@@ -2,7 +2,8 @@
 use Rattle.std.specs.Prelude.{ℕ, List, [], ◌∷◌, ◌++◌, codes}
 use Rattle.std.specs.Fmt.{decimal}
 use Rattle.fx_plain.specs.declared.answers.FaultKind.{FaultKind}
-use Rattle.fx_plain.specs.declared.answers.FaultKind.TheVariants.{Missing, TooLarge, NotBuilt}
+use Rattle.fx_markup.specs.declared.Place.{Place}
+use Rattle.fx_plain.specs.declared.answers.FaultKind.TheVariants.{Missing, TooLarge, NotUtf8, Markup, Limit, NotBuilt}
 
 -- why a file is refused, and where: line and column from 1, or 0 and 0 for the file as a whole
 pub record Fault : Type 0 where
@@ -15,9 +16,15 @@ pub record Fault : Type 0 where
 abbrev pub whole_fault : FaultKind → List ℕ → Fault
 whole_fault kind file = record { kind = kind; file = file; line = 0; column = 0 }
 
+abbrev pub fault_at : FaultKind → List ℕ → Place → Fault
+fault_at kind file place = record { kind = kind; file = file; line = place.line; column = place.column }
+
 abbrev pub kind_word : FaultKind → List ℕ
 kind_word Missing = codes "missing"
 kind_word TooLarge = codes "toolarge"
+kind_word NotUtf8 = codes "notutf8"
+kind_word Markup = codes "markup"
+kind_word Limit = codes "limit"
 kind_word NotBuilt = codes "notbuilt"
 
 -- `fault KIND FILE LINE COLUMN`

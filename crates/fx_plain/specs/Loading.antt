@@ -1,17 +1,19 @@
 -- Loading: the files of a run, in the order of work, and the first fault.
-use Rattle.std.specs.Prelude.{ℕ, Bool, ◌&&◌, List, Option, Some, None, Result, Ok, Err, length, map, nat_le, if◌then◌else◌}
+use Rattle.std.specs.Prelude.{ℕ, Bool, ◌&&◌, List, Option, Some, None, Result, Ok, Err, length, map, take, nat_le, if◌then◌else◌}
 use Rattle.std.specs.Char.{is_ascii}
 use Rattle.std.specs.List.{list_all}
-use Rattle.std.specs.Option.{option_and_then}
 use Rattle.std.specs.Str.Lines.{lines}
-use Rattle.fx_doc.specs.Reading.{read_of}
+use Rattle.fx_doc.specs.Judgements.{Judgement, NoText, Judged, judgement}
+use Rattle.fx_doc.specs.Reads.{document_text}
+use Rattle.fx_markup.specs.Characters.{start, after_all}
+use Rattle.fx_markup.specs.Verdicts.{Verdict, Reads, Stops, Deep, Long as TooLong}
 use Rattle.fx_port.specs.Files.{Files, Found, found_in, whole, absent, longer}
 use Rattle.fx_plain.specs.CommandLine.{Run}
-use Rattle.fx_plain.specs.Faults.{Fault, whole_fault}
+use Rattle.fx_plain.specs.Faults.{Fault, fault_at, whole_fault}
 use Rattle.fx_plain.specs.Scene.{scene_of}
 use Rattle.fx_plain.specs.Script.{line_of}
 use Rattle.fx_plain.specs.World.{World}
-use Rattle.fx_plain.specs.declared.answers.FaultKind.TheVariants.{Missing, TooLarge, NotBuilt}
+use Rattle.fx_plain.specs.declared.answers.FaultKind.TheVariants.{Missing, TooLarge, NotUtf8, Markup, Limit, NotBuilt}
 use Rattle.fx_plain.specs.declared.lines.Line.{Line}
 use Rattle.fx_plain.specs.declared.nodes.Node.{Node}
 
@@ -37,9 +39,21 @@ abbrev pub nodes_or_fault : List ℕ → Option (List Node) → Result (List Nod
 nodes_or_fault name None = Err (whole_fault NotBuilt name)
 nodes_or_fault name (Some nodes) = Ok nodes
 
+-- a document that is read is a scene of this form or not; every other verdict has its fault at its place
+abbrev pub nodes_of_verdict : List ℕ → Verdict → Result (List Node) Fault
+nodes_of_verdict name (Reads reading) = nodes_or_fault name (scene_of reading)
+nodes_of_verdict name (Stops place) = Err (fault_at Markup name place)
+nodes_of_verdict name (Deep place) = Err (fault_at Limit name place)
+nodes_of_verdict name (TooLong place) = Err (fault_at Limit name place)
+
+-- the first byte that is no text stands behind the characters before it
+abbrev pub nodes_of_judgement : List ℕ → List ℕ → Judgement → Result (List Node) Fault
+nodes_of_judgement name bytes (NoText n) = Err (fault_at NotUtf8 name (after_all start (document_text (take n bytes))))
+nodes_of_judgement name bytes (Judged verdict) = nodes_of_verdict name verdict
+
 -- the nodes of a scene file
-abbrev pub nodes_of_scene : List ℕ → List ℕ → Result (List Node) Fault
-nodes_of_scene name bytes = nodes_or_fault name (option_and_then scene_of (read_of bytes))
+unfoldable pub nodes_of_scene : List ℕ → List ℕ → Result (List Node) Fault
+nodes_of_scene name bytes = nodes_of_judgement name bytes (judgement bytes)
 
 -- a scene and a script that can be played
 pub record Loaded : Type 0 where

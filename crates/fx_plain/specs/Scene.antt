@@ -4,7 +4,7 @@ use Rattle.std.specs.List.{filter_map, find, list_all, list_any, starts_with}
 use Rattle.std.specs.Option.{option_and_then, option_map, unwrap_or}
 use Rattle.fx_base.specs.Identifier.{is_identifier}
 use Rattle.fx_base.specs.declared.color.Color.{Color}
-use Rattle.fx_doc.specs.Outline.{Attr, Nodes, Outline, Nothing, Letters, Node as Element}
+use Rattle.fx_markup.specs.Grammar.{Attr, Nodes, Nothing, Letters, Node as Element, Reading}
 use Rattle.fx_plain.specs.Script.{same_text, small_number}
 use Rattle.fx_plain.specs.declared.nodes.Node.{Node}
 
@@ -87,7 +87,7 @@ pane_of attributes = if is_pane attributes then Some (node_of attributes) else N
 abbrev pub region_named : List ℕ → List Attr → Nodes → Option Node
 region_named name attributes Nothing = if same_text name (codes "Region") then region_of attributes else None
 region_named name attributes (Letters before text spot) = None
-region_named name attributes (Element before other others spot content) = None
+region_named name attributes (Element before head content) = None
 
 abbrev pub one_more : Option (List Node) → Option Node → Option (List Node)
 one_more None region = None
@@ -98,7 +98,7 @@ one_more (Some regions) (Some region) = Some (regions ++ (region ∷ []))
 abbrev pub regions_of : Nodes → Option (List Node)
 regions_of Nothing = Some []
 regions_of (Letters before text spot) = None
-regions_of (Element before name attributes spot content) = one_more (regions_of before) (region_named name attributes content)
+regions_of (Element before head content) = one_more (regions_of before) (region_named head.name head.attributes content)
 
 abbrev pub names_of : List Node → List (List ℕ)
 names_of nodes = filter_map (λ (n : Node). n.name) nodes
@@ -120,8 +120,8 @@ with_regions (Some pane) (Some regions) = checked (pane ∷ regions)
 abbrev pub pane_with_regions : Nodes → Option (List Node)
 pane_with_regions Nothing = None
 pane_with_regions (Letters before text spot) = None
-pane_with_regions (Element before name attributes spot content) = if same_text name (codes "Pane") then with_regions (pane_of attributes) (regions_of content) else None
+pane_with_regions (Element before head content) = if same_text head.name (codes "Pane") then with_regions (pane_of head.attributes) (regions_of content) else None
 
 -- the nodes of a document of this form
-unfoldable pub scene_of : Outline → Option (List Node)
+unfoldable pub scene_of : Reading → Option (List Node)
 scene_of document = if list_any (same_text (codes "javafx.scene.layout.*")) document.imports then pane_with_regions document.root else None

@@ -23,6 +23,12 @@ pub enum FaultKind {
     Missing,
     /// The file has more than 4,194,304 bytes.
     TooLarge,
+    /// The file isn't UTF-8.
+    NotUtf8,
+    /// No document goes on as the file does.
+    Markup,
+    /// The file passes a limit on depth or on the length of a text.
+    Limit,
     /// The file is of a form that this player doesn't read.
     NotBuilt,
 }

@@ -10,17 +10,17 @@ use std::marker::Brand;
 use std::sync::ledger::Blank;
 use std::test::Fail;
 
-const SCENE: &str =
-    "<?import javafx.scene.layout.*?><?import javafx.scene.control.*?>\n<Pane prefWidth=\"4\" prefHeight=\"2\"/>";
+const SCENE: &[u8] =
+    b"<?import javafx.scene.layout.*?><?import javafx.scene.control.*?>\n<Pane prefWidth=\"4\" prefHeight=\"2\"/>";
 
-const REGION: &str =
-    "<?import javafx.scene.layout.*?>\n<Pane prefWidth=\"3\" prefHeight=\"2\"><Region fx:id=\"a\" layoutX=\"1\" prefWidth=\"1\" prefHeight=\"1\" style=\"-fx-background-color:#ff0000\"/></Pane>";
+const REGION: &[u8] =
+    b"<?import javafx.scene.layout.*?>\n<Pane prefWidth=\"3\" prefHeight=\"2\"><Region fx:id=\"a\" layoutX=\"1\" prefWidth=\"1\" prefHeight=\"1\" style=\"-fx-background-color:#ff0000\"/></Pane>";
 
 /// A run of the words over a scene and a script, with the calls of the shelf and the sink that fail.
 #[derive(Drop)]
 struct Trial<'a> {
     words: &'a [&'a str],
-    scene: &'a str,
+    scene: &'a [u8],
     script: &'a str,
     failing_fetches: &'a [u64],
     failing_puts: &'a [(u64, usize)],
@@ -46,7 +46,7 @@ fn played<L: Ledgers>(
     let mut files = Vec::new(alloc);
     files.push((
         String::from_str(alloc, "s.fxml")?,
-        Vec::from_slice(alloc, trial.scene.as_bytes())?,
+        Vec::from_slice(alloc, trial.scene)?,
     ))?;
     files.push((
         String::from_str(alloc, "s.txt")?,
@@ -63,7 +63,7 @@ fn played<L: Ledgers>(
 fn plays_worked_runs(rt: HostRuntime) -> Result<(), Fail> {
     let alloc = rt.alloc();
     let files: &[&str] = &["s.fxml", "s.txt"];
-    let rows: [(&[&str], &str, &str, &[u64], &[(u64, usize)], Status, &str); 7] = [
+    let rows: [(&[&str], &[u8], &str, &[u64], &[(u64, usize)], Status, &str); 9] = [
         (
             files,
             SCENE,
@@ -95,12 +95,30 @@ fn plays_worked_runs(rt: HostRuntime) -> Result<(), Fail> {
         (files, SCENE, "pulse", &[1], &[], Status::ReadFault, ""),
         (
             files,
-            "<Pane/>",
+            b"<Pane/>",
             "pulse",
             &[],
             &[],
             Status::Refused,
             "fault notbuilt s.fxml 0 0\n",
+        ),
+        (
+            files,
+            b"<Pane",
+            "pulse",
+            &[],
+            &[],
+            Status::Refused,
+            "fault markup s.fxml 1 6\n",
+        ),
+        (
+            files,
+            b"<\xff",
+            "pulse",
+            &[],
+            &[],
+            Status::Refused,
+            "fault notutf8 s.fxml 1 2\n",
         ),
         (
             files,

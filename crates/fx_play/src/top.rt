@@ -114,6 +114,9 @@ fn kind_word(kind: FaultKind) -> &'static str
     match kind {
         FaultKind::Missing => "missing",
         FaultKind::TooLarge => "toolarge",
+        FaultKind::NotUtf8 => "notutf8",
+        FaultKind::Markup => "markup",
+        FaultKind::Limit => "limit",
         FaultKind::NotBuilt => "notbuilt",
     }
 }

@@ -1,0 +1,36 @@
+-- Texts that grow by a character: their bytes, and the count of their characters.
+-- Below the answers on drafts.
+use Rattle.std.proofs.Common.{◌≡◌, ℕ, ◌+◌, ◌≤◌, ◌&&◌, true, List, [], ◌∷◌, ◌++◌, length, sym, ◌∙◌, ap, length-append, append-nil, arith}
+use Rattle.std.specs.Str.{chars, IsUtf8}
+use Rattle.std.specs.Char.{encode_utf8, IsScalar}
+use lib.Utf8.{encode, encodes, scalars}
+use Rattle.std.proofs.lemmas.Str.{chars-append, chars-encodes, chars-nil, length-le-encodes, encodes-chars}
+
+pub chars_more : (bs cs : List ℕ) (c n : ℕ) → IsUtf8 bs → IsScalar c → length (chars bs) ≡ n → cs ≡ bs ++ encode_utf8 c → length (chars cs) ≡ n + 1
+chars_more bs cs c n u s e w =
+    let one : chars (encode c ++ []) ≡ c ∷ [] = chars-encodes (c ∷ []) (alone c s) in
+    let two : chars (encode c) ≡ c ∷ [] = ap chars (sym (append-nil (encode c))) ∙ one in
+    ap (λ y. length (chars y)) w ∙ (ap length (chars-append bs (encode c) u) ∙ (length-append (chars bs) (chars (encode c)) ∙ grown (length (chars bs)) (length (chars (encode c))) n e (ap length two)))
+  where
+    alone : (c : ℕ) → IsScalar c → scalars (c ∷ []) ≡ true
+    alone c s = ap (λ y. y && true) s
+
+    grown : (a b n : ℕ) → a ≡ n → b ≡ length (c ∷ []) → a + b ≡ n + 1
+    grown a b n e f = omega arith
+
+pub chars_none : (bs : List ℕ) → bs ≡ [] → length (chars bs) ≡ 0
+chars_none bs e = ap (λ y. length (chars y)) e ∙ ap length chars-nil
+
+pub chars_fewer : (bs : List ℕ) → IsUtf8 bs → length (chars bs) ≤ length bs
+chars_fewer bs u =
+    let a : length (chars bs) ≤ length (encodes (chars bs)) = length-le-encodes (chars bs) in
+    let b : length (encodes (chars bs)) ≡ length bs = ap length (encodes-chars bs u) in
+    omega arith
+
+pub name_more : (bs cs : List ℕ) (c : ℕ) → cs ≡ bs ++ encode_utf8 c → encode_utf8 c ≡ c ∷ [] → cs ≡ bs ++ (c ∷ [])
+name_more bs cs c e f = e ∙ ap (λ y. bs ++ y) f
+
+pub name_short : (bs cs : List ℕ) (c : ℕ) → cs ≡ bs ++ (c ∷ []) → length bs ≤ 4096 → (length bs ≡ 4096 → ⊥) → length cs ≤ 4096
+name_short bs cs c e h n =
+    let a : length cs ≡ length bs + 1 = ap length e ∙ length-append bs (c ∷ []) in
+    omega arith

@@ -1,0 +1,115 @@
+//! Import instructions: the text of one without the white at its ends, listed unless it is too long.
+//! Every other instruction is passed over.
+ghost use Rattle.std.specs.Prelude.{◌≡◌, ◌∷◌, [], cond, not, ◌&&◌, length, IfOk, option_to_list};
+ghost use Rattle.std.specs.Str.{chars};
+ghost use Rattle.std.specs.String.{string_bytes};
+ghost use lib.Dec.{leb};
+ghost use Rattle.fx_markup.specs.Characters.{is_white};
+ghost use Rattle.fx_markup.specs.Grammar.{trim_front, trim_back, trimmed, same_name, import_name};
+ghost use Rattle.fx_markup.specs.Machine.{with_instruction, may_begin, is_open};
+ghost use Rattle.fx_doc.specs.Views.{held_view, stack_view};
+
+use crate::drafts::Word;
+use crate::modes::Held;
+use fx_base::Text;
+use std::alloc::{AllocError, Global};
+use std::str;
+
+#[tactic(auto, unfolding(fx_markup::specs::Characters::is_white))]
+fn is_white_byte(byte: u8) -> bool
+    ensures { result ≡ is_white byte }
+{
+    matches!(byte, b' ' | b'\t' | b'\r' | b'\n')
+}
+
+#[tactic(auto, using(crate::proofs::Trims::front_moves))]
+fn without_front(bytes: &[u8]) -> &[u8]
+    ensures { result.now ≡ trim_front bytes.now }
+{
+    let mut rest = bytes;
+    while let Some((first, others)) = rest.split_first() {
+        if !is_white_byte(*first) {
+            break;
+        }
+        rest = others;
+    }
+    rest
+}
+
+#[tactic(auto, using(crate::proofs::Trims::back_moves))]
+fn without_back(bytes: &[u8]) -> &[u8]
+    ensures { result.now ≡ trim_back bytes.now }
+{
+    let mut rest = bytes;
+    while let Some((last, others)) = rest.split_last() {
+        if !is_white_byte(*last) {
+            break;
+        }
+        rest = others;
+    }
+    rest
+}
+
+/// The text without the white at its ends.
+fn trim_white(text: &str) -> &str
+    ensures { result.now ≡ trimmed text.now }
+{
+    match str::from_utf8(without_back(without_front(text.as_bytes()))) {
+        Ok(middle) => middle,
+        Err(_) => unreachable!(),
+    }
+}
+
+/// What an import lists: its trimmed text, unless that is over 4,096 characters.
+fn import_text(alloc: Global, text: &str) -> Result<Option<Text>, AllocError>
+    ensures { IfOk result (λ o. option_to_list o ≡ cond (leb (length (chars (trimmed text.now))) 4096) (trimmed text.now ∷ []) []) }
+{
+    let text = String::from_str(alloc, trim_white(text))?;
+    Ok(Text::from_string(text))
+}
+
+fn is_import(name: &Word) -> bool
+    ensures { result ≡ same_name (string_bytes name.now.text) import_name }
+{
+    name.text.as_str() == "import"
+}
+
+impl Held {
+    /// Has no element begun?
+    fn is_before_root(&self) -> bool
+        ensures { result ≡ may_begin (held_view self.now) && not (is_open (stack_view self.now.stack.items)) }
+    {
+        self.may_begin() && !self.is_within()
+    }
+
+    /// Behind an instruction of this name and text.
+    pub fn with_instruction(
+        self,
+        alloc: Global,
+        name: &Word,
+        inside: &str,
+    ) -> Result<Held, AllocError>
+        ensures { IfOk result (λ h. held_view h ≡ with_instruction (held_view self) (string_bytes name.now.text) inside.now) }
+    {
+        if !self.is_before_root() {
+            return Ok(self);
+        }
+        if !is_import(name) {
+            return Ok(self);
+        }
+        let Some(text) = import_text(alloc, inside)? else {
+            return Ok(self);
+        };
+        let Held {
+            mut imports,
+            stack,
+            level,
+        } = self;
+        imports.push(text)?;
+        Ok(Held {
+            imports,
+            stack,
+            level,
+        })
+    }
+}

@@ -1,0 +1,105 @@
+//! The reader in instructions, one function for each mode.
+//! Each answers what the machine of `fx_markup` does in that mode.
+ghost use Rattle.std.specs.Prelude.{◌≡◌, true, [], ◌∷◌, ◌++◌};
+ghost use Rattle.std.specs.String.{string_bytes};
+ghost use Rattle.fx_markup.specs.Characters.{class_of, in_name};
+ghost use Rattle.fx_markup.specs.Machine.{some_if, with_instruction, in_asked, in_instructing, in_name_asked, in_instructed, in_end_asked};
+ghost use Rattle.fx_doc.specs.Views.{held_view, Gives, inside_state, instructing_state};
+
+use crate::drafts::{Halt, Word};
+use crate::levels::goes;
+use crate::modes::{Held, Mode, Reader};
+use fx_markup::Class;
+use std::alloc::Global;
+
+pub fn asked(alloc: Global, held: Held, c: char) -> Result<Option<Reader>, Halt>
+    ensures { Gives (in_asked (held_view held) c (class_of c)) result }
+{
+    match Class::of(c) {
+        Class::Letter => goes(held, Mode::Instructing(Word::of(alloc, c)?)),
+        _ => Ok(None),
+    }
+}
+
+#[tactic(auto, using(crate::proofs::Defaults::instructing_rest))]
+pub fn instructing(alloc: Global, held: Held, name: Word, c: char) -> Result<Option<Reader>, Halt>
+    ensures { Gives (in_instructing (string_bytes name.text) (held_view held) c (class_of c)) result }
+{
+    match Class::of(c) {
+        Class::White => {
+            let mut inside = String::new(alloc);
+            inside.push(c)?;
+            goes(held, Mode::Instructed(name, inside))
+        }
+        Class::Question => goes(held, Mode::NameAsked(name)),
+        class => longer_name(held, name, c, class),
+    }
+}
+
+#[tactic(auto, using(crate::proofs::Defaults::long_name))]
+fn longer_name(held: Held, name: Word, c: char, class: Class) -> Result<Option<Reader>, Halt>
+    requires { class ≡ class_of c }
+    ensures { Gives (some_if (in_name class) (instructing_state (held_view held) (string_bytes name.text ++ (c ∷ [])))) result }
+{
+    if !class.is_named() {
+        return Ok(None);
+    }
+    goes(held, Mode::Instructing(name.with(c)?))
+}
+
+pub fn name_asked(alloc: Global, held: Held, name: Word, c: char) -> Result<Option<Reader>, Halt>
+    ensures { Gives (in_name_asked (string_bytes name.text) (held_view held) (class_of c)) result }
+{
+    match Class::of(c) {
+        Class::Greater => behind(alloc, held, name, ""),
+        _ => Ok(None),
+    }
+}
+
+/// An instruction of this name and text is whole.
+fn behind(alloc: Global, held: Held, name: Word, inside: &str) -> Result<Option<Reader>, Halt>
+    ensures { Gives (inside_state (with_instruction (held_view held) (string_bytes name.text) inside.now)) result }
+{
+    goes(held.with_instruction(alloc, &name, inside)?, Mode::Inside)
+}
+
+pub fn instructed(
+    held: Held,
+    name: Word,
+    mut inside: String,
+    c: char,
+) -> Result<Option<Reader>, Halt>
+    ensures { Gives (in_instructed (string_bytes name.text) (string_bytes inside) (held_view held) c (class_of c)) result }
+{
+    match Class::of(c) {
+        Class::Question => goes(held, Mode::EndAsked(name, inside)),
+        _ => {
+            inside.push(c)?;
+            goes(held, Mode::Instructed(name, inside))
+        }
+    }
+}
+
+/// Behind a `?`, which belongs to the text unless `>` follows.
+pub fn end_asked(
+    alloc: Global,
+    held: Held,
+    name: Word,
+    mut inside: String,
+    c: char,
+) -> Result<Option<Reader>, Halt>
+    ensures { Gives (in_end_asked (string_bytes name.text) (string_bytes inside) (held_view held) c (class_of c)) result }
+{
+    match Class::of(c) {
+        Class::Greater => behind(alloc, held, name, inside.as_str()),
+        Class::Question => {
+            inside.push('?')?;
+            goes(held, Mode::EndAsked(name, inside))
+        }
+        _ => {
+            inside.push('?')?;
+            inside.push(c)?;
+            goes(held, Mode::Instructed(name, inside))
+        }
+    }
+}

@@ -1,0 +1,140 @@
+//! The reader between tags: characters, references, comments and instructions, one function for each mode.
+//! Each answers what the machine of `fx_markup` does in that mode.
+ghost use Rattle.std.specs.Prelude.{◌≡◌, true, [], ◌∷◌, ◌++◌};
+ghost use Rattle.std.specs.String.{string_bytes};
+ghost use Rattle.fx_markup.specs.Characters.{class_of, in_name};
+ghost use Rattle.fx_markup.specs.Machine.{State, at, some_if, is_open, with_sign, with_instruction, entity_step, begin_end, may_begin, in_inside, in_referring, in_opening, in_banged, in_bang_dashed, in_commented, in_dashed, in_dash_dashed, in_asked, in_instructing, in_name_asked, in_instructed, in_end_asked};
+ghost use Rattle.fx_doc.specs.Views.{stack_view, held_view, Gives, inside_state, referring_state, naming_state, instructing_state};
+
+use crate::drafts::{Halt, Word};
+use crate::levels::goes;
+use crate::modes::{Held, Mode, Reader};
+use fx_markup::{Class, Entity, Place, Turn};
+use std::alloc::Global;
+
+#[tactic(auto, using(crate::proofs::Defaults::inside_rest))]
+pub fn inside(held: Held, place: Place, c: char) -> Result<Option<Reader>, Halt>
+    ensures { Gives (in_inside place (held_view held) c (class_of c)) result }
+{
+    match Class::of(c) {
+        Class::White => with_character(held, place, c),
+        Class::Less => goes(held, Mode::Opening(place)),
+        Class::Ampersand => refers(held, place),
+        _ => shown(held, place, c),
+    }
+}
+
+/// A reference begins, within an element alone.
+fn refers(held: Held, place: Place) -> Result<Option<Reader>, Halt>
+    ensures { Gives (some_if (is_open (stack_view held.stack.items)) (referring_state (held_view held) place)) result }
+{
+    if !held.is_within() {
+        return Ok(None);
+    }
+    goes(held, Mode::Referring(place, Entity::Begun))
+}
+
+/// A character stands within an element alone.
+fn shown(held: Held, place: Place, c: char) -> Result<Option<Reader>, Halt>
+    ensures { Gives (some_if (is_open (stack_view held.stack.items)) (inside_state (with_sign place c (held_view held)))) result }
+{
+    if !held.is_within() {
+        return Ok(None);
+    }
+    with_character(held, place, c)
+}
+
+fn with_character(held: Held, place: Place, c: char) -> Result<Option<Reader>, Halt>
+    ensures { Gives (inside_state (with_sign place c (held_view held))) result }
+{
+    goes(held.with_sign(place, c)?, Mode::Inside)
+}
+
+pub fn referring(held: Held, place: Place, entity: Entity, c: char) -> Result<Option<Reader>, Halt>
+    ensures { Gives (in_referring place (held_view held) (entity_step entity c)) result }
+{
+    match entity.step(c) {
+        Some(Turn::Further(next)) => goes(held, Mode::Referring(place, next)),
+        Some(Turn::Whole(found)) => with_character(held, place, found),
+        None => Ok(None),
+    }
+}
+
+/// Behind a `<`, which stands at that place.
+pub fn opening(alloc: Global, held: Held, place: Place, c: char) -> Result<Option<Reader>, Halt>
+    ensures { Gives (in_opening place (held_view held) c (class_of c)) result }
+{
+    match Class::of(c) {
+        Class::Letter => begins(alloc, held, place, c),
+        Class::Bang => goes(held, Mode::Banged),
+        Class::Question => goes(held, Mode::Asked),
+        Class::Slash => begins_end(held),
+        _ => Ok(None),
+    }
+}
+
+/// An element begins: within another, or as the first.
+fn begins(alloc: Global, held: Held, place: Place, c: char) -> Result<Option<Reader>, Halt>
+    requires { in_name (class_of c) ≡ true }
+    ensures { Gives (some_if (may_begin (held_view held)) (naming_state (held_view held) place (c ∷ []))) result }
+{
+    if !held.may_begin() {
+        return Ok(None);
+    }
+    goes(held, Mode::Naming(place, Word::of(alloc, c)?))
+}
+
+fn begins_end(held: Held) -> Result<Option<Reader>, Halt>
+    ensures { Gives (begin_end (stack_view held.stack.items) (held_view held)) result }
+{
+    if !held.is_within() {
+        return Ok(None);
+    }
+    goes(held, Mode::Ending(0))
+}
+
+pub fn banged(held: Held, c: char) -> Result<Option<Reader>, Halt>
+    ensures { Gives (in_banged (held_view held) (class_of c)) result }
+{
+    match Class::of(c) {
+        Class::Dash => goes(held, Mode::BangDashed),
+        _ => Ok(None),
+    }
+}
+
+pub fn bang_dashed(held: Held, c: char) -> Result<Option<Reader>, Halt>
+    ensures { Gives (in_bang_dashed (held_view held) (class_of c)) result }
+{
+    match Class::of(c) {
+        Class::Dash => goes(held, Mode::Commented),
+        _ => Ok(None),
+    }
+}
+
+pub fn commented(held: Held, c: char) -> Result<Option<Reader>, Halt>
+    ensures { Gives (in_commented (held_view held) (class_of c)) result }
+{
+    match Class::of(c) {
+        Class::Dash => goes(held, Mode::Dashed),
+        _ => goes(held, Mode::Commented),
+    }
+}
+
+pub fn dashed(held: Held, c: char) -> Result<Option<Reader>, Halt>
+    ensures { Gives (in_dashed (held_view held) (class_of c)) result }
+{
+    match Class::of(c) {
+        Class::Dash => goes(held, Mode::DashDashed),
+        _ => goes(held, Mode::Commented),
+    }
+}
+
+pub fn dash_dashed(held: Held, c: char) -> Result<Option<Reader>, Halt>
+    ensures { Gives (in_dash_dashed (held_view held) (class_of c)) result }
+{
+    match Class::of(c) {
+        Class::Dash => goes(held, Mode::DashDashed),
+        Class::Greater => goes(held, Mode::Inside),
+        _ => goes(held, Mode::Commented),
+    }
+}

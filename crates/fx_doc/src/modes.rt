@@ -1,0 +1,87 @@
+//! What the reader holds between two characters: the open elements, what it has read of the innermost, and its mode.
+//! The modes are those of the machine in `fx_markup`.
+use crate::document::{Attribute, Content};
+use crate::drafts::{Draft, Word};
+use fx_base::Text;
+use fx_markup::{Entity, Place, Quote};
+
+/// What stands before a tag's end.
+#[derive(Drop)]
+pub struct Head {
+    pub name: Text,
+    pub attributes: Vec<Attribute>,
+    pub place: Place,
+}
+
+/// What is read of one element's content so far.
+#[derive(Drop)]
+pub struct Level {
+    pub content: Vec<Content>,
+    pub run: Draft,
+    /// The place of the first character of the run that isn't white.
+    pub first: Option<Place>,
+}
+
+/// An open element, with what stands before it.
+#[derive(Drop)]
+pub struct Open {
+    pub before: Level,
+    pub head: Head,
+}
+
+/// What the reader holds in every mode.
+#[derive(Drop)]
+pub struct Held {
+    pub imports: Vec<Text>,
+    pub stack: Vec<Open>,
+    pub level: Level,
+}
+
+/// The value that is being read: its attribute's name and place, its quote, and its characters.
+#[derive(Drop)]
+pub struct Valued {
+    pub head: Head,
+    pub place: Place,
+    pub key: Word,
+    pub quote: Quote,
+    pub value: Draft,
+}
+
+/// What may come next.
+#[derive(Drop)]
+pub enum Mode {
+    Inside,
+    /// In a reference, whose `&` stands there.
+    Referring(Place, Entity),
+    /// Behind a `<`, which stands there.
+    Opening(Place),
+    Banged,
+    BangDashed,
+    Commented,
+    Dashed,
+    DashDashed,
+    Asked,
+    Instructing(Word),
+    NameAsked(Word),
+    Instructed(Word, String),
+    EndAsked(Word, String),
+    Naming(Place, Word),
+    Spaced(Head),
+    Tight(Head),
+    Keyed(Head, Place, Word),
+    KeySpaced(Head, Place, Word),
+    Signed(Head, Place, Word),
+    Quoted(Valued),
+    ValueReferring(Valued, Place, Entity),
+    Slashed(Head),
+    /// In an end tag, behind so many characters of the name.
+    Ending(usize),
+    Ended,
+}
+
+/// The reader between two characters.
+#[derive(Drop)]
+pub struct Reader {
+    pub held: Held,
+    pub mode: Mode,
+}

@@ -1,0 +1,157 @@
+//! The reader in the values of attributes, and in end tags, one function for each mode.
+//! Each answers what the machine of `fx_markup` does in that mode.
+ghost use Rattle.std.specs.Prelude.{◌≡◌, true, false, [], ◌∷◌, ◌++◌, ◌+◌, drop, not, ◌<◌, ◌^◌, length, IfOk, IfSome, IfNone};
+ghost use Rattle.std.specs.String.{string_bytes};
+ghost use Rattle.std.specs.Char.{encode_utf8};
+ghost use Rattle.fx_markup.specs.Characters.{class_of};
+ghost use Rattle.fx_markup.specs.Grammar.{is_quote, value_byte};
+ghost use Rattle.fx_markup.specs.Machine.{with_attribute, entity_step, in_quoted, in_value, in_value_referring, in_ending};
+ghost use Rattle.fx_doc.specs.Views.{head_view, stack_view, held_view, open_name, Gives, tight_state, quoted_state};
+
+use crate::document::Attribute;
+use crate::drafts::{Halt, Word};
+use crate::levels::goes;
+use crate::modes::{Head, Held, Mode, Reader, Valued};
+use crate::tags::ended;
+use fx_base::Text;
+use fx_markup::{Class, Entity, Place, Turn};
+use std::alloc::{AllocError, Global};
+
+impl Head {
+    /// With one more attribute, whose name stands at that place.
+    fn with_attribute(self, place: Place, key: Word, value: Text) -> Result<Head, AllocError>
+        ensures { IfOk result (λ h. head_view h ≡ with_attribute (head_view self) place (string_bytes key.text) value) }
+    {
+        let Head {
+            name,
+            mut attributes,
+            place: tag,
+        } = self;
+        attributes.push(Attribute {
+            name: key.into_text(),
+            value,
+            line: place.line,
+            column: place.column,
+        })?;
+        Ok(Head {
+            name,
+            attributes,
+            place: tag,
+        })
+    }
+}
+
+#[tactic(auto, using(crate::proofs::Defaults::quoted_rest))]
+pub fn quoted(held: Held, valued: Valued, place: Place, c: char) -> Result<Option<Reader>, Halt>
+    ensures { Gives (in_quoted place (head_view valued.head) valued.place (string_bytes valued.key.text) valued.quote (string_bytes valued.value.text) valued.value.count (held_view held) c (class_of c)) result }
+{
+    match Class::of(c) {
+        Class::Less => Ok(None),
+        Class::Ampersand => goes(held, Mode::ValueReferring(valued, place, Entity::Begun)),
+        class => in_text(held, valued, c, class),
+    }
+}
+
+/// A character of a value that is no `<` and no `&`: its quote, or one more of its characters.
+fn in_text(held: Held, valued: Valued, c: char, class: Class) -> Result<Option<Reader>, Halt>
+    ensures { Gives (in_value (is_quote valued.quote class) (head_view valued.head) valued.place (string_bytes valued.key.text) valued.quote (string_bytes valued.value.text) valued.value.count (held_view held) c class) result }
+{
+    if class.is_quote(valued.quote) {
+        return whole(held, valued);
+    }
+    longer(held, valued, shown(c, class))
+}
+
+/// Tab, CR and LF in a value become a space.
+fn shown(c: char, class: Class) -> char
+    ensures { encode_utf8 result ≡ value_byte class c }
+{
+    match class {
+        Class::White => ' ',
+        _ => c,
+    }
+}
+
+fn whole(held: Held, valued: Valued) -> Result<Option<Reader>, Halt>
+    ensures { Gives (tight_state (held_view held) (with_attribute (head_view valued.head) valued.place (string_bytes valued.key.text) (string_bytes valued.value.text))) result }
+{
+    let Valued {
+        head,
+        place,
+        key,
+        quote: _,
+        value,
+    } = valued;
+    let head = head.with_attribute(place, key, value.into_text())?;
+    goes(held, Mode::Tight(head))
+}
+
+#[tactic(auto, using(crate::proofs::Defaults::long_value))]
+fn longer(held: Held, valued: Valued, c: char) -> Result<Option<Reader>, Halt>
+    ensures { Gives (quoted_state (held_view held) (head_view valued.head) valued.place (string_bytes valued.key.text) valued.quote (string_bytes valued.value.text ++ encode_utf8 c) (valued.value.count + 1)) result }
+{
+    let Valued {
+        head,
+        place,
+        key,
+        quote,
+        value,
+    } = valued;
+    let value = value.with(c)?;
+    goes(
+        held,
+        Mode::Quoted(Valued {
+            head,
+            place,
+            key,
+            quote,
+            value,
+        }),
+    )
+}
+
+pub fn value_referring(
+    held: Held,
+    valued: Valued,
+    place: Place,
+    entity: Entity,
+    c: char,
+) -> Result<Option<Reader>, Halt>
+    ensures { Gives (in_value_referring (head_view valued.head) valued.place (string_bytes valued.key.text) valued.quote (string_bytes valued.value.text) valued.value.count place (held_view held) (entity_step entity c)) result }
+{
+    match entity.step(c) {
+        Some(Turn::Further(next)) => goes(held, Mode::ValueReferring(valued, place, next)),
+        Some(Turn::Whole(found)) => longer(held, valued, found),
+        None => Ok(None),
+    }
+}
+
+impl Held {
+    /// The byte at that index of the innermost open name.
+    fn name_byte(&self, at: usize) -> Option<u8>
+        ensures found { IfSome result (λ b. drop at (open_name (stack_view self.now.stack.items)) ≡ b ∷ drop (at + 1) (open_name (stack_view self.now.stack.items))) }
+        ensures none { IfNone result (drop at (open_name (stack_view self.now.stack.items)) ≡ []) }
+        ensures small { IfSome result (λ _. at + 1 < 2 ^ 64) }
+    {
+        let open = self.stack.last()?;
+        let name = open.head.name.as_str().as_bytes();
+        if at < name.len() {
+            Some(name[at])
+        } else {
+            None
+        }
+    }
+}
+
+/// In an end tag, behind so many characters of the open name.
+pub fn ending(alloc: Global, held: Held, at: usize, c: char) -> Result<Option<Reader>, Halt>
+    ensures { Gives (in_ending (drop at (open_name (stack_view held.stack.items))) (held_view held) c (class_of c)) result }
+{
+    let Some(byte) = held.name_byte(at) else {
+        return ended(alloc, held, c);
+    };
+    if u32::from(byte) != u32::from(c) {
+        return Ok(None);
+    }
+    goes(held, Mode::Ending(at + 1))
+}

@@ -1,0 +1,6 @@
+pub mod Characters
+pub mod Grammar
+pub mod Machine
+pub mod Beginnings
+pub mod Verdicts
+pub mod Judging

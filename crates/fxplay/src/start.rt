@@ -7,7 +7,7 @@ ghost use Rattle.fx_plain.specs.declared.answers.Status.TheVariants as status;
 ghost use Rattle.fx_port.specs.Causes.{Rose};
 ghost use Rattle.fx_port.specs.Files.{Files};
 ghost use Rattle.fx_port.specs.Pieces.{GrewByPrefix};
-ghost use Rattle.fx_play.specs.Views.{texts};
+ghost use Rattle.fx_load.specs.Views.{texts};
 
 use fx_base::{Ledgers, Work};
 use fx_play::{Status, play};

@@ -1,3 +1,4 @@
 pub mod Ends
 pub mod Painting
 pub mod Worlds
+pub mod Runs

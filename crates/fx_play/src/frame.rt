@@ -4,6 +4,7 @@ ghost use Rattle.std.specs.Fmt.{digit_glyph};
 ghost use Rattle.std.specs.List.{flat_map, join_with_byte, range_with_len};
 ghost use Rattle.fx_plain.specs.Frame.{frame_header, frame_text, image, pixel_text, row_text};
 ghost use Rattle.fx_plain.specs.Picture.{pixel, shapes_of};
+ghost use Rattle.fx_play.specs.Runs.{IsRun};
 ghost use Rattle.fx_port.specs.Causes.{HasCause};
 ghost use Rattle.fx_port.specs.Pieces.{Writes};
 ghost use Rattle.fx_port.specs.declared.pieces.PutError.TheVariants.{Failed};
@@ -89,10 +90,40 @@ fn print_pixels(text: &mut Vec<u8>, row: &[u32]) -> Result<(), AllocError>
 fn print_behind(text: &mut Vec<u8>, row: &[u32]) -> Result<(), AllocError>
     ensures { OnOk result (text.new.items ≡ text.old.items ++ flat_map (λ p. 32 ∷ pixel_text p) row.now) }
 {
+    let mut run = Run::of(0);
     for pixel in row {
-        text.extend_from_slice(&spaced_digits(*pixel))?;
+        run.go_on(*pixel);
+        text.extend_from_slice(&run.text)?;
     }
     Ok(())
+}
+
+/// A pixel with its text, which serves as long as the pixels are the same.
+#[derive(Clone, Copy)]
+struct Run {
+    pixel: u32,
+    text: [u8; 7],
+}
+
+impl Run {
+    fn of(pixel: u32) -> Run
+        ensures { IsRun result × (result.pixel ≡ pixel) }
+    {
+        Run {
+            pixel,
+            text: spaced_digits(pixel),
+        }
+    }
+
+    /// Behind the next pixel.
+    fn go_on(&mut self, pixel: u32)
+        requires { IsRun self.old }
+        ensures { IsRun self.new × (self.new.pixel ≡ pixel) }
+    {
+        if self.pixel != pixel {
+            *self = Run::of(pixel);
+        }
+    }
 }
 
 #[tactic(auto, unfolding(fx_plain::specs::Frame::pixel_text))]

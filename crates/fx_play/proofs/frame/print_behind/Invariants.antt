@@ -2,7 +2,11 @@
 use Rattle.std.proofs.Common.{◌≡◌, ◌++◌, ◌∷◌, take}
 use Rattle.std.specs.List.{flat_map}
 use Rattle.fx_plain.specs.Frame.{pixel_text}
+use Rattle.fx_play.specs.Runs.{IsRun}
 use Rattle.fx_play.proofs.frame.print_behind.Given as goal
 
 abbrev pub invariant-loop-pixel : goal.invariant-loop-pixel
-invariant-loop-pixel l = l.text.items ≡ l.fn.text.items ++ flat_map (λ p. 32 ∷ pixel_text p) (take l.pixel-index l.row)
+invariant-loop-pixel l = record {
+  printed : l.text.items ≡ l.fn.text.items ++ flat_map (λ p. 32 ∷ pixel_text p) (take l.pixel-index l.row);
+  run : IsRun l.run;
+}

@@ -1,0 +1,10 @@
+pub mod Changes
+pub mod Edits
+pub mod Forest
+pub mod Given
+pub mod Keys
+pub mod Lines
+pub mod Listing
+pub mod Made
+pub mod Prune
+pub mod Views

@@ -1,0 +1,7 @@
+use Rattle.std.proofs.Common.{◌≡◌, ◌+◌, ◌-◌, ◌++◌, length, Some}
+use Rattle.fx_tree.specs.Scene.{line_in}
+use Rattle.fx_tree.specs.Slots.{line_at, up_at}
+use Rattle.fx_tree.proofs.nodes.push_line.Given as goal
+
+abbrev pub invariant-loop-step : goal.invariant-loop-step
+invariant-loop-step l = l.keys.items ++ line_in (64 - l._step) (up_at l.nodes.slots) l.at ≡ l.fn.keys.items ++ line_at l.nodes.slots l.fn.key

@@ -1,5 +1,5 @@
-//! Tests of the tree: the refusals in their order, the limit of depth, and a list of commands with
-//! the lists that the reference player has after them.
+//! Tests of the tree: the refusals in their order, the limit of depth, and a list of commands whose
+//! answers and lists were computed by a second tree, written in another language.
 use super::*;
 use std::test::Fail;
 
@@ -67,7 +67,7 @@ fn push_names(found: Result<Vec<NodeKey>, TreeError>, names: &mut Vec<u8>) -> Re
 }
 
 #[test]
-fn answers_as_the_reference(rt: HostRuntime) -> Result<(), Fail> {
+fn answers_as_the_second_tree(rt: HostRuntime) -> Result<(), Fail> {
     let alloc = rt.alloc();
     let mut tree = Tree::new(alloc);
     let mut keys = Vec::new(alloc);

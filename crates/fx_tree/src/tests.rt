@@ -3,17 +3,18 @@
 use super::*;
 use std::test::Fail;
 
-/// Each command has five letters: what it does, one or two nodes, the place, and the answer.
+/// Each command is what it does (`+` attaches, `-` detaches, `x` drops and `r` makes the root), one or two nodes, the place,
+/// and the letter of its answer. The nodes are `a` to `z` and `A` to `D` in the order of their births.
 const COMMANDS: &str =
-    "aXL2Pa[O0.a]Q0.aRA0.aIF1PaYW2PaEB0.aFM0.r]  .aFR0.aLG0.aKJ2PaTV0.aLP0.aPL0Wa\\W0.aSD0.aDZ0.rL  ArI  AaDS0WaBN0.aKQ0HaI^0.aVF0.aPF0Hr^  HdB  .aXS1PdE  Na^]0AaEI1PaFC1.aEO2HaQO0HdI  NaPM0Hd[  NrF  Hd\\  NaFT2WxL  .aZZ2WaY[0.dI  NaKB1PrY  AaKJ2PaLI1Sa^\\1PaKH0.a^]0AdF  .rQ  HdJ  NrY  AaXX1WaHY0.dH  .aBJ0.dG  SrB  AdO  .aMV2HaHW0HaMI0.rL  SaRK2PxK  .rJ  H";
+    "+xl2P +Ao0. +Cq0. +ra0. +if1P +yw2P +eb0. +fm0. rC  . +fr0. +lg0. +kj2P +tv0. +lp0. +pl0W +Bw0. +sd0. +dz0. rl  A ri  A +ds0W +bn0. +kq0H +iD0. +vf0. +pf0H rD  H -b  . +xs1P -e  N +DC0A +ei1P +fc1. +eo2H +qo0H -i  N +pm0H -A  N rf  H -B  N +ft2W xl  . +zz2W +yA0. -i  N +kb1P ry  A +kj2P +li1S +DB1P +kh0. +DC0A -f  . rq  H -j  N ry  A +xx1W +hy0. -h  . +bj0. -g  S rb  A -o  . +mv2H +hw0H +mi0. rl  S +rk2P xk  . rj  H ";
 
 /// The subtrees of the thirty nodes in pre-order, of none that is dropped.
 const SUBTREES: &str =
-    "A BJN C DZ E FRACMI^ - HY[ I^ J - - MI^ N O - Q RA SDZ TV U V W X Y[ Z [ \\W ]Q ^ ";
+    "a bjn c dz e fracmiD - hyA iD j - - miD n o - q ra sdz tv u v w x yA z A Bw Cq D ";
 
 /// The paths to the thirty nodes.
 const PATHS: &str =
-    "FRA B FC SD E F - H FMI BJ - - FM BN O - ]Q FR S T U TV \\W X HY SDZ HY[ \\ ] FMI^ ";
+    "fra b fc sd e f - h fmi bj - - fm bn o - Cq fr s t u tv Bw x hy sdz hyA B C fmiD ";
 
 fn letter(answer: Result<(), TreeError>) -> u8 {
     match answer {
@@ -30,22 +31,29 @@ fn letter(answer: Result<(), TreeError>) -> u8 {
 
 fn node(keys: &[NodeKey], name: u8) -> NodeKey {
     let never_made = NodeKey { slot: 0, birth: 0 };
-    keys.get(usize::from(name.saturating_sub(b'A')))
-        .copied()
-        .unwrap_or(never_made)
+    let place = match name {
+        b'a'..=b'z' => name - b'a',
+        _ => name.saturating_sub(b'A').saturating_add(26),
+    };
+    keys.get(usize::from(place)).copied().unwrap_or(never_made)
 }
 
 fn name(key: NodeKey) -> u8 {
-    u8::try_from(key.birth).unwrap_or(0).saturating_add(b'@')
+    let place = u8::try_from(key.birth).unwrap_or(0).saturating_sub(1);
+    if place < 26 {
+        b'a' + place
+    } else {
+        (place - 26).saturating_add(b'A')
+    }
 }
 
 fn apply(alloc: Global, tree: &mut Tree, keys: &[NodeKey], command: &[u8]) -> u8 {
     match command {
-        [b'a', parent, child, place, _] => {
+        [b'+', parent, child, place, ..] => {
             let place = usize::from(place.saturating_sub(b'0'));
             letter(tree.attach(alloc, node(keys, *parent), node(keys, *child), place))
         }
-        [b'd', child, ..] => letter(tree.detach(alloc, node(keys, *child))),
+        [b'-', child, ..] => letter(tree.detach(alloc, node(keys, *child))),
         [b'x', key, ..] => letter(tree.drop_tree(node(keys, *key))),
         [b'r', key, ..] => letter(tree.set_root(alloc, node(keys, *key))),
         _ => b'?',
@@ -74,9 +82,9 @@ fn answers_as_the_second_tree(rt: HostRuntime) -> Result<(), Fail> {
     for _ in 0..30 {
         keys.push(tree.make(alloc)?)?;
     }
-    for command in COMMANDS.as_bytes().chunks(5) {
+    for command in COMMANDS.as_bytes().chunks(6) {
         let got = apply(alloc, &mut tree, keys.as_slice(), command);
-        assert_eq!(rt; command.last().copied(), Some(got));
+        assert_eq!(rt; command.get(4).copied(), Some(got));
     }
     let mut subtrees = Vec::new(alloc);
     let mut paths = Vec::new(alloc);

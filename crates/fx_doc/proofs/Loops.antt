@@ -67,10 +67,10 @@ never_long r = or_none (mode_long (view r).mode) (level_long (view r).held) (mod
 
 -- a turn that goes on
 
-pub goes_on : (said : List ℕ) (c : ℕ) (p : Place) (r r' : Reader) → run start (Some initial) said ≡ Some (view r) → p ≡ after_all start said → IsNext (view r) p c (Ok r') → run start (Some initial) (said ++ (c ∷ [])) ≡ Some (view r')
+pub goes_on : (said : List ℕ) (c : ℕ) (p : Place) (r r' : Reader) → run start (Some initial) said ≡ Some (view r) → p ≡ after_all start said → IsNext (view r) p c r' (Ok tt) → run start (Some initial) (said ++ (c ∷ [])) ≡ Some (view r')
 goes_on said c p r r' h q x = run_more said c p (view r) (view r') h q x.0
 
-pub within_on : (said : List ℕ) (c : ℕ) (p : Place) (r r' : Reader) → run start (Some initial) said ≡ Some (view r) → p ≡ after_all start said → IsWithinLimits said → IsNext (view r) p c (Ok r') → IsWithinLimits (said ++ (c ∷ []))
+pub within_on : (said : List ℕ) (c : ℕ) (p : Place) (r r' : Reader) → run start (Some initial) said ≡ Some (view r) → p ≡ after_all start said → IsWithinLimits said → IsNext (view r) p c r' (Ok tt) → IsWithinLimits (said ++ (c ∷ []))
 within_on said c p r r' h q w x = limits_more said c p (view r) (view r') h q x.0 w x.1 (never_long r')
 
 -- a turn that stops
@@ -82,14 +82,14 @@ deep_naming m p e = absurd e
 deep_leb : (n : ℕ) → 128 ≤ n → leb 128 n ≡ true
 deep_leb n h = grind arith
 
-pub stops : (all said : List ℕ) (c : ℕ) (p : Place) (r : Reader) (e : DocError) → IsTurn all said c → run start (Some initial) said ≡ Some (view r) → p ≡ after_all start said → IsWithinLimits said → IsNext (view r) p c (Err e) → IsRead all (Err e)
-stops all said c p r (Markup line column) t h q w x = stopped_here all said c t.more p (place_of line column) (view r) t.split h q w x.0 x.1
-stops all said c p r (Long line column) t h q w x = too_long all said c t.more p (place_of line column) (view r) x.0 t.split h q w x.1 (never_long r) x.2 x.3
-stops all said c p r (Depth line column) t h q w x =
+pub stops : (all said : List ℕ) (c : ℕ) (p : Place) (r r' : Reader) (e : DocError) → IsTurn all said c → run start (Some initial) said ≡ Some (view r) → p ≡ after_all start said → IsWithinLimits said → IsNext (view r) p c r' (Err e) → IsRead all (Err e)
+stops all said c p r r' (Markup line column) t h q w x = stopped_here all said c t.more p (place_of line column) (view r) t.split h q w x.0 x.1
+stops all said c p r r' (Long line column) t h q w x = too_long all said c t.more p (place_of line column) (view r) x.0 t.split h q w x.1 (never_long r) x.2 x.3
+stops all said c p r r' (Depth line column) t h q w x =
     let n = deep_naming x.0.mode (place_of line column) x.2.0 in
     too_deep all said c t.more p (place_of line column) (view r) x.0 n.0 t.split h q w x.1 n.1 (deep_leb (stack_depth x.0.held.stack) x.2.1)
-stops all said c p r (NotUtf8 n) t h q w x = absurd x
-stops all said c p r Memory t h q w x = tt
+stops all said c p r r' (NotUtf8 n) t h q w x = absurd x
+stops all said c p r r' Memory t h q w x = tt
 
 -- the end of the text
 

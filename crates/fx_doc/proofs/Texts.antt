@@ -1,6 +1,6 @@
 -- Texts that grow by a character: their bytes, and the count of their characters.
 -- Below the answers on drafts.
-use Rattle.std.proofs.Common.{◌≡◌, ℕ, ◌+◌, ◌≤◌, ◌&&◌, true, List, [], ◌∷◌, ◌++◌, length, sym, ◌∙◌, ap, length-append, append-nil, arith}
+use Rattle.std.proofs.Common.{◌≡◌, ℕ, Bool, false, subst, if◌then◌else◌, ◌+◌, ◌≤◌, ◌&&◌, true, List, [], ◌∷◌, ◌++◌, length, sym, ◌∙◌, ap, length-append, append-nil, arith}
 use Rattle.std.specs.Str.{chars, IsUtf8}
 use Rattle.std.specs.Char.{encode_utf8, IsScalar}
 use lib.Utf8.{encode, encodes, scalars}
@@ -34,3 +34,8 @@ pub name_short : (bs cs : List ℕ) (c : ℕ) → cs ≡ bs ++ (c ∷ []) → le
 name_short bs cs c e h n =
     let a : length cs ≡ length bs + 1 = ap length e ∙ length-append bs (c ∷ []) in
     omega arith
+
+-- a name after a push, which may have failed
+pub name_kept : (b : Bool) (bs cs : List ℕ) (c : ℕ) → cs ≡ (if b then bs ++ encode_utf8 c else bs) → encode_utf8 c ≡ c ∷ [] → length bs ≤ 4096 → (length bs ≡ 4096 → ⊥) → length cs ≤ 4096
+name_kept true bs cs c e f h n = name_short bs cs c (name_more bs cs c e f) h n
+name_kept false bs cs c e f h n = subst (λ (y : List ℕ). length y ≤ 4096) (sym e) h

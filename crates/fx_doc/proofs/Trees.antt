@@ -7,7 +7,7 @@ use Rattle.fx_markup.specs.Grammar.{IsRoot, Nodes, Nothing, Letters, Node, Readi
 use Rattle.fx_markup.specs.Machine.{Stack, Bottom, Opened, Held as HeldView, is_nothing, is_open, close_in, at, Inside, State, answer, answer_of}
 use Rattle.fx_markup.specs.Grammar.{one_child, closed, with_run}
 use Rattle.std.proofs.Common.{Option, Some, None, suc}
-use Rattle.fx_doc.specs.Views.{Onto, built, onto, nodes_of, onto_element, node_of, IsRun, AnswersRoot, content_step, element_step, attr_view, head_view, level_view, stack_from, stack_view}
+use Rattle.fx_doc.specs.Views.{Onto, built, onto, nodes_of, onto_element, node_of, IsRun, AnswersRoot, content_step, element_step, attr_view, head_view, level_view, level_behind, stack_from, stack_view}
 use Rattle.fx_doc.specs.declared.document.Content.{Content}
 use Rattle.fx_doc.specs.declared.document.Element.{Element}
 use Rattle.fx_doc.specs.declared.document.Content.TheOpen as o
@@ -81,16 +81,22 @@ closed_push cs ds t bytes first p e g h =
 abbrev pub element_head : Element → HeadView
 element_head e = record { name = (w.out-Element e).name; attributes = map attr_view (w.out-Element e).attributes; place = record { line = (w.out-Element e).line; column = (w.out-Element e).column } }
 
-abbrev pub level_by : Nodes → List ℕ → ℕ → LevelView
-level_by n r c = record { nodes = n; run = r; first = None; count = c }
+abbrev pub level_by : Nodes → List ℕ → Option Place → ℕ → LevelView
+level_by n r p c = record { nodes = n; run = r; first = p; count = c }
 
-pub level_child : (cs ds : List Content) (e : Element) (bytes : List ℕ) (count : ℕ) (l : LevelView) (head : HeadView) → ds ≡ cs ++ (v.Child e ∷ []) → nodes_of cs ≡ closed l → element_head e ≡ head → bytes ≡ [] → count ≡ 0
-    → level_by (nodes_of ds) bytes count ≡ one_child l head (nodes_of (w.out-Element e).content.items)
-level_child cs ds e bytes count l head h1 h2 h3 h4 h5 =
+pub kept_run : (cs ds : List Content) (t bytes run : List ℕ) (count : ℕ) (first : Option Place) (p : Place) → ds ≡ cs ++ (v.Chars t p.line p.column ∷ []) → t ≡ bytes → first ≡ Some p → run ≡ [] → count ≡ 0
+    → level_by (nodes_of ds) run None count ≡ level_behind (with_run first (nodes_of cs) bytes)
+kept_run cs ds t bytes run count first p e g h r k =
+    let n : nodes_of ds ≡ with_run first (nodes_of cs) bytes = closed_push cs ds t bytes first p e g h in
+    λ i. level_by (n i) (r i) None (k i)
+
+pub level_child : (cs ds : List Content) (e : Element) (run : List ℕ) (first : Option Place) (count : ℕ) (l : LevelView) (head : HeadView) → ds ≡ cs ++ (v.Child e ∷ []) → level_by (nodes_of cs) run first count ≡ level_behind (closed l) → element_head e ≡ head
+    → level_by (nodes_of ds) run first count ≡ one_child l head (nodes_of (w.out-Element e).content.items)
+level_child cs ds e run first count l head h1 h2 h3 =
     let n : nodes_of ds ≡ Node (closed l) head (nodes_of (w.out-Element e).content.items) =
     ap nodes_of h1 ∙ (nodes_of_push cs (v.Child e) ∙ (onto_child e (nodes_of cs)
-    ∙ (ap (λ y. Node y (element_head e) (nodes_of (w.out-Element e).content.items)) h2 ∙ ap (λ (y : HeadView). Node (closed l) y (nodes_of (w.out-Element e).content.items)) h3))) in
-    λ i. level_by (n i) (h4 i) (h5 i)
+    ∙ (ap (λ (y : LevelView). Node y.nodes (element_head e) (nodes_of (w.out-Element e).content.items)) h2 ∙ ap (λ (y : HeadView). Node (closed l) y (nodes_of (w.out-Element e).content.items)) h3))) in
+    λ i. level_by (n i) (h2 i).run (h2 i).first (h2 i).count
 
 pub close_is : (imports : List (List ℕ)) (s s' : Stack) (b : LevelView) (d : HeadView) (l l' : LevelView) (n : Nodes) → s ≡ Opened s' b d → l' ≡ one_child b d n → n ≡ closed l → at (held_by imports s' l') Inside ≡ close_in imports s l
 close_is imports s s' b d l l' n e g h =

@@ -1,3 +1,4 @@
 pub mod Views
 pub mod Reads
 pub mod Judgements
+pub mod Taking

@@ -17,17 +17,17 @@ use Rattle.fx_doc.specs.declared.modes.Reader.{Reader}
 abbrev pub place_of : ℕ → ℕ → Place
 place_of line column = record { line = line; column = column }
 
--- one character further, where the machine goes to o: its next state, or why there is none; the character stands at p, and its sign begins at sign
-abbrev pub IsStep : Option State → Place → Place → Result Reader DocError → Type 0
-IsStep o p sign (Ok r) = (o ≡ Some (view r)) × (is_deep (view r) ≡ false)
-IsStep o p sign (Err (Markup line column)) = (o ≡ None) × (place_of line column ≡ p)
-IsStep o p sign (Err (Long line column)) = (s : State) × (o ≡ Some s) × (is_long s ≡ true) × (place_of line column ≡ sign)
-IsStep o p sign (Err (Depth line column)) = (s : State) × (o ≡ Some s) × IsDeepAt s (place_of line column)
-IsStep o p sign (Err (NotUtf8 n)) = ⊥
-IsStep o p sign (Err Memory) = Unit {0}
+-- one character further, where the machine goes to o and the reader is r: its next state, or why there is none; the character stands at p, and its sign begins at sign
+abbrev pub IsStep : Option State → Place → Place → Reader → Result (Unit {0}) DocError → Type 0
+IsStep o p sign r (Ok _) = (o ≡ Some (view r)) × (is_deep (view r) ≡ false)
+IsStep o p sign r (Err (Markup line column)) = (o ≡ None) × (place_of line column ≡ p)
+IsStep o p sign r (Err (Long line column)) = (s : State) × (o ≡ Some s) × (is_long s ≡ true) × (place_of line column ≡ sign)
+IsStep o p sign r (Err (Depth line column)) = (s : State) × (o ≡ Some s) × IsDeepAt s (place_of line column)
+IsStep o p sign r (Err (NotUtf8 n)) = ⊥
+IsStep o p sign r (Err Memory) = Unit {0}
 
-abbrev pub IsNext : State → Place → ℕ → Result Reader DocError → Type 0
-IsNext s p c r = IsStep (step p s c) p (sign_place p s.mode) r
+abbrev pub IsNext : State → Place → ℕ → Reader → Result (Unit {0}) DocError → Type 0
+IsNext s p c r answer = IsStep (step p s c) p (sign_place p s.mode) r answer
 
 -- what is read of characters, and where they are no document that can be read
 abbrev pub IsRead : List ℕ → Result Document DocError → Type 0

@@ -1,6 +1,6 @@
 -- What contracts see of the reader and of the tree that it makes: the machine's state, and the grammar's nodes.
 -- The tree is seen by a fold, since its values hold capacities and pointers.
-use Rattle.std.specs.Prelude.{◌≡◌, ◌≤◌, ℕ, true, List, [], ◌∷◌, map, drop, Option, Some, None, Result, Ok, Err}
+use Rattle.std.specs.Prelude.{◌≡◌, ◌≤◌, ℕ, Bool, true, false, List, [], ◌∷◌, map, drop, Option, Some, None, Result, Ok, Err}
 use Rattle.std.specs.String.{string_bytes}
 use Rattle.fx_markup.specs.declared.Place.{Place}
 use Rattle.fx_markup.specs.declared.Entity.TheVariants.{Begun}
@@ -51,6 +51,10 @@ nodes_of cs = built Nothing (map onto cs)
 abbrev pub level_view : Level → LevelView
 level_view l = record { nodes = nodes_of l.content.items; run = string_bytes l.run.text; first = l.first; count = l.run.count }
 
+-- a level behind these nodes, with an empty run
+abbrev pub level_behind : Nodes → LevelView
+level_behind n = record { nodes = n; run = []; first = None; count = 0 }
+
 abbrev pub head_view : Head → HeadView
 head_view h = record { name = h.name; attributes = map attr_view h.attributes.items; place = h.place }
 
@@ -97,20 +101,39 @@ mode_view s v.Ended = m.Ended
 abbrev pub view : Reader → m.State
 view r = record { held = held_view r.held; mode = mode_view (stack_view r.held.stack.items) r.mode }
 
-abbrev pub viewed : Option Reader → Option m.State
-viewed None = None
-viewed (Some r) = Some (view r)
-
 -- the step leads past a limit on lengths
 abbrev pub IsLongStep : Option m.State → Type 0
 IsLongStep None = ⊥
 IsLongStep (Some s) = m.is_long s ≡ true
 
--- what a step of the reader answers, where the machine goes to o
-abbrev pub Gives : Option m.State → Result (Option Reader) Halt → Type 0
-Gives o (Ok r) = viewed r ≡ o
-Gives o (Err Long) = IsLongStep o
-Gives o (Err Memory) = Unit {0}
+-- the state of a reader that holds this in that mode
+abbrev pub moved : Held → Option Mode → Option m.State
+moved h None = None
+moved h (Some mode) = m.at (held_view h) (mode_view (stack_view h.stack.items) mode)
+
+-- what a mode answers to a character, where the reader holds h afterwards and the machine goes to o
+abbrev pub Moves : Option m.State → Held → Result (Option Mode) Halt → Type 0
+Moves o h (Ok r) = moved h r ≡ o
+Moves o h (Err Long) = IsLongStep o
+Moves o h (Err Memory) = Unit {0}
+
+-- the state of a reader that went on
+abbrev pub stepped : Reader → Bool → Option m.State
+stepped r true = Some (view r)
+stepped r false = None
+
+-- what a step of the reader answers, where it is r afterwards and the machine goes to o
+abbrev pub Steps : Option m.State → Reader → Result Bool Halt → Type 0
+Steps o r (Ok b) = stepped r b ≡ o
+Steps o r (Err Long) = IsLongStep o
+Steps o r (Err Memory) = Unit {0}
+
+-- a character that only makes a text longer is taken in place; every other leaves the reader as it is
+abbrev pub Takes : Option m.State → Reader → Reader → Result Bool Halt → Type 0
+Takes o r r' (Ok true) = Some (view r') ≡ o
+Takes o r r' (Ok false) = r' ≡ r
+Takes o r r' (Err Long) = IsLongStep o
+Takes o r r' (Err Memory) = Unit {0}
 
 -- states that several steps lead to
 abbrev pub inside_state : m.Held → Option m.State

@@ -1,6 +1,6 @@
 //! Texts that are being read: names, and values or runs with the count of their signs.
 //! A text that would pass 4,096 characters is refused before it grows.
-ghost use Rattle.std.specs.Prelude.{◌≡◌, ◌≤◌, ◌<◌, ◌+◌, ◌∷◌, ◌++◌, [], length, true, IfOk, IsErrOf, ◌↔◌};
+ghost use Rattle.std.specs.Prelude.{◌≡◌, ◌≤◌, ◌<◌, ◌+◌, ◌∷◌, ◌++◌, [], length, true, IfOk, OnOk, IsErrOf, ◌↔◌};
 ghost use Rattle.std.specs.Str.{chars};
 ghost use Rattle.std.specs.String.{string_bytes};
 ghost use Rattle.std.specs.Char.{encode_utf8};
@@ -61,18 +61,17 @@ impl Word {
         Ok(Word { text })
     }
 
-    /// The name with one more character.
-    pub fn with(self, c: char) -> Result<Word, Halt>
+    /// Appends a character.
+    pub fn push(&mut self, c: char) -> Result<(), Halt>
         requires { in_name (class_of c) ≡ true }
-        ensures letter { IfOk result (λ w. string_bytes w.text ≡ string_bytes self.text ++ (c ∷ [])) }
-        ensures refused { IsErrOf result Halt.Long ↔ (length (string_bytes self.text) ≡ 4096) }
+        ensures letter { OnOk result (string_bytes self.new.text ≡ string_bytes self.old.text ++ (c ∷ [])) }
+        ensures refused { IsErrOf result Halt.Long ↔ (length (string_bytes self.old.text) ≡ 4096) }
     {
-        let Word { mut text } = self;
-        if text.len() == TEXT_LIMIT {
+        if self.text.len() == TEXT_LIMIT {
             return Err(Halt::Long);
         }
-        text.push(c)?;
-        Ok(Word { text })
+        self.text.push(c)?;
+        Ok(())
     }
 
     /// The name as a text.
@@ -107,21 +106,27 @@ impl Draft {
         }
     }
 
-    /// The text with one more character.
-    pub fn with(self, c: char) -> Result<Draft, Halt>
-        ensures bytes { IfOk result (λ d. string_bytes d.text ≡ string_bytes self.text ++ encode_utf8 c) }
-        ensures count { IfOk result (λ d. d.count ≡ self.count + 1) }
-        ensures refused { IsErrOf result Halt.Long ↔ (self.count ≡ 4096) }
+    /// Appends a character.
+    pub fn push(&mut self, c: char) -> Result<(), Halt>
+        ensures bytes { OnOk result (string_bytes self.new.text ≡ string_bytes self.old.text ++ encode_utf8 c) }
+        ensures count { OnOk result (self.new.count ≡ self.old.count + 1) }
+        ensures refused { IsErrOf result Halt.Long ↔ (self.old.count ≡ 4096) }
     {
-        let Draft { mut text, count } = self;
-        if count == TEXT_LIMIT {
+        if self.count == TEXT_LIMIT {
             return Err(Halt::Long);
         }
-        text.push(c)?;
-        Ok(Draft {
-            text,
-            count: count + 1,
-        })
+        self.text.push(c)?;
+        self.count += 1;
+        Ok(())
+    }
+
+    /// Takes its characters out; the room stays.
+    pub fn clear(&mut self)
+        ensures bytes { string_bytes self.new.text ≡ [] }
+        ensures count { self.new.count ≡ 0 }
+    {
+        self.text.clear();
+        self.count = 0;
     }
 
     /// The characters as a text.

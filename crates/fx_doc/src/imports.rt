@@ -1,6 +1,6 @@
 //! Import instructions: the text of one without the white at its ends, listed unless it is too long.
 //! Every other instruction is passed over.
-ghost use Rattle.std.specs.Prelude.{◌≡◌, ◌∷◌, [], cond, not, ◌&&◌, length, IfOk, option_to_list};
+ghost use Rattle.std.specs.Prelude.{◌≡◌, ◌∷◌, [], cond, not, ◌&&◌, length, IfOk, OnOk, option_to_list};
 ghost use Rattle.std.specs.Str.{chars};
 ghost use Rattle.std.specs.String.{string_bytes};
 ghost use lib.Dec.{leb};
@@ -82,34 +82,25 @@ impl Held {
         self.may_begin() && !self.is_within()
     }
 
-    /// Behind an instruction of this name and text.
-    pub fn with_instruction(
-        self,
+    /// Passes an instruction of this name and text.
+    pub fn add_instruction(
+        &mut self,
         alloc: Global,
         name: &Word,
         inside: &str,
-    ) -> Result<Held, AllocError>
-        ensures { IfOk result (λ h. held_view h ≡ with_instruction (held_view self) (string_bytes name.now.text) inside.now) }
+    ) -> Result<(), AllocError>
+        ensures { OnOk result (held_view self.new ≡ with_instruction (held_view self.old) (string_bytes name.now.text) inside.now) }
     {
         if !self.is_before_root() {
-            return Ok(self);
+            return Ok(());
         }
         if !is_import(name) {
-            return Ok(self);
+            return Ok(());
         }
         let Some(text) = import_text(alloc, inside)? else {
-            return Ok(self);
+            return Ok(());
         };
-        let Held {
-            mut imports,
-            stack,
-            level,
-        } = self;
-        imports.push(text)?;
-        Ok(Held {
-            imports,
-            stack,
-            level,
-        })
+        self.imports.push(text)?;
+        Ok(())
     }
 }

@@ -4,16 +4,16 @@ ghost use Rattle.std.specs.Prelude.{◌≡◌, true, [], ◌∷◌, ◌++◌};
 ghost use Rattle.std.specs.String.{string_bytes};
 ghost use Rattle.fx_markup.specs.Characters.{class_of, in_name};
 ghost use Rattle.fx_markup.specs.Machine.{some_if, with_instruction, in_asked, in_instructing, in_name_asked, in_instructed, in_end_asked};
-ghost use Rattle.fx_doc.specs.Views.{held_view, Gives, inside_state, instructing_state};
+ghost use Rattle.fx_doc.specs.Views.{held_view, Moves, inside_state, instructing_state};
 
 use crate::drafts::{Halt, Word};
 use crate::levels::goes;
-use crate::modes::{Held, Mode, Reader};
+use crate::modes::{Held, Mode};
 use fx_markup::Class;
 use std::alloc::Global;
 
-pub fn asked(alloc: Global, held: Held, c: char) -> Result<Option<Reader>, Halt>
-    ensures { Gives (in_asked (held_view held) c (class_of c)) result }
+pub fn asked(alloc: Global, held: &Held, c: char) -> Result<Option<Mode>, Halt>
+    ensures { Moves (in_asked (held_view held.now) c (class_of c)) held.now result }
 {
     match Class::of(c) {
         Class::Letter => goes(held, Mode::Instructing(Word::of(alloc, c)?)),
@@ -22,8 +22,8 @@ pub fn asked(alloc: Global, held: Held, c: char) -> Result<Option<Reader>, Halt>
 }
 
 #[tactic(auto, using(crate::proofs::Defaults::instructing_rest))]
-pub fn instructing(alloc: Global, held: Held, name: Word, c: char) -> Result<Option<Reader>, Halt>
-    ensures { Gives (in_instructing (string_bytes name.text) (held_view held) c (class_of c)) result }
+pub fn instructing(alloc: Global, held: &Held, name: Word, c: char) -> Result<Option<Mode>, Halt>
+    ensures { Moves (in_instructing (string_bytes name.text) (held_view held.now) c (class_of c)) held.now result }
 {
     match Class::of(c) {
         Class::White => {
@@ -37,18 +37,19 @@ pub fn instructing(alloc: Global, held: Held, name: Word, c: char) -> Result<Opt
 }
 
 #[tactic(auto, using(crate::proofs::Defaults::long_name))]
-fn longer_name(held: Held, name: Word, c: char, class: Class) -> Result<Option<Reader>, Halt>
+fn longer_name(held: &Held, mut name: Word, c: char, class: Class) -> Result<Option<Mode>, Halt>
     requires { class ≡ class_of c }
-    ensures { Gives (some_if (in_name class) (instructing_state (held_view held) (string_bytes name.text ++ (c ∷ [])))) result }
+    ensures { Moves (some_if (in_name class) (instructing_state (held_view held.now) (string_bytes name.text ++ (c ∷ [])))) held.now result }
 {
     if !class.is_named() {
         return Ok(None);
     }
-    goes(held, Mode::Instructing(name.with(c)?))
+    name.push(c)?;
+    goes(held, Mode::Instructing(name))
 }
 
-pub fn name_asked(alloc: Global, held: Held, name: Word, c: char) -> Result<Option<Reader>, Halt>
-    ensures { Gives (in_name_asked (string_bytes name.text) (held_view held) (class_of c)) result }
+pub fn name_asked(alloc: Global, held: &mut Held, name: Word, c: char) -> Result<Option<Mode>, Halt>
+    ensures { Moves (in_name_asked (string_bytes name.text) (held_view held.old) (class_of c)) held.new result }
 {
     match Class::of(c) {
         Class::Greater => behind(alloc, held, name, ""),
@@ -57,19 +58,20 @@ pub fn name_asked(alloc: Global, held: Held, name: Word, c: char) -> Result<Opti
 }
 
 /// An instruction of this name and text is whole.
-fn behind(alloc: Global, held: Held, name: Word, inside: &str) -> Result<Option<Reader>, Halt>
-    ensures { Gives (inside_state (with_instruction (held_view held) (string_bytes name.text) inside.now)) result }
+fn behind(alloc: Global, held: &mut Held, name: Word, inside: &str) -> Result<Option<Mode>, Halt>
+    ensures { Moves (inside_state (with_instruction (held_view held.old) (string_bytes name.text) inside.now)) held.new result }
 {
-    goes(held.with_instruction(alloc, &name, inside)?, Mode::Inside)
+    held.add_instruction(alloc, &name, inside)?;
+    goes(held, Mode::Inside)
 }
 
 pub fn instructed(
-    held: Held,
+    held: &Held,
     name: Word,
     mut inside: String,
     c: char,
-) -> Result<Option<Reader>, Halt>
-    ensures { Gives (in_instructed (string_bytes name.text) (string_bytes inside) (held_view held) c (class_of c)) result }
+) -> Result<Option<Mode>, Halt>
+    ensures { Moves (in_instructed (string_bytes name.text) (string_bytes inside) (held_view held.now) c (class_of c)) held.now result }
 {
     match Class::of(c) {
         Class::Question => goes(held, Mode::EndAsked(name, inside)),
@@ -83,12 +85,12 @@ pub fn instructed(
 /// Behind a `?`, which belongs to the text unless `>` follows.
 pub fn end_asked(
     alloc: Global,
-    held: Held,
+    held: &mut Held,
     name: Word,
     mut inside: String,
     c: char,
-) -> Result<Option<Reader>, Halt>
-    ensures { Gives (in_end_asked (string_bytes name.text) (string_bytes inside) (held_view held) c (class_of c)) result }
+) -> Result<Option<Mode>, Halt>
+    ensures { Moves (in_end_asked (string_bytes name.text) (string_bytes inside) (held_view held.old) c (class_of c)) held.new result }
 {
     match Class::of(c) {
         Class::Greater => behind(alloc, held, name, inside.as_str()),

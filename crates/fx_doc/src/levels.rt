@@ -1,23 +1,25 @@
 //! Steps on what the reader holds: a sign more in a run, an element that opens or ends.
-//! Each is a function of the machine in `fx_markup`, on the reader's own values.
-ghost use Rattle.std.specs.Prelude.{◌≡◌, true, IfOk, IsErrOf};
+//! Each is a function of the machine in `fx_markup`, on the reader's own values, in place.
+ghost use Rattle.std.specs.Prelude.{◌≡◌, true, OnOk, IsErrOf};
 ghost use Rattle.fx_markup.specs.Grammar.{fresh_level, one_sign, one_child, closed, first_shown};
 ghost use Rattle.fx_markup.specs.Characters.{class_of};
 ghost use Rattle.fx_markup.specs.Machine.{at, Inside, open_element, close, with_sign, with_leaf, level_long, is_open, may_begin};
-ghost use Rattle.fx_doc.specs.Views.{nodes_of, level_view, head_view, stack_view, held_view, mode_view, Gives};
+ghost use Rattle.fx_doc.specs.Views.{nodes_of, level_view, level_behind, head_view, stack_view, held_view, mode_view, Moves};
 
 use crate::document::{Content, Element};
 use crate::drafts::{Draft, Halt};
-use crate::modes::{Head, Held, Level, Mode, Open, Reader};
+use crate::modes::{Head, Held, Level, Mode, Open};
 use fx_base::List;
 use fx_markup::{Class, Place};
 use std::alloc::{AllocError, Global};
+use std::mem;
 
-/// The reader goes on so.
-pub fn goes(held: Held, mode: Mode) -> Result<Option<Reader>, Halt>
-    ensures { Gives (at (held_view held) (mode_view (stack_view held.stack.items) mode)) result }
+/// The reader goes on in this mode.
+pub fn goes(held: &Held, mode: Mode) -> Result<Option<Mode>, Halt>
+    ensures { Moves (at (held_view held.now) (mode_view (stack_view held.now.stack.items) mode)) held.now result }
 {
-    Ok(Some(Reader { held, mode }))
+    let _held = held;
+    Ok(Some(mode))
 }
 
 impl Level {
@@ -31,53 +33,50 @@ impl Level {
         }
     }
 
-    /// With one more character in its run, which is written at that place.
-    pub fn with_sign(self, place: Place, c: char) -> Result<Level, Halt>
-        ensures sign { IfOk result (λ l. level_view l ≡ one_sign place c (level_view self)) }
-        ensures refused { IsErrOf result Halt.Long → self.run.count ≡ 4096 }
+    /// Appends a character, which is written at that place, to the run.
+    pub fn add_sign(&mut self, place: Place, c: char) -> Result<(), Halt>
+        ensures sign { OnOk result (level_view self.new ≡ one_sign place c (level_view self.old)) }
+        ensures refused { IsErrOf result Halt.Long → self.old.run.count ≡ 4096 }
     {
-        let Level {
-            content,
-            run,
-            first,
-        } = self;
-        let run = run.with(c)?;
-        let first = shown_first(first, place, c);
-        Ok(Level {
-            content,
-            run,
-            first,
-        })
+        self.run.push(c)?;
+        self.first = shown_first(self.first, place, c);
+        Ok(())
     }
 
-    /// Its content, with its run unless that is blank.
-    pub fn closed(self) -> Result<Vec<Content>, AllocError>
-        ensures { IfOk result (λ v. nodes_of v.items ≡ closed (level_view self)) }
+    /// Puts the run behind the content, unless it is blank, and begins another.
+    pub fn end_run(&mut self, alloc: Global) -> Result<(), AllocError>
+        ensures { OnOk result (level_view self.new ≡ level_behind (closed (level_view self.old))) }
     {
-        let Level {
-            mut content,
-            run,
-            first,
-        } = self;
-        match first {
-            None => Ok(content),
-            Some(place) => {
-                content.push(Content::Chars(run.into_text(), place.line, place.column))?;
-                Ok(content)
+        match self.first {
+            None => {
+                self.run.clear();
+                Ok(())
             }
+            Some(place) => self.keep_run(alloc, place),
         }
     }
 
-    /// With an element behind its run.
-    pub fn with_child(
-        self,
+    fn keep_run(&mut self, alloc: Global, place: Place) -> Result<(), AllocError>
+        requires { self.old.first ≡ Some place }
+        ensures { OnOk result (level_view self.new ≡ level_behind (closed (level_view self.old))) }
+    {
+        let run = mem::replace(&mut self.run, Draft::new(alloc));
+        self.first = None;
+        self.content
+            .push(Content::Chars(run.into_text(), place.line, place.column))?;
+        Ok(())
+    }
+
+    /// Puts an element behind the run.
+    pub fn add_child(
+        &mut self,
         alloc: Global,
         head: Head,
         inner: Vec<Content>,
-    ) -> Result<Level, AllocError>
-        ensures { IfOk result (λ l. level_view l ≡ one_child (level_view self) (head_view head) (nodes_of inner.items)) }
+    ) -> Result<(), AllocError>
+        ensures { OnOk result (level_view self.new ≡ one_child (level_view self.old) (head_view head) (nodes_of inner.items)) }
     {
-        let mut content = self.closed()?;
+        self.end_run(alloc)?;
         let Head {
             name,
             attributes,
@@ -90,12 +89,8 @@ impl Level {
             line: place.line,
             column: place.column,
         };
-        content.push(Content::Child(element))?;
-        Ok(Level {
-            content,
-            run: Draft::new(alloc),
-            first: None,
-        })
+        self.content.push(Content::Child(element))?;
+        Ok(())
     }
 }
 
@@ -124,84 +119,49 @@ impl Held {
         self.is_within() || self.level.content.is_empty()
     }
 
-    /// With one more character in the run at hand; white outside the elements is not kept.
-    pub fn with_sign(self, place: Place, c: char) -> Result<Held, Halt>
-        ensures sign { IfOk result (λ h. held_view h ≡ with_sign place c (held_view self)) }
-        ensures refused { IsErrOf result Halt.Long → level_long (with_sign place c (held_view self)) ≡ true }
+    /// Appends a character to the run at hand; white outside the elements is not kept.
+    pub fn add_sign(&mut self, place: Place, c: char) -> Result<(), Halt>
+        ensures sign { OnOk result (held_view self.new ≡ with_sign place c (held_view self.old)) }
+        ensures refused { IsErrOf result Halt.Long → level_long (with_sign place c (held_view self.old)) ≡ true }
     {
         if !self.is_within() {
-            return Ok(self);
+            return Ok(());
         }
-        let Held {
-            imports,
-            stack,
-            level,
-        } = self;
-        let level = level.with_sign(place, c)?;
-        Ok(Held {
-            imports,
-            stack,
-            level,
-        })
+        self.level.add_sign(place, c)
     }
 
-    /// With an element that has no content.
-    pub fn with_leaf(self, alloc: Global, head: Head) -> Result<Held, AllocError>
-        ensures { IfOk result (λ h. held_view h ≡ with_leaf (held_view self) (head_view head)) }
+    /// Adds an element that has no content.
+    pub fn add_leaf(&mut self, alloc: Global, head: Head) -> Result<(), AllocError>
+        ensures { OnOk result (held_view self.new ≡ with_leaf (held_view self.old) (head_view head)) }
     {
-        let Held {
-            imports,
-            stack,
-            level,
-        } = self;
-        let level = level.with_child(alloc, head, Vec::new(alloc))?;
-        Ok(Held {
-            imports,
-            stack,
-            level,
-        })
+        self.level.add_child(alloc, head, Vec::new(alloc))
     }
 
-    /// Within an element that begins so.
-    pub fn opened(self, alloc: Global, head: Head) -> Result<Held, AllocError>
-        ensures { IfOk result (λ h. held_view h ≡ open_element (held_view self) (head_view head)) }
+    /// An element begins with this tag.
+    pub fn open(&mut self, alloc: Global, head: Head) -> Result<(), AllocError>
+        ensures { OnOk result (held_view self.new ≡ open_element (held_view self.old) (head_view head)) }
     {
-        let Held {
-            imports,
-            mut stack,
-            level,
-        } = self;
-        stack.push(Open {
-            before: level,
-            head,
-        })?;
-        Ok(Held {
-            imports,
-            stack,
-            level: Level::new(alloc),
-        })
+        let before = mem::replace(&mut self.level, Level::new(alloc));
+        self.stack.push(Open { before, head })?;
+        Ok(())
     }
 
-    /// Behind the innermost element, which ends.
-    pub fn close(self, alloc: Global) -> Result<Option<Reader>, Halt>
-        ensures { Gives (close (held_view self)) result }
+    /// The innermost element ends.
+    pub fn close(&mut self, alloc: Global) -> Result<Option<Mode>, Halt>
+        ensures { Moves (close (held_view self.old)) self.new result }
     {
-        let Held {
-            imports,
-            mut stack,
-            level,
-        } = self;
-        let Some(open) = stack.pop() else {
+        let Some(open) = self.stack.pop() else {
             return Ok(None);
         };
         let Open { before, head } = open;
-        let inner = level.closed()?;
-        let level = before.with_child(alloc, head, inner)?;
-        let held = Held {
-            imports,
-            stack,
-            level,
-        };
-        goes(held, Mode::Inside)
+        let mut inside = mem::replace(&mut self.level, before);
+        inside.end_run(alloc)?;
+        let Level {
+            content,
+            run: _,
+            first: _,
+        } = inside;
+        self.level.add_child(alloc, head, content)?;
+        goes(self, Mode::Inside)
     }
 }

@@ -2,6 +2,7 @@
 //! It keeps to the grammar of `fx_markup`; what elements and attributes mean is left to the layers above.
 #![tactic(auto)]
 
+mod absorbing;
 mod bytes;
 mod document;
 mod drafts;

@@ -4,17 +4,17 @@ ghost use Rattle.std.specs.Prelude.{◌≡◌, true, [], ◌∷◌, ◌++◌};
 ghost use Rattle.std.specs.String.{string_bytes};
 ghost use Rattle.fx_markup.specs.Characters.{class_of, in_name};
 ghost use Rattle.fx_markup.specs.Machine.{State, at, some_if, is_open, with_sign, with_instruction, entity_step, begin_end, may_begin, in_inside, in_referring, in_opening, in_banged, in_bang_dashed, in_commented, in_dashed, in_dash_dashed, in_asked, in_instructing, in_name_asked, in_instructed, in_end_asked};
-ghost use Rattle.fx_doc.specs.Views.{stack_view, held_view, Gives, inside_state, referring_state, naming_state, instructing_state};
+ghost use Rattle.fx_doc.specs.Views.{stack_view, held_view, Moves, inside_state, referring_state, naming_state, instructing_state};
 
 use crate::drafts::{Halt, Word};
 use crate::levels::goes;
-use crate::modes::{Held, Mode, Reader};
+use crate::modes::{Held, Mode};
 use fx_markup::{Class, Entity, Place, Turn};
 use std::alloc::Global;
 
 #[tactic(auto, using(crate::proofs::Defaults::inside_rest))]
-pub fn inside(held: Held, place: Place, c: char) -> Result<Option<Reader>, Halt>
-    ensures { Gives (in_inside place (held_view held) c (class_of c)) result }
+pub fn inside(held: &mut Held, place: Place, c: char) -> Result<Option<Mode>, Halt>
+    ensures { Moves (in_inside place (held_view held.old) c (class_of c)) held.new result }
 {
     match Class::of(c) {
         Class::White => with_character(held, place, c),
@@ -25,8 +25,8 @@ pub fn inside(held: Held, place: Place, c: char) -> Result<Option<Reader>, Halt>
 }
 
 /// A reference begins, within an element alone.
-fn refers(held: Held, place: Place) -> Result<Option<Reader>, Halt>
-    ensures { Gives (some_if (is_open (stack_view held.stack.items)) (referring_state (held_view held) place)) result }
+fn refers(held: &Held, place: Place) -> Result<Option<Mode>, Halt>
+    ensures { Moves (some_if (is_open (stack_view held.now.stack.items)) (referring_state (held_view held.now) place)) held.now result }
 {
     if !held.is_within() {
         return Ok(None);
@@ -35,8 +35,8 @@ fn refers(held: Held, place: Place) -> Result<Option<Reader>, Halt>
 }
 
 /// A character stands within an element alone.
-fn shown(held: Held, place: Place, c: char) -> Result<Option<Reader>, Halt>
-    ensures { Gives (some_if (is_open (stack_view held.stack.items)) (inside_state (with_sign place c (held_view held)))) result }
+fn shown(held: &mut Held, place: Place, c: char) -> Result<Option<Mode>, Halt>
+    ensures { Moves (some_if (is_open (stack_view held.old.stack.items)) (inside_state (with_sign place c (held_view held.old)))) held.new result }
 {
     if !held.is_within() {
         return Ok(None);
@@ -44,14 +44,20 @@ fn shown(held: Held, place: Place, c: char) -> Result<Option<Reader>, Halt>
     with_character(held, place, c)
 }
 
-fn with_character(held: Held, place: Place, c: char) -> Result<Option<Reader>, Halt>
-    ensures { Gives (inside_state (with_sign place c (held_view held))) result }
+fn with_character(held: &mut Held, place: Place, c: char) -> Result<Option<Mode>, Halt>
+    ensures { Moves (inside_state (with_sign place c (held_view held.old))) held.new result }
 {
-    goes(held.with_sign(place, c)?, Mode::Inside)
+    held.add_sign(place, c)?;
+    goes(held, Mode::Inside)
 }
 
-pub fn referring(held: Held, place: Place, entity: Entity, c: char) -> Result<Option<Reader>, Halt>
-    ensures { Gives (in_referring place (held_view held) (entity_step entity c)) result }
+pub fn referring(
+    held: &mut Held,
+    place: Place,
+    entity: Entity,
+    c: char,
+) -> Result<Option<Mode>, Halt>
+    ensures { Moves (in_referring place (held_view held.old) (entity_step entity c)) held.new result }
 {
     match entity.step(c) {
         Some(Turn::Further(next)) => goes(held, Mode::Referring(place, next)),
@@ -61,8 +67,8 @@ pub fn referring(held: Held, place: Place, entity: Entity, c: char) -> Result<Op
 }
 
 /// Behind a `<`, which stands at that place.
-pub fn opening(alloc: Global, held: Held, place: Place, c: char) -> Result<Option<Reader>, Halt>
-    ensures { Gives (in_opening place (held_view held) c (class_of c)) result }
+pub fn opening(alloc: Global, held: &Held, place: Place, c: char) -> Result<Option<Mode>, Halt>
+    ensures { Moves (in_opening place (held_view held.now) c (class_of c)) held.now result }
 {
     match Class::of(c) {
         Class::Letter => begins(alloc, held, place, c),
@@ -74,9 +80,9 @@ pub fn opening(alloc: Global, held: Held, place: Place, c: char) -> Result<Optio
 }
 
 /// An element begins: within another, or as the first.
-fn begins(alloc: Global, held: Held, place: Place, c: char) -> Result<Option<Reader>, Halt>
+fn begins(alloc: Global, held: &Held, place: Place, c: char) -> Result<Option<Mode>, Halt>
     requires { in_name (class_of c) ≡ true }
-    ensures { Gives (some_if (may_begin (held_view held)) (naming_state (held_view held) place (c ∷ []))) result }
+    ensures { Moves (some_if (may_begin (held_view held.now)) (naming_state (held_view held.now) place (c ∷ []))) held.now result }
 {
     if !held.may_begin() {
         return Ok(None);
@@ -84,8 +90,8 @@ fn begins(alloc: Global, held: Held, place: Place, c: char) -> Result<Option<Rea
     goes(held, Mode::Naming(place, Word::of(alloc, c)?))
 }
 
-fn begins_end(held: Held) -> Result<Option<Reader>, Halt>
-    ensures { Gives (begin_end (stack_view held.stack.items) (held_view held)) result }
+fn begins_end(held: &Held) -> Result<Option<Mode>, Halt>
+    ensures { Moves (begin_end (stack_view held.now.stack.items) (held_view held.now)) held.now result }
 {
     if !held.is_within() {
         return Ok(None);
@@ -93,8 +99,8 @@ fn begins_end(held: Held) -> Result<Option<Reader>, Halt>
     goes(held, Mode::Ending(0))
 }
 
-pub fn banged(held: Held, c: char) -> Result<Option<Reader>, Halt>
-    ensures { Gives (in_banged (held_view held) (class_of c)) result }
+pub fn banged(held: &Held, c: char) -> Result<Option<Mode>, Halt>
+    ensures { Moves (in_banged (held_view held.now) (class_of c)) held.now result }
 {
     match Class::of(c) {
         Class::Dash => goes(held, Mode::BangDashed),
@@ -102,8 +108,8 @@ pub fn banged(held: Held, c: char) -> Result<Option<Reader>, Halt>
     }
 }
 
-pub fn bang_dashed(held: Held, c: char) -> Result<Option<Reader>, Halt>
-    ensures { Gives (in_bang_dashed (held_view held) (class_of c)) result }
+pub fn bang_dashed(held: &Held, c: char) -> Result<Option<Mode>, Halt>
+    ensures { Moves (in_bang_dashed (held_view held.now) (class_of c)) held.now result }
 {
     match Class::of(c) {
         Class::Dash => goes(held, Mode::Commented),
@@ -111,8 +117,8 @@ pub fn bang_dashed(held: Held, c: char) -> Result<Option<Reader>, Halt>
     }
 }
 
-pub fn commented(held: Held, c: char) -> Result<Option<Reader>, Halt>
-    ensures { Gives (in_commented (held_view held) (class_of c)) result }
+pub fn commented(held: &Held, c: char) -> Result<Option<Mode>, Halt>
+    ensures { Moves (in_commented (held_view held.now) (class_of c)) held.now result }
 {
     match Class::of(c) {
         Class::Dash => goes(held, Mode::Dashed),
@@ -120,8 +126,8 @@ pub fn commented(held: Held, c: char) -> Result<Option<Reader>, Halt>
     }
 }
 
-pub fn dashed(held: Held, c: char) -> Result<Option<Reader>, Halt>
-    ensures { Gives (in_dashed (held_view held) (class_of c)) result }
+pub fn dashed(held: &Held, c: char) -> Result<Option<Mode>, Halt>
+    ensures { Moves (in_dashed (held_view held.now) (class_of c)) held.now result }
 {
     match Class::of(c) {
         Class::Dash => goes(held, Mode::DashDashed),
@@ -129,8 +135,8 @@ pub fn dashed(held: Held, c: char) -> Result<Option<Reader>, Halt>
     }
 }
 
-pub fn dash_dashed(held: Held, c: char) -> Result<Option<Reader>, Halt>
-    ensures { Gives (in_dash_dashed (held_view held) (class_of c)) result }
+pub fn dash_dashed(held: &Held, c: char) -> Result<Option<Mode>, Halt>
+    ensures { Moves (in_dash_dashed (held_view held.now) (class_of c)) held.now result }
 {
     match Class::of(c) {
         Class::Dash => goes(held, Mode::DashDashed),

@@ -5,11 +5,12 @@ ghost use Rattle.std.specs.Str.{chars, IsUtf8};
 ghost use Rattle.fx_markup.specs.Grammar.{Spells};
 ghost use Rattle.fx_markup.specs.Verdicts.{Verdict, IsVerdict};
 ghost use Rattle.fx_markup.specs.Beginnings.{IsWithinLimits};
-ghost use Rattle.fx_markup.specs.Machine.{initial, step, sign_place, answer, is_deep};
+ghost use Rattle.fx_markup.specs.Characters.{class_of};
+ghost use Rattle.fx_markup.specs.Machine.{initial, step, move, sign_place, answer, is_deep};
 ghost use Rattle.fx_markup.specs.declared.Place.{Place};
 ghost use Rattle.fx_doc.specs.Judgements.{Tells, judgement};
 ghost use Rattle.fx_doc.specs.Reads.{IsNext, IsStep, IsRead, HasFault, IsGiven, IsRefused, document_text};
-ghost use Rattle.fx_doc.specs.Views.{view, viewed, Gives, IsDeepAt, reading, inside_view, AnswersRoot, onto, onto_element, IsRun};
+ghost use Rattle.fx_doc.specs.Views.{view, held_view, mode_view, stack_view, Moves, Steps, IsDeepAt, reading, inside_view, AnswersRoot, onto, onto_element, IsRun};
 
 use crate::bytes::text_in;
 use crate::document::{Content, DocError, Document, Element};
@@ -24,6 +25,7 @@ use crate::values::{ending, quoted, value_referring};
 use fx_base::List;
 use fx_markup::Place;
 use std::alloc::Global;
+use std::mem;
 
 /// The greatest number of elements that may be open where one begins.
 const DEPTH_LIMIT: usize = 128;
@@ -43,38 +45,20 @@ impl Reader {
         }
     }
 
-    /// Behind this character, which stands at that place; None where no document goes on so.
-    pub fn step(self, alloc: Global, place: Place, c: char) -> Result<Option<Reader>, Halt>
-        ensures { Gives (step place (view self) c) result }
+    /// Reads this character, which stands at that place; false where no document goes on so.
+    fn step(&mut self, alloc: Global, place: Place, c: char) -> Result<bool, Halt>
+        ensures { Steps (step place (view self.old) c) self.new result }
     {
-        let Reader { held, mode } = self;
-        match mode {
-            Mode::Inside => inside(held, place, c),
-            Mode::Referring(at, entity) => referring(held, at, entity, c),
-            Mode::Opening(at) => opening(alloc, held, at, c),
-            Mode::Banged => banged(held, c),
-            Mode::BangDashed => bang_dashed(held, c),
-            Mode::Commented => commented(held, c),
-            Mode::Dashed => dashed(held, c),
-            Mode::DashDashed => dash_dashed(held, c),
-            Mode::Asked => asked(alloc, held, c),
-            Mode::Instructing(name) => instructing(alloc, held, name, c),
-            Mode::NameAsked(name) => name_asked(alloc, held, name, c),
-            Mode::Instructed(name, text) => instructed(held, name, text, c),
-            Mode::EndAsked(name, text) => end_asked(alloc, held, name, text, c),
-            Mode::Naming(at, name) => naming(alloc, held, at, name, c),
-            Mode::Spaced(head) => spaced(alloc, held, head, place, c),
-            Mode::Tight(head) => tight(alloc, held, head, c),
-            Mode::Keyed(head, at, key) => keyed(held, head, at, key, c),
-            Mode::KeySpaced(head, at, key) => key_spaced(held, head, at, key, c),
-            Mode::Signed(head, at, key) => signed(alloc, held, head, at, key, c),
-            Mode::Quoted(valued) => quoted(held, valued, place, c),
-            Mode::ValueReferring(valued, at, entity) => value_referring(
-                held, valued, at, entity, c,
-            ),
-            Mode::Slashed(head) => slashed(alloc, held, head, c),
-            Mode::Ending(at) => ending(alloc, held, at, c),
-            Mode::Ended => ended(alloc, held, c),
+        if self.absorb(place, c)? {
+            return Ok(true);
+        }
+        let mode = mem::replace(&mut self.mode, Mode::Ended);
+        match moved(alloc, &mut self.held, mode, place, c)? {
+            Some(mode) => {
+                self.mode = mode;
+                Ok(true)
+            }
+            None => Ok(false),
         }
     }
 
@@ -106,14 +90,25 @@ impl Reader {
     }
 
     /// One character further, within the limits on depth and length.
-    pub fn next(self, alloc: Global, place: Place, c: char) -> Result<Reader, DocError>
-        ensures { IsNext (view self) place c result }
+    fn next(&mut self, alloc: Global, place: Place, c: char) -> Result<(), DocError>
+        ensures { IsNext (view self.old) place c self.new result }
     {
         let sign = self.sign_place(place);
         match self.step(alloc, place, c) {
-            Ok(next) => moved(next, place),
+            Ok(true) => self.within_depth(),
+            Ok(false) => Err(DocError::Markup(place.line, place.column)),
             Err(Halt::Long) => Err(DocError::Long(sign.line, sign.column)),
             Err(Halt::Memory) => Err(DocError::Memory),
+        }
+    }
+
+    /// Refuses an element that begins too deep.
+    fn within_depth(&self) -> Result<(), DocError>
+        ensures { (p sign : Place) → IsStep (Some (view self.now)) p sign self.now result }
+    {
+        match self.deep_place() {
+            None => Ok(()),
+            Some(deep) => Err(DocError::Depth(deep.line, deep.column)),
         }
     }
 
@@ -159,16 +154,41 @@ impl Held {
     }
 }
 
-/// The reader goes on, unless no document does or an element begins too deep.
-fn moved(next: Option<Reader>, place: Place) -> Result<Reader, DocError>
-    ensures { (sign : Place) → IsStep (viewed next) place sign result }
+/// What mode a reader is in behind this character, which stands at that place; None where no document goes on so.
+fn moved(
+    alloc: Global,
+    held: &mut Held,
+    mode: Mode,
+    place: Place,
+    c: char,
+) -> Result<Option<Mode>, Halt>
+    ensures { Moves (move place (held_view held.old) (mode_view (stack_view held.old.stack.items) mode) c (class_of c)) held.new result }
 {
-    let Some(next) = next else {
-        return Err(DocError::Markup(place.line, place.column));
-    };
-    match next.deep_place() {
-        None => Ok(next),
-        Some(deep) => Err(DocError::Depth(deep.line, deep.column)),
+    match mode {
+        Mode::Inside => inside(held, place, c),
+        Mode::Referring(at, entity) => referring(held, at, entity, c),
+        Mode::Opening(at) => opening(alloc, held, at, c),
+        Mode::Banged => banged(held, c),
+        Mode::BangDashed => bang_dashed(held, c),
+        Mode::Commented => commented(held, c),
+        Mode::Dashed => dashed(held, c),
+        Mode::DashDashed => dash_dashed(held, c),
+        Mode::Asked => asked(alloc, held, c),
+        Mode::Instructing(name) => instructing(alloc, held, name, c),
+        Mode::NameAsked(name) => name_asked(alloc, held, name, c),
+        Mode::Instructed(name, text) => instructed(held, name, text, c),
+        Mode::EndAsked(name, text) => end_asked(alloc, held, name, text, c),
+        Mode::Naming(at, name) => naming(alloc, held, at, name, c),
+        Mode::Spaced(head) => spaced(alloc, held, head, place, c),
+        Mode::Tight(head) => tight(alloc, held, head, c),
+        Mode::Keyed(head, at, key) => keyed(held, head, at, key, c),
+        Mode::KeySpaced(head, at, key) => key_spaced(held, head, at, key, c),
+        Mode::Signed(head, at, key) => signed(alloc, held, head, at, key, c),
+        Mode::Quoted(valued) => quoted(held, valued, place, c),
+        Mode::ValueReferring(valued, at, entity) => value_referring(held, valued, at, entity, c),
+        Mode::Slashed(head) => slashed(alloc, held, head, c),
+        Mode::Ending(at) => ending(alloc, held, at, c),
+        Mode::Ended => ended(alloc, held, c),
     }
 }
 
@@ -191,7 +211,7 @@ pub fn read_text(alloc: Global, text: &str) -> Result<Document, DocError>
     let mut reader = Reader::new(alloc);
     let mut place = Place::START;
     for c in text.chars() {
-        reader = reader.next(alloc, place, c)?;
+        reader.next(alloc, place, c)?;
         place = place.after(c);
     }
     match reader.into_document() {

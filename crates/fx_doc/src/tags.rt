@@ -3,12 +3,12 @@
 ghost use Rattle.std.specs.Prelude.{◌≡◌, true, [], ◌∷◌, ◌++◌, drop, not};
 ghost use Rattle.std.specs.String.{string_bytes};
 ghost use Rattle.fx_markup.specs.Characters.{class_of, in_name};
-ghost use Rattle.fx_markup.specs.Machine.{at, Inside, some_if, open_element, is_fresh, in_naming, in_spaced, in_tight, in_keyed, in_key_spaced, in_signed, in_slashed, in_ended, in_ending};
-ghost use Rattle.fx_doc.specs.Views.{bare_head, head_view, stack_view, held_view, open_name, Gives, inside_state, naming_state, keyed_state, key_spaced_state, signed_state};
+ghost use Rattle.fx_markup.specs.Machine.{at, Inside, some_if, open_element, is_fresh, with_leaf, in_naming, in_spaced, in_tight, in_keyed, in_key_spaced, in_signed, in_slashed, in_ended, in_ending};
+ghost use Rattle.fx_doc.specs.Views.{bare_head, head_view, stack_view, held_view, open_name, Moves, inside_state, naming_state, keyed_state, key_spaced_state, signed_state};
 
 use crate::drafts::{Draft, Halt, Word};
 use crate::levels::goes;
-use crate::modes::{Head, Held, Mode, Reader, Valued};
+use crate::modes::{Head, Held, Mode, Valued};
 use fx_markup::{Class, Place, Quote};
 use std::alloc::Global;
 
@@ -38,21 +38,22 @@ impl Head {
 }
 
 /// An element begins with this tag.
-fn opens(alloc: Global, held: Held, head: Head) -> Result<Option<Reader>, Halt>
-    ensures { Gives (inside_state (open_element (held_view held) (head_view head))) result }
+fn opens(alloc: Global, held: &mut Held, head: Head) -> Result<Option<Mode>, Halt>
+    ensures { Moves (inside_state (open_element (held_view held.old) (head_view head))) held.new result }
 {
-    goes(held.opened(alloc, head)?, Mode::Inside)
+    held.open(alloc, head)?;
+    goes(held, Mode::Inside)
 }
 
 #[tactic(auto, using(crate::proofs::Defaults::naming_rest))]
 pub fn naming(
     alloc: Global,
-    held: Held,
+    held: &mut Held,
     place: Place,
     name: Word,
     c: char,
-) -> Result<Option<Reader>, Halt>
-    ensures { Gives (in_naming place (string_bytes name.text) (held_view held) c (class_of c)) result }
+) -> Result<Option<Mode>, Halt>
+    ensures { Moves (in_naming place (string_bytes name.text) (held_view held.old) c (class_of c)) held.new result }
 {
     match Class::of(c) {
         Class::White => goes(held, Mode::Spaced(Head::bare(alloc, place, name))),
@@ -64,29 +65,30 @@ pub fn naming(
 
 #[tactic(auto, using(crate::proofs::Defaults::long_name))]
 fn longer_name(
-    held: Held,
+    held: &Held,
     place: Place,
-    name: Word,
+    mut name: Word,
     c: char,
     class: Class,
-) -> Result<Option<Reader>, Halt>
+) -> Result<Option<Mode>, Halt>
     requires { class ≡ class_of c }
-    ensures { Gives (some_if (in_name class) (naming_state (held_view held) place (string_bytes name.text ++ (c ∷ [])))) result }
+    ensures { Moves (some_if (in_name class) (naming_state (held_view held.now) place (string_bytes name.text ++ (c ∷ [])))) held.now result }
 {
     if !class.is_named() {
         return Ok(None);
     }
-    goes(held, Mode::Naming(place, name.with(c)?))
+    name.push(c)?;
+    goes(held, Mode::Naming(place, name))
 }
 
 pub fn spaced(
     alloc: Global,
-    held: Held,
+    held: &mut Held,
     head: Head,
     place: Place,
     c: char,
-) -> Result<Option<Reader>, Halt>
-    ensures { Gives (in_spaced place (head_view head) (held_view held) c (class_of c)) result }
+) -> Result<Option<Mode>, Halt>
+    ensures { Moves (in_spaced place (head_view head) (held_view held.old) c (class_of c)) held.new result }
 {
     match Class::of(c) {
         Class::White => goes(held, Mode::Spaced(head)),
@@ -98,8 +100,8 @@ pub fn spaced(
 }
 
 /// Behind a value: no attribute begins without white before it.
-pub fn tight(alloc: Global, held: Held, head: Head, c: char) -> Result<Option<Reader>, Halt>
-    ensures { Gives (in_tight (head_view head) (held_view held) (class_of c)) result }
+pub fn tight(alloc: Global, held: &mut Held, head: Head, c: char) -> Result<Option<Mode>, Halt>
+    ensures { Moves (in_tight (head_view head) (held_view held.old) (class_of c)) held.new result }
 {
     match Class::of(c) {
         Class::White => goes(held, Mode::Spaced(head)),
@@ -111,13 +113,13 @@ pub fn tight(alloc: Global, held: Held, head: Head, c: char) -> Result<Option<Re
 
 #[tactic(auto, using(crate::proofs::Defaults::keyed_rest))]
 pub fn keyed(
-    held: Held,
+    held: &Held,
     head: Head,
     place: Place,
     key: Word,
     c: char,
-) -> Result<Option<Reader>, Halt>
-    ensures { Gives (in_keyed (head_view head) place (string_bytes key.text) (held_view held) c (class_of c)) result }
+) -> Result<Option<Mode>, Halt>
+    ensures { Moves (in_keyed (head_view head) place (string_bytes key.text) (held_view held.now) c (class_of c)) held.now result }
 {
     match Class::of(c) {
         Class::White => behind_key(held, head, place, key),
@@ -126,8 +128,8 @@ pub fn keyed(
     }
 }
 
-fn behind_key(held: Held, head: Head, place: Place, key: Word) -> Result<Option<Reader>, Halt>
-    ensures { Gives (some_if (is_fresh (string_bytes key.text) (head_view head)) (key_spaced_state (held_view held) (head_view head) place (string_bytes key.text))) result }
+fn behind_key(held: &Held, head: Head, place: Place, key: Word) -> Result<Option<Mode>, Halt>
+    ensures { Moves (some_if (is_fresh (string_bytes key.text) (head_view head)) (key_spaced_state (held_view held.now) (head_view head) place (string_bytes key.text))) held.now result }
 {
     if !head.is_fresh(&key) {
         return Ok(None);
@@ -135,8 +137,8 @@ fn behind_key(held: Held, head: Head, place: Place, key: Word) -> Result<Option<
     goes(held, Mode::KeySpaced(head, place, key))
 }
 
-fn behind_sign(held: Held, head: Head, place: Place, key: Word) -> Result<Option<Reader>, Halt>
-    ensures { Gives (some_if (is_fresh (string_bytes key.text) (head_view head)) (signed_state (held_view held) (head_view head) place (string_bytes key.text))) result }
+fn behind_sign(held: &Held, head: Head, place: Place, key: Word) -> Result<Option<Mode>, Halt>
+    ensures { Moves (some_if (is_fresh (string_bytes key.text) (head_view head)) (signed_state (held_view held.now) (head_view head) place (string_bytes key.text))) held.now result }
 {
     if !head.is_fresh(&key) {
         return Ok(None);
@@ -146,30 +148,31 @@ fn behind_sign(held: Held, head: Head, place: Place, key: Word) -> Result<Option
 
 #[tactic(auto, using(crate::proofs::Defaults::long_name))]
 fn longer_key(
-    held: Held,
+    held: &Held,
     head: Head,
     place: Place,
-    key: Word,
+    mut key: Word,
     c: char,
     class: Class,
-) -> Result<Option<Reader>, Halt>
+) -> Result<Option<Mode>, Halt>
     requires { class ≡ class_of c }
-    ensures { Gives (some_if (in_name class) (keyed_state (held_view held) (head_view head) place (string_bytes key.text ++ (c ∷ [])))) result }
+    ensures { Moves (some_if (in_name class) (keyed_state (held_view held.now) (head_view head) place (string_bytes key.text ++ (c ∷ [])))) held.now result }
 {
     if !class.is_named() {
         return Ok(None);
     }
-    goes(held, Mode::Keyed(head, place, key.with(c)?))
+    key.push(c)?;
+    goes(held, Mode::Keyed(head, place, key))
 }
 
 pub fn key_spaced(
-    held: Held,
+    held: &Held,
     head: Head,
     place: Place,
     key: Word,
     c: char,
-) -> Result<Option<Reader>, Halt>
-    ensures { Gives (in_key_spaced (head_view head) place (string_bytes key.text) (held_view held) (class_of c)) result }
+) -> Result<Option<Mode>, Halt>
+    ensures { Moves (in_key_spaced (head_view head) place (string_bytes key.text) (held_view held.now) (class_of c)) held.now result }
 {
     match Class::of(c) {
         Class::White => goes(held, Mode::KeySpaced(head, place, key)),
@@ -180,13 +183,13 @@ pub fn key_spaced(
 
 pub fn signed(
     alloc: Global,
-    held: Held,
+    held: &Held,
     head: Head,
     place: Place,
     key: Word,
     c: char,
-) -> Result<Option<Reader>, Halt>
-    ensures { Gives (in_signed (head_view head) place (string_bytes key.text) (held_view held) (class_of c)) result }
+) -> Result<Option<Mode>, Halt>
+    ensures { Moves (in_signed (head_view head) place (string_bytes key.text) (held_view held.now) (class_of c)) held.now result }
 {
     match Class::of(c) {
         Class::White => goes(held, Mode::Signed(head, place, key)),
@@ -214,17 +217,25 @@ pub fn signed(
     }
 }
 
-pub fn slashed(alloc: Global, held: Held, head: Head, c: char) -> Result<Option<Reader>, Halt>
-    ensures { Gives (in_slashed (head_view head) (held_view held) (class_of c)) result }
+/// An element without content ends with its tag.
+fn leaf(alloc: Global, held: &mut Held, head: Head) -> Result<Option<Mode>, Halt>
+    ensures { Moves (inside_state (with_leaf (held_view held.old) (head_view head))) held.new result }
+{
+    held.add_leaf(alloc, head)?;
+    goes(held, Mode::Inside)
+}
+
+pub fn slashed(alloc: Global, held: &mut Held, head: Head, c: char) -> Result<Option<Mode>, Halt>
+    ensures { Moves (in_slashed (head_view head) (held_view held.old) (class_of c)) held.new result }
 {
     match Class::of(c) {
-        Class::Greater => goes(held.with_leaf(alloc, head)?, Mode::Inside),
+        Class::Greater => leaf(alloc, held, head),
         _ => Ok(None),
     }
 }
 
-pub fn ended(alloc: Global, held: Held, c: char) -> Result<Option<Reader>, Halt>
-    ensures { Gives (in_ended (held_view held) (class_of c)) result }
+pub fn ended(alloc: Global, held: &mut Held, c: char) -> Result<Option<Mode>, Halt>
+    ensures { Moves (in_ended (held_view held.old) (class_of c)) held.new result }
 {
     match Class::of(c) {
         Class::White => goes(held, Mode::Ended),

@@ -1,49 +1,40 @@
 //! The reader in the values of attributes, and in end tags, one function for each mode.
 //! Each answers what the machine of `fx_markup` does in that mode.
-ghost use Rattle.std.specs.Prelude.{◌≡◌, true, false, [], ◌∷◌, ◌++◌, ◌+◌, drop, not, ◌<◌, ◌^◌, length, IfOk, IfSome, IfNone};
+ghost use Rattle.std.specs.Prelude.{◌≡◌, true, false, [], ◌∷◌, ◌++◌, ◌+◌, drop, not, ◌<◌, ◌^◌, length, OnOk, IfSome, IfNone};
 ghost use Rattle.std.specs.String.{string_bytes};
 ghost use Rattle.std.specs.Char.{encode_utf8};
 ghost use Rattle.fx_markup.specs.Characters.{class_of};
 ghost use Rattle.fx_markup.specs.Grammar.{is_quote, value_byte};
 ghost use Rattle.fx_markup.specs.Machine.{with_attribute, entity_step, in_quoted, in_value, in_value_referring, in_ending};
-ghost use Rattle.fx_doc.specs.Views.{head_view, stack_view, held_view, open_name, Gives, tight_state, quoted_state};
+ghost use Rattle.fx_doc.specs.Views.{head_view, stack_view, held_view, open_name, Moves, tight_state, quoted_state};
 
 use crate::document::Attribute;
 use crate::drafts::{Halt, Word};
 use crate::levels::goes;
-use crate::modes::{Head, Held, Mode, Reader, Valued};
+use crate::modes::{Head, Held, Mode, Valued};
 use crate::tags::ended;
 use fx_base::Text;
 use fx_markup::{Class, Entity, Place, Turn};
 use std::alloc::{AllocError, Global};
 
 impl Head {
-    /// With one more attribute, whose name stands at that place.
-    fn with_attribute(self, place: Place, key: Word, value: Text) -> Result<Head, AllocError>
-        ensures { IfOk result (λ h. head_view h ≡ with_attribute (head_view self) place (string_bytes key.text) value) }
+    /// Adds an attribute, whose name stands at that place.
+    fn add_attribute(&mut self, place: Place, key: Word, value: Text) -> Result<(), AllocError>
+        ensures { OnOk result (head_view self.new ≡ with_attribute (head_view self.old) place (string_bytes key.text) value) }
     {
-        let Head {
-            name,
-            mut attributes,
-            place: tag,
-        } = self;
-        attributes.push(Attribute {
+        self.attributes.push(Attribute {
             name: key.into_text(),
             value,
             line: place.line,
             column: place.column,
         })?;
-        Ok(Head {
-            name,
-            attributes,
-            place: tag,
-        })
+        Ok(())
     }
 }
 
 #[tactic(auto, using(crate::proofs::Defaults::quoted_rest))]
-pub fn quoted(held: Held, valued: Valued, place: Place, c: char) -> Result<Option<Reader>, Halt>
-    ensures { Gives (in_quoted place (head_view valued.head) valued.place (string_bytes valued.key.text) valued.quote (string_bytes valued.value.text) valued.value.count (held_view held) c (class_of c)) result }
+pub fn quoted(held: &Held, valued: Valued, place: Place, c: char) -> Result<Option<Mode>, Halt>
+    ensures { Moves (in_quoted place (head_view valued.head) valued.place (string_bytes valued.key.text) valued.quote (string_bytes valued.value.text) valued.value.count (held_view held.now) c (class_of c)) held.now result }
 {
     match Class::of(c) {
         Class::Less => Ok(None),
@@ -53,8 +44,8 @@ pub fn quoted(held: Held, valued: Valued, place: Place, c: char) -> Result<Optio
 }
 
 /// A character of a value that is no `<` and no `&`: its quote, or one more of its characters.
-fn in_text(held: Held, valued: Valued, c: char, class: Class) -> Result<Option<Reader>, Halt>
-    ensures { Gives (in_value (is_quote valued.quote class) (head_view valued.head) valued.place (string_bytes valued.key.text) valued.quote (string_bytes valued.value.text) valued.value.count (held_view held) c class) result }
+fn in_text(held: &Held, valued: Valued, c: char, class: Class) -> Result<Option<Mode>, Halt>
+    ensures { Moves (in_value (is_quote valued.quote class) (head_view valued.head) valued.place (string_bytes valued.key.text) valued.quote (string_bytes valued.value.text) valued.value.count (held_view held.now) c class) held.now result }
 {
     if class.is_quote(valued.quote) {
         return whole(held, valued);
@@ -63,7 +54,7 @@ fn in_text(held: Held, valued: Valued, c: char, class: Class) -> Result<Option<R
 }
 
 /// Tab, CR and LF in a value become a space.
-fn shown(c: char, class: Class) -> char
+pub fn shown(c: char, class: Class) -> char
     ensures { encode_utf8 result ≡ value_byte class c }
 {
     match class {
@@ -72,52 +63,36 @@ fn shown(c: char, class: Class) -> char
     }
 }
 
-fn whole(held: Held, valued: Valued) -> Result<Option<Reader>, Halt>
-    ensures { Gives (tight_state (held_view held) (with_attribute (head_view valued.head) valued.place (string_bytes valued.key.text) (string_bytes valued.value.text))) result }
+fn whole(held: &Held, valued: Valued) -> Result<Option<Mode>, Halt>
+    ensures { Moves (tight_state (held_view held.now) (with_attribute (head_view valued.head) valued.place (string_bytes valued.key.text) (string_bytes valued.value.text))) held.now result }
 {
     let Valued {
-        head,
+        mut head,
         place,
         key,
         quote: _,
         value,
     } = valued;
-    let head = head.with_attribute(place, key, value.into_text())?;
+    head.add_attribute(place, key, value.into_text())?;
     goes(held, Mode::Tight(head))
 }
 
 #[tactic(auto, using(crate::proofs::Defaults::long_value))]
-fn longer(held: Held, valued: Valued, c: char) -> Result<Option<Reader>, Halt>
-    ensures { Gives (quoted_state (held_view held) (head_view valued.head) valued.place (string_bytes valued.key.text) valued.quote (string_bytes valued.value.text ++ encode_utf8 c) (valued.value.count + 1)) result }
+fn longer(held: &Held, mut valued: Valued, c: char) -> Result<Option<Mode>, Halt>
+    ensures { Moves (quoted_state (held_view held.now) (head_view valued.head) valued.place (string_bytes valued.key.text) valued.quote (string_bytes valued.value.text ++ encode_utf8 c) (valued.value.count + 1)) held.now result }
 {
-    let Valued {
-        head,
-        place,
-        key,
-        quote,
-        value,
-    } = valued;
-    let value = value.with(c)?;
-    goes(
-        held,
-        Mode::Quoted(Valued {
-            head,
-            place,
-            key,
-            quote,
-            value,
-        }),
-    )
+    valued.value.push(c)?;
+    goes(held, Mode::Quoted(valued))
 }
 
 pub fn value_referring(
-    held: Held,
+    held: &Held,
     valued: Valued,
     place: Place,
     entity: Entity,
     c: char,
-) -> Result<Option<Reader>, Halt>
-    ensures { Gives (in_value_referring (head_view valued.head) valued.place (string_bytes valued.key.text) valued.quote (string_bytes valued.value.text) valued.value.count place (held_view held) (entity_step entity c)) result }
+) -> Result<Option<Mode>, Halt>
+    ensures { Moves (in_value_referring (head_view valued.head) valued.place (string_bytes valued.key.text) valued.quote (string_bytes valued.value.text) valued.value.count place (held_view held.now) (entity_step entity c)) held.now result }
 {
     match entity.step(c) {
         Some(Turn::Further(next)) => goes(held, Mode::ValueReferring(valued, place, next)),
@@ -144,8 +119,8 @@ impl Held {
 }
 
 /// In an end tag, behind so many characters of the open name.
-pub fn ending(alloc: Global, held: Held, at: usize, c: char) -> Result<Option<Reader>, Halt>
-    ensures { Gives (in_ending (drop at (open_name (stack_view held.stack.items))) (held_view held) c (class_of c)) result }
+pub fn ending(alloc: Global, held: &mut Held, at: usize, c: char) -> Result<Option<Mode>, Halt>
+    ensures { Moves (in_ending (drop at (open_name (stack_view held.old.stack.items))) (held_view held.old) c (class_of c)) held.new result }
 {
     let Some(byte) = held.name_byte(at) else {
         return ended(alloc, held, c);

@@ -24,18 +24,18 @@ after-place-requires-clause-column c =
 
 pub loop-c-preserved : goal.loop-c-preserved
 loop-c-preserved c = record {
-  state = goes_on c.loop-c.yielded c.in-Some.c c.loop-c.place c.loop-c.reader c.in_ok-reader.reader c.loop-c.invariant.state c.loop-c.invariant.place c.in_ok-reader.ensures;
-  within = within_on c.loop-c.yielded c.in-Some.c c.loop-c.place c.loop-c.reader c.in_ok-reader.reader c.loop-c.invariant.state c.loop-c.invariant.place c.loop-c.invariant.within c.in_ok-reader.ensures;
+  state = goes_on c.loop-c.yielded c.in-Some.c c.loop-c.place c.loop-c.reader c.next-in-loop-c.new.self c.loop-c.invariant.state c.loop-c.invariant.place c.in_ok-next.ensures;
+  within = within_on c.loop-c.yielded c.in-Some.c c.loop-c.place c.loop-c.reader c.next-in-loop-c.new.self c.loop-c.invariant.state c.loop-c.invariant.place c.loop-c.invariant.within c.in_ok-next.ensures;
   place = c.after-place.ensures ∙ place_more c.loop-c.yielded c.in-Some.c c.loop-c.place c.loop-c.invariant.place;
 }
 
-pub returns-in_err-reader : goal.returns-in_err-reader
-returns-in_err-reader c =
+pub returns-in_err-next : goal.returns-in_err-next
+returns-in_err-next c =
     let road = YieldsList-from_chars c.args.text.now c.utf8.text cc in
     let t = YieldsList-turn road c.loop-c.yielded _ c.loop-c.yielded_by _ _ c.in-Some.c c.in-Some.is c.next.ensures.steps in
     let f = YieldsList-so_far road c.loop-c.yielded _ c.loop-c.yielded_by in
-    passed (chars c.args.text.now) c.from_residual.result c.in_err-reader.field-0.0 c.from_residual.ensures.1
-    (stops (chars c.args.text.now) c.loop-c.yielded c.in-Some.c c.loop-c.place c.loop-c.reader c.in_err-reader.field-0.0 (turn (chars c.args.text.now) c.loop-c.yielded c.in-Some.c f t.0 t.1) c.loop-c.invariant.state c.loop-c.invariant.place c.loop-c.invariant.within c.in_err-reader.ensures)
+    passed (chars c.args.text.now) c.from_residual.result c.in_err-next.field-0.0 c.from_residual.ensures.1
+    (stops (chars c.args.text.now) c.loop-c.yielded c.in-Some.c c.loop-c.place c.loop-c.reader c.next-in-loop-c.new.self c.in_err-next.field-0.0 (turn (chars c.args.text.now) c.loop-c.yielded c.in-Some.c f t.0 t.1) c.loop-c.invariant.state c.loop-c.invariant.place c.loop-c.invariant.within c.in_err-next.ensures)
 
 pub into_document-requires : goal.into_document-requires
 into_document-requires c = λ n e. answered_root c.loop-c.yielded (view c.loop-c.reader) n c.loop-c.invariant.state e

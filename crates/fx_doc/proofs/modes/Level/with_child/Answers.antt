@@ -1,9 +1,0 @@
-use Rattle.std.proofs.Common.{map, ap}
-use Rattle.std.specs.String.{string_bytes}
-use Rattle.fx_doc.specs.Views.{level_view, head_view, attr_view}
-use Rattle.fx_doc.proofs.Trees.{level_child}
-use Rattle.fx_doc.proofs.modes.Level.with_child.Goals as goal
-
-pub returns : goal.returns
-returns c = level_child c.in_ok-content.content.items c.push.new.self.items _ (string_bytes c.new.result.text) c.new.result.count (level_view c.args.self) (head_view c.args.head) c.in_ok-push.ensures.items c.in_ok-content.ensures
-    (ap (λ a. record { name = c.args.head.name; attributes = map attr_view a; place = c.args.head.place }) c.from_vec.ensures) c.new.ensures.bytes c.new.ensures.count

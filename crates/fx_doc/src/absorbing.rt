@@ -1,0 +1,86 @@
+//! Characters that only make a text longer, of a run, a name or a value: the reader takes them in place.
+//! Most characters of a document are such; every other is left to the modes.
+ghost use Rattle.std.specs.Prelude.{◌≡◌, ◌≢◌, true, false};
+ghost use Rattle.fx_markup.specs.declared.Class.TheVariants.{Less, Ampersand};
+ghost use Rattle.fx_markup.specs.Characters.{class_of};
+ghost use Rattle.fx_markup.specs.Machine.{step};
+ghost use Rattle.fx_doc.specs.Views.{view, Takes};
+ghost use Rattle.fx_doc.specs.Taking.{TakesName, TakesValue, TakesSign};
+
+use crate::drafts::{Halt, Word};
+use crate::modes::{Held, Mode, Reader, Valued};
+use crate::values::shown;
+use fx_markup::{Class, Place};
+
+impl Word {
+    /// Appends a character of a name; false at any other.
+    fn absorb(&mut self, c: char) -> Result<bool, Halt>
+        ensures { TakesName c self.old self.new result }
+    {
+        if !Class::of(c).is_named() {
+            return Ok(false);
+        }
+        self.push(c)?;
+        Ok(true)
+    }
+}
+
+impl Valued {
+    /// Appends a character of the value; false at its quote, at `<` and at `&`.
+    fn absorb(&mut self, c: char) -> Result<bool, Halt>
+        ensures { TakesValue c (class_of c) self.old self.new result }
+    {
+        let class = Class::of(c);
+        match class {
+            Class::Less => Ok(false),
+            Class::Ampersand => Ok(false),
+            _ => self.absorb_plain(c, class),
+        }
+    }
+
+    fn absorb_plain(&mut self, c: char, class: Class) -> Result<bool, Halt>
+        requires less { class ≢ Less }
+        requires ampersand { class ≢ Ampersand }
+        ensures { TakesValue c class self.old self.new result }
+    {
+        if class.is_quote(self.quote) {
+            return Ok(false);
+        }
+        self.value.push(shown(c, class))?;
+        Ok(true)
+    }
+}
+
+impl Held {
+    /// Appends a character to the run of an open element; false at `<` and `&`, and outside the elements.
+    fn absorb(&mut self, place: Place, c: char) -> Result<bool, Halt>
+        ensures { TakesSign place c (class_of c) self.old self.new result }
+    {
+        if !self.is_within() {
+            return Ok(false);
+        }
+        match Class::of(c) {
+            Class::Less => Ok(false),
+            Class::Ampersand => Ok(false),
+            _ => {
+                self.level.add_sign(place, c)?;
+                Ok(true)
+            }
+        }
+    }
+}
+
+impl Reader {
+    /// Takes a character that only makes the text at hand longer; false where it does more.
+    pub fn absorb(&mut self, place: Place, c: char) -> Result<bool, Halt>
+        ensures { Takes (step place (view self.old) c) self.old self.new result }
+    {
+        match &mut self.mode {
+            Mode::Inside => self.held.absorb(place, c),
+            Mode::Naming(_, name) => name.absorb(c),
+            Mode::Keyed(_, _, key) => key.absorb(c),
+            Mode::Quoted(valued) => valued.absorb(c),
+            _ => Ok(false),
+        }
+    }
+}

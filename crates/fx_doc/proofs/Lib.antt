@@ -1,4 +1,3 @@
-pub mod Texts
 pub mod Trees
 pub mod Defaults
 pub mod Trims

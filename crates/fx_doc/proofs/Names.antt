@@ -1,7 +1,7 @@
 -- Names that are the same: the grammar's test, and those of code.
 -- Below the answers on imports and attributes.
-use Rattle.std.proofs.Common.{◌≡◌, Bool, true, false, ◌&&◌, ◌||◌, List, [], ◌∷◌, ◌++◌, map, refl, sym, ◌∙◌, ap, arith}
-use lib.Dec.{eqb}
+use Rattle.std.proofs.Common.{◌≡◌, Bool, true, false, cond, ◌&&◌, ◌||◌, List, [], ◌∷◌, ◌++◌, map, refl, sym, ◌∙◌, ap, arith}
+use lib.Dec.{eqb, leb}
 use lib.Pointwise.{pointwise}
 use Rattle.std.proofs.Math.Seq.{take-suc}
 use Rattle.std.proofs.lemmas.List.{take-append-drop}
@@ -108,5 +108,45 @@ pub so_not : {P : Type 0} (b : Bool) → IsTrue b ↔ P → b ≡ false → P �
 so_not true r e p = Prim.cc
 so_not false r e p = let h : false ≡ true = r.1 p in Prim.cc
 
-pub fresh_by : (k : List ℕ) (xs ys : List Attribute) (b : Bool) → xs ≡ ys → is_among k (map (λ (a : Attribute). a.name) xs) ≡ b → not b ≡ not (is_among k (keys_of (map attr_view ys)))
-fresh_by k xs ys b e f = ap not (sym (ap (is_among k) (keys_are ys) ∙ (ap (λ (y : List Attribute). is_among k (map (λ (a : Attribute). a.name) y)) (sym e) ∙ f)))
+among_both : (k : List ℕ) (ns ms : List (List ℕ)) → is_among k (ns ++ ms) ≡ (is_among k ns || is_among k ms)
+among_both k [] ms = refl
+among_both k (n ∷ ns) ms = ap (λ z. same_name k n || z) (among_both k ns ms) ∙ or_same (same_name k n) (is_among k ns) (is_among k ms)
+  where
+    or_same : (a b c : Bool) → (a || (b || c)) ≡ ((a || b) || c)
+    or_same true b c = refl
+    or_same false b c = refl
+
+not_either : (a b : Bool) → (not a && not b) ≡ not (a || b)
+not_either true b = refl
+not_either false b = refl
+
+-- the first names and the later ones are all
+pub fresh_is : (k : List ℕ) (xs : List Attribute) (a b : Bool) → a ≡ is_among k (map (λ (x : Attribute). x.name) (take 8 xs)) → b ≡ is_among k (map (λ (x : Attribute). x.name) (drop 8 xs)) → (not a && not b) ≡ not (is_among k (keys_of (map attr_view xs)))
+fresh_is k xs a b e f =
+    not_either a b ∙ ap not ((ap (λ z. z || b) e ∙ ap (λ z. is_among k (map (λ (x : Attribute). x.name) (take 8 xs)) || z) f)
+    ∙ (sym (among_both k (map (λ (x : Attribute). x.name) (take 8 xs)) (map (λ (x : Attribute). x.name) (drop 8 xs)))
+    ∙ (ap (is_among k) (sym (map_append (take 8 xs) (drop 8 xs)) ∙ ap (map (λ (x : Attribute). x.name)) (take-append-drop 8 xs)) ∙ sym (ap (is_among k) (keys_are xs)))))
+
+-- one attribute more
+drop_push : (n : ℕ) (xs : List Attribute) (a : Attribute) → drop n (xs ++ (a ∷ [])) ≡ cond (leb n (length xs)) (drop n xs ++ (a ∷ [])) (drop n xs)
+drop_push zero xs a = ap (λ z. cond z (xs ++ (a ∷ [])) xs) (zero_least (length xs))
+  where
+    zero_least : (m : ℕ) → true ≡ leb 0 m
+    zero_least m = grind arith
+drop_push (suc zero) [] a = refl
+drop_push (suc (suc n)) [] a = ap (λ z. cond z (a ∷ []) []) (none n)
+  where
+    none : (m : ℕ) → false ≡ leb (suc (suc m)) 0
+    none m = grind arith
+drop_push (suc n) (x ∷ xs) a = drop_push n xs a ∙ ap (λ z. cond z (drop n xs ++ (a ∷ [])) (drop n xs)) (sucs n (length xs))
+  where
+    sucs : (n m : ℕ) → leb n m ≡ leb (suc n) (suc m)
+    sucs n m = grind arith
+
+pub later_push : (xs ys : List Attribute) (a : Attribute) (k : List ℕ) → ys ≡ xs ++ (a ∷ []) → a.name ≡ k
+    → cond (leb 8 (length xs)) (map (λ (x : Attribute). x.name) (drop 8 xs) ++ (k ∷ [])) (map (λ (x : Attribute). x.name) (drop 8 xs)) ≡ map (λ (x : Attribute). x.name) (drop 8 ys)
+later_push xs ys a k e f = by (leb 8 (length xs)) refl
+  where
+    by : (b : Bool) → leb 8 (length xs) ≡ b → cond b (map (λ (x : Attribute). x.name) (drop 8 xs) ++ (k ∷ [])) (map (λ (x : Attribute). x.name) (drop 8 xs)) ≡ map (λ (x : Attribute). x.name) (drop 8 ys)
+    by true g = ap (λ z. map (λ (x : Attribute). x.name) (drop 8 xs) ++ (z ∷ [])) (sym f) ∙ (sym (map_append (drop 8 xs) (a ∷ [])) ∙ ap (map (λ (x : Attribute). x.name)) (sym (ap (drop 8) e ∙ (drop_push 8 xs a ∙ ap (λ z. cond z (drop 8 xs ++ (a ∷ [])) (drop 8 xs)) g))))
+    by false g = ap (map (λ (x : Attribute). x.name)) (sym (ap (drop 8) e ∙ (drop_push 8 xs a ∙ ap (λ z. cond z (drop 8 xs ++ (a ∷ [])) (drop 8 xs)) g)))

@@ -11,7 +11,7 @@ use Rattle.fx_doc.specs.Views.{view, mode_view, IsDeepAt, IsDeepMode, IsLongStep
 use Rattle.fx_doc.specs.declared.modes.Mode.{Mode}
 use Rattle.fx_doc.specs.declared.modes.Mode.TheVariants as v
 use Rattle.fx_doc.specs.declared.modes.Reader.{Reader}
-use Rattle.fx_doc.specs.declared.drafts.Word.{Word}
+use Rattle.fx_drafts.specs.declared.drafts.Word.{Word}
 use Rattle.fx_doc.specs.Views.{attr_view, head_view, level_view, stack_from, stack_view, open_name}
 use Rattle.fx_doc.specs.declared.document.Attribute.{Attribute}
 use Rattle.fx_doc.specs.declared.modes.Open.{Open}

@@ -1,3 +1,4 @@
+pub mod Attributes
 pub mod Views
 pub mod Reads
 pub mod Judgements

@@ -13,8 +13,8 @@ use Rattle.fx_doc.specs.declared.document.Content.TheOpen.{Content-F, Element-F,
 use Rattle.fx_doc.specs.declared.document.Content.TheFolds.{fold-Content, fold-Element}
 use Rattle.fx_doc.specs.declared.document.Element.{Element}
 use Rattle.fx_doc.specs.declared.document.Document.{Document}
-use Rattle.fx_doc.specs.declared.drafts.Halt.{Halt}
-use Rattle.fx_doc.specs.declared.drafts.Halt.TheVariants.{Long, Memory}
+use Rattle.fx_drafts.specs.declared.drafts.Halt.{Halt}
+use Rattle.fx_drafts.specs.declared.drafts.Halt.TheVariants.{Long, Memory}
 use Rattle.fx_doc.specs.declared.modes.Head.{Head}
 use Rattle.fx_doc.specs.declared.modes.Level.{Level}
 use Rattle.fx_doc.specs.declared.modes.Open.{Open}

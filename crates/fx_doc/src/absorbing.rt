@@ -7,22 +7,20 @@ ghost use Rattle.fx_markup.specs.Machine.{step};
 ghost use Rattle.fx_doc.specs.Views.{view, Takes};
 ghost use Rattle.fx_doc.specs.Taking.{TakesName, TakesValue, TakesSign};
 
-use crate::drafts::{Halt, Word};
 use crate::modes::{Held, Mode, Reader, Valued};
 use crate::values::shown;
+use fx_drafts::{Halt, Word};
 use fx_markup::{Class, Place};
 
-impl Word {
-    /// Appends a character of a name; false at any other.
-    fn absorb(&mut self, c: char) -> Result<bool, Halt>
-        ensures { TakesName c self.old self.new result }
-    {
-        if !Class::of(c).is_named() {
-            return Ok(false);
-        }
-        self.push(c)?;
-        Ok(true)
+/// Appends a character of a name; false at any other.
+fn absorb_name(name: &mut Word, c: char) -> Result<bool, Halt>
+    ensures { TakesName c name.old name.new result }
+{
+    if !Class::of(c).is_named() {
+        return Ok(false);
     }
+    name.push(c)?;
+    Ok(true)
 }
 
 impl Valued {
@@ -77,8 +75,8 @@ impl Reader {
     {
         match &mut self.mode {
             Mode::Inside => self.held.absorb(place, c),
-            Mode::Naming(_, name) => name.absorb(c),
-            Mode::Keyed(_, _, key) => key.absorb(c),
+            Mode::Naming(_, name) => absorb_name(name, c),
+            Mode::Keyed(_, _, key) => absorb_name(key, c),
             Mode::Quoted(valued) => valued.absorb(c),
             _ => Ok(false),
         }

@@ -9,9 +9,9 @@ ghost use Rattle.fx_markup.specs.Grammar.{trim_front, trim_back, trimmed, same_n
 ghost use Rattle.fx_markup.specs.Machine.{with_instruction, may_begin, is_open};
 ghost use Rattle.fx_doc.specs.Views.{held_view, stack_view};
 
-use crate::drafts::Word;
 use crate::modes::Held;
 use fx_base::Text;
+use fx_drafts::Word;
 use std::alloc::{AllocError, Global};
 use std::str;
 

@@ -6,9 +6,9 @@ ghost use Rattle.fx_markup.specs.Characters.{class_of, in_name};
 ghost use Rattle.fx_markup.specs.Machine.{some_if, with_instruction, in_asked, in_instructing, in_name_asked, in_instructed, in_end_asked};
 ghost use Rattle.fx_doc.specs.Views.{held_view, Moves, inside_state, instructing_state};
 
-use crate::drafts::{Halt, Word};
 use crate::levels::goes;
 use crate::modes::{Held, Mode};
+use fx_drafts::{Halt, Word};
 use fx_markup::Class;
 use std::alloc::Global;
 

@@ -7,9 +7,9 @@ ghost use Rattle.fx_markup.specs.Machine.{at, Inside, open_element, close, with_
 ghost use Rattle.fx_doc.specs.Views.{nodes_of, level_view, level_behind, head_view, stack_view, held_view, mode_view, Moves};
 
 use crate::document::{Content, Element};
-use crate::drafts::{Draft, Halt};
 use crate::modes::{Head, Held, Level, Mode, Open};
 use fx_base::List;
+use fx_drafts::{Draft, Halt};
 use fx_markup::{Class, Place};
 use std::alloc::{AllocError, Global};
 use std::mem;
@@ -81,6 +81,7 @@ impl Level {
             name,
             attributes,
             place,
+            later: _,
         } = head;
         let element = Element {
             name,

@@ -5,7 +5,7 @@
 mod absorbing;
 mod bytes;
 mod document;
-mod drafts;
+mod heads;
 mod imports;
 mod instructions;
 mod levels;

@@ -1,8 +1,11 @@
 //! What the reader holds between two characters: the open elements, what it has read of the innermost, and its mode.
 //! The modes are those of the machine in `fx_markup`.
+ghost use Rattle.fx_drafts.specs.Names.{HasNames};
+ghost use Rattle.fx_doc.specs.Attributes.{later_names};
+
 use crate::document::{Attribute, Content};
-use crate::drafts::{Draft, Word};
 use fx_base::Text;
+use fx_drafts::{Draft, Names, Word};
 use fx_markup::{Entity, Place, Quote};
 
 /// What stands before a tag's end.
@@ -11,6 +14,9 @@ pub struct Head {
     pub name: Text,
     pub attributes: Vec<Attribute>,
     pub place: Place,
+    /// The names of the attributes behind the first eight.
+    pub later: Names,
+    ghost kept: { HasNames later (later_names attributes.items) },
 }
 
 /// What is read of one element's content so far.

@@ -14,7 +14,6 @@ ghost use Rattle.fx_doc.specs.Views.{view, held_view, mode_view, stack_view, Mov
 
 use crate::bytes::text_in;
 use crate::document::{Content, DocError, Document, Element};
-use crate::drafts::Halt;
 use crate::instructions::{asked, end_asked, instructed, instructing, name_asked};
 use crate::markup::{
     bang_dashed, banged, commented, dash_dashed, dashed, inside, opening, referring,
@@ -23,6 +22,7 @@ use crate::modes::{Held, Level, Mode, Reader};
 use crate::tags::{ended, key_spaced, keyed, naming, signed, slashed, spaced, tight};
 use crate::values::{ending, quoted, value_referring};
 use fx_base::List;
+use fx_drafts::Halt;
 use fx_markup::Place;
 use std::alloc::Global;
 use std::mem;
@@ -184,7 +184,7 @@ fn moved(
         Mode::Keyed(head, at, key) => keyed(held, head, at, key, c),
         Mode::KeySpaced(head, at, key) => key_spaced(held, head, at, key, c),
         Mode::Signed(head, at, key) => signed(alloc, held, head, at, key, c),
-        Mode::Quoted(valued) => quoted(held, valued, place, c),
+        Mode::Quoted(valued) => quoted(alloc, held, valued, place, c),
         Mode::ValueReferring(valued, at, entity) => value_referring(held, valued, at, entity, c),
         Mode::Slashed(head) => slashed(alloc, held, head, c),
         Mode::Ending(at) => ending(alloc, held, at, c),

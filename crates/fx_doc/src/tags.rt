@@ -6,36 +6,11 @@ ghost use Rattle.fx_markup.specs.Characters.{class_of, in_name};
 ghost use Rattle.fx_markup.specs.Machine.{at, Inside, some_if, open_element, is_fresh, with_leaf, in_naming, in_spaced, in_tight, in_keyed, in_key_spaced, in_signed, in_slashed, in_ended, in_ending};
 ghost use Rattle.fx_doc.specs.Views.{bare_head, head_view, stack_view, held_view, open_name, Moves, inside_state, naming_state, keyed_state, key_spaced_state, signed_state};
 
-use crate::drafts::{Draft, Halt, Word};
 use crate::levels::goes;
 use crate::modes::{Head, Held, Mode, Valued};
+use fx_drafts::{Draft, Halt, Word};
 use fx_markup::{Class, Place, Quote};
 use std::alloc::Global;
-
-impl Head {
-    /// The tag of this name alone.
-    fn bare(alloc: Global, place: Place, name: Word) -> Head
-        ensures { head_view result ≡ bare_head place (string_bytes name.text) }
-    {
-        Head {
-            name: name.into_text(),
-            attributes: Vec::new(alloc),
-            place,
-        }
-    }
-
-    /// Has the tag no attribute of this name?
-    fn is_fresh(&self, key: &Word) -> bool
-        ensures { result ≡ is_fresh (string_bytes key.now.text) (head_view self.now) }
-    {
-        for attribute in &self.attributes {
-            if attribute.name.equals(key.text.as_str()) {
-                return false;
-            }
-        }
-        true
-    }
-}
 
 /// An element begins with this tag.
 fn opens(alloc: Global, held: &mut Held, head: Head) -> Result<Option<Mode>, Halt>

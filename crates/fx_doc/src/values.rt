@@ -8,47 +8,42 @@ ghost use Rattle.fx_markup.specs.Grammar.{is_quote, value_byte};
 ghost use Rattle.fx_markup.specs.Machine.{with_attribute, entity_step, in_quoted, in_value, in_value_referring, in_ending};
 ghost use Rattle.fx_doc.specs.Views.{head_view, stack_view, held_view, open_name, Moves, tight_state, quoted_state};
 
-use crate::document::Attribute;
-use crate::drafts::{Halt, Word};
 use crate::levels::goes;
 use crate::modes::{Head, Held, Mode, Valued};
 use crate::tags::ended;
-use fx_base::Text;
+use fx_drafts::{Halt, Word};
 use fx_markup::{Class, Entity, Place, Turn};
-use std::alloc::{AllocError, Global};
-
-impl Head {
-    /// Adds an attribute, whose name stands at that place.
-    fn add_attribute(&mut self, place: Place, key: Word, value: Text) -> Result<(), AllocError>
-        ensures { OnOk result (head_view self.new ≡ with_attribute (head_view self.old) place (string_bytes key.text) value) }
-    {
-        self.attributes.push(Attribute {
-            name: key.into_text(),
-            value,
-            line: place.line,
-            column: place.column,
-        })?;
-        Ok(())
-    }
-}
+use std::alloc::Global;
 
 #[tactic(auto, using(crate::proofs::Defaults::quoted_rest))]
-pub fn quoted(held: &Held, valued: Valued, place: Place, c: char) -> Result<Option<Mode>, Halt>
+pub fn quoted(
+    alloc: Global,
+    held: &Held,
+    valued: Valued,
+    place: Place,
+    c: char,
+) -> Result<Option<Mode>, Halt>
     ensures { Moves (in_quoted place (head_view valued.head) valued.place (string_bytes valued.key.text) valued.quote (string_bytes valued.value.text) valued.value.count (held_view held.now) c (class_of c)) held.now result }
 {
     match Class::of(c) {
         Class::Less => Ok(None),
         Class::Ampersand => goes(held, Mode::ValueReferring(valued, place, Entity::Begun)),
-        class => in_text(held, valued, c, class),
+        class => in_text(alloc, held, valued, c, class),
     }
 }
 
 /// A character of a value that is no `<` and no `&`: its quote, or one more of its characters.
-fn in_text(held: &Held, valued: Valued, c: char, class: Class) -> Result<Option<Mode>, Halt>
+fn in_text(
+    alloc: Global,
+    held: &Held,
+    valued: Valued,
+    c: char,
+    class: Class,
+) -> Result<Option<Mode>, Halt>
     ensures { Moves (in_value (is_quote valued.quote class) (head_view valued.head) valued.place (string_bytes valued.key.text) valued.quote (string_bytes valued.value.text) valued.value.count (held_view held.now) c class) held.now result }
 {
     if class.is_quote(valued.quote) {
-        return whole(held, valued);
+        return whole(alloc, held, valued);
     }
     longer(held, valued, shown(c, class))
 }
@@ -63,17 +58,17 @@ pub fn shown(c: char, class: Class) -> char
     }
 }
 
-fn whole(held: &Held, valued: Valued) -> Result<Option<Mode>, Halt>
+fn whole(alloc: Global, held: &Held, valued: Valued) -> Result<Option<Mode>, Halt>
     ensures { Moves (tight_state (held_view held.now) (with_attribute (head_view valued.head) valued.place (string_bytes valued.key.text) (string_bytes valued.value.text))) held.now result }
 {
     let Valued {
-        mut head,
+        head,
         place,
         key,
         quote: _,
         value,
     } = valued;
-    head.add_attribute(place, key, value.into_text())?;
+    let head = head.with_attribute(alloc, place, key, value.into_text())?;
     goes(held, Mode::Tight(head))
 }
 

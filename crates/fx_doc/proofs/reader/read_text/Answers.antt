@@ -6,7 +6,7 @@ use Rattle.std.specs.Str.{chars}
 use Rattle.fx_markup.proofs.Roots.{answered_root}
 use Rattle.fx_markup.proofs.Turns.{place_more}
 use Rattle.fx_doc.specs.Views.{view}
-use Rattle.fx_doc.proofs.Texts.{chars_fewer}
+use Rattle.fx_drafts.proofs.Texts.{chars_fewer}
 use Rattle.fx_doc.proofs.Loops.{turn, line_small, column_small, goes_on, within_on, stops, passed, ends_read, ends_stopped}
 use Rattle.fx_doc.proofs.reader.read_text.Goals as goal
 

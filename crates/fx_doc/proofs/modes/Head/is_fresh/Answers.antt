@@ -1,16 +1,19 @@
-use Rattle.std.proofs.Common.{true, false, sym, ◌∙◌}
+use Rattle.std.proofs.Common.{take, not, ◌&&◌, refl, ap, sym, ◌∙◌}
 use Rattle.std.specs.String.{string_bytes}
-use Rattle.fx_doc.proofs.Names.{fresh_more, fresh_found, fresh_none, fresh_by, so, so_not}
+use Rattle.fx_markup.specs.Grammar.{is_among}
+use Rattle.fx_doc.specs.Attributes.{names_of, later_names}
+use Rattle.fx_doc.proofs.Names.{fresh_is}
 use Rattle.fx_doc.proofs.modes.Head.is_fresh.Goals as goal
 
-pub returns-then-equals : goal.returns-then-equals
-returns-then-equals c = fresh_by (string_bytes c.args.key.now.text) c.deref-attribute-items.result.now c.args.self.now.attributes.items true c.deref-attribute-items.ensures.value
-    (fresh_found (string_bytes c.args.key.now.text) c.deref-attribute-items.result.now c.loop-attribute.attribute-index c.attribute-item.result c.loop-attribute-test.true c.attribute-item.is (so c.equals.result c.equals.ensures c.if-equals.true ∙ c.as_str.ensures.value))
-
-pub loop-attribute-preserved : goal.loop-attribute-preserved
-loop-attribute-preserved c = fresh_more (string_bytes c.args.key.now.text) c.deref-attribute-items.result.now c.loop-attribute.attribute-index c.attribute-item.result c.loop-attribute-test.true c.attribute-item.is c.loop-attribute.invariant
-    (λ e. so_not c.equals.result c.equals.ensures c.if-equals.false (e ∙ sym c.as_str.ensures.value))
+pub returns-then-is_named : goal.returns-then-is_named
+returns-then-is_named c =
+    ap (λ z. not z && not (is_among (string_bytes c.args.key.now.text) (later_names c.args.self.now.attributes.items))) (sym c.if-is_named.true)
+    ∙ fresh_is (string_bytes c.args.key.now.text) c.args.self.now.attributes.items c.is_named.result (is_among (string_bytes c.args.key.now.text) (later_names c.args.self.now.attributes.items))
+    (c.is_named.ensures ∙ ap (λ xs. is_among (string_bytes c.args.key.now.text) (names_of xs)) (c.near.ensures ∙ ap (take 8) c.as_slice.ensures.value)) refl
 
 pub returns : goal.returns
-returns c = fresh_by (string_bytes c.args.key.now.text) c.deref-attribute-items.result.now c.args.self.now.attributes.items false c.deref-attribute-items.ensures.value
-    (fresh_none (string_bytes c.args.key.now.text) c.deref-attribute-items.result.now c.loop-attribute.attribute-index c.loop-attribute-test.false c.loop-attribute.invariant)
+returns c =
+    ap (λ z. not z && not c.has.result) (sym c.if-is_named.false)
+    ∙ fresh_is (string_bytes c.args.key.now.text) c.args.self.now.attributes.items c.is_named.result c.has.result
+    (c.is_named.ensures ∙ ap (λ xs. is_among (string_bytes c.args.key.now.text) (names_of xs)) (c.near.ensures ∙ ap (take 8) c.as_slice.ensures.value))
+    (c.has.ensures (later_names c.args.self.now.attributes.items) c.args.self.now.kept)

@@ -22,7 +22,7 @@ pub enum Halt {
 
 impl From<AllocError> for Halt {
     ghost use Rattle.std.specs.Prelude.{◌≡◌};
-    ghost use Rattle.fx_doc.specs.declared.drafts.Halt.TheVariants.{Memory};
+    ghost use Rattle.fx_drafts.specs.declared.drafts.Halt.TheVariants.{Memory};
 
     ghost from_gives = { λ _ e. e ≡ Memory };
 
@@ -33,7 +33,7 @@ impl From<AllocError> for Halt {
 
 impl<T: Drop> From<AllocFailed<T>> for Halt {
     ghost use Rattle.std.specs.Prelude.{◌≡◌};
-    ghost use Rattle.fx_doc.specs.declared.drafts.Halt.TheVariants.{Memory};
+    ghost use Rattle.fx_drafts.specs.declared.drafts.Halt.TheVariants.{Memory};
 
     ghost from_gives = { λ _ e. e ≡ Memory };
 

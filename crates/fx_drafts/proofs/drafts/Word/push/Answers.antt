@@ -1,8 +1,8 @@
 use Rattle.std.proofs.Common.{rules, is_ok}
 use Rattle.std.specs.String.{string_bytes}
 use Rattle.fx_markup.proofs.Runs.{named_low}
-use Rattle.fx_doc.proofs.Texts.{name_more, name_kept}
-use Rattle.fx_doc.proofs.drafts.Word.push.Goals as goal
+use Rattle.fx_drafts.proofs.Texts.{name_more, name_kept}
+use Rattle.fx_drafts.proofs.drafts.Word.push.Goals as goal
 
 pub invariant_of-self : goal.invariant_of-self
 invariant_of-self c = record {

@@ -1,8 +1,8 @@
 use Rattle.std.proofs.Common.{arith}
 use Rattle.std.specs.String.{string_bytes}
 use Rattle.std.proofs.lemmas.Str.{IsUtf8-had}
-use Rattle.fx_doc.proofs.Texts.{chars_more}
-use Rattle.fx_doc.proofs.drafts.Draft.push.Goals as goal
+use Rattle.fx_drafts.proofs.Texts.{chars_more}
+use Rattle.fx_drafts.proofs.drafts.Draft.push.Goals as goal
 
 pub invariant_of-self-2 : goal.invariant_of-self-2
 invariant_of-self-2 c = record {

@@ -1,0 +1,107 @@
+//! The head of a tag: its name and its attributes so far, each name once.
+//! The first eight names are looked through, and the others stand in a set beside: many attributes cost no more each.
+ghost use Rattle.std.specs.Prelude.{◌≡◌, ◌∷◌, ◌++◌, ◌≤◌, [], List, ℕ, length, take, cond, IfOk, OnOk};
+ghost use Rattle.std.specs.String.{string_bytes};
+ghost use lib.Dec.{leb};
+ghost use Rattle.fx_markup.specs.Grammar.{is_among};
+ghost use Rattle.fx_markup.specs.Machine.{is_fresh, with_attribute};
+ghost use Rattle.fx_drafts.specs.Names.{HasNames};
+ghost use Rattle.fx_doc.specs.Attributes.{names_of};
+ghost use Rattle.fx_doc.specs.Views.{bare_head, head_view};
+
+use crate::document::Attribute;
+use crate::modes::Head;
+use fx_base::Text;
+use fx_drafts::{Names, Word};
+use fx_markup::Place;
+use std::alloc::{AllocError, Global};
+
+/// How many names are looked through.
+const NEAR: usize = 8;
+
+impl Head {
+    /// The tag of this name alone.
+    pub fn bare(alloc: Global, place: Place, name: Word) -> Head
+        ensures { head_view result ≡ bare_head place (string_bytes name.text) }
+    {
+        Head {
+            name: name.into_text(),
+            attributes: Vec::new(alloc),
+            place,
+            later: Names::new(alloc),
+        }
+    }
+
+    /// Has the tag no attribute of this name?
+    pub fn is_fresh(&self, key: &Word) -> bool
+        ensures { result ≡ is_fresh (string_bytes key.now.text) (head_view self.now) }
+    {
+        if is_named(near(self.attributes.as_slice()), key) {
+            return false;
+        }
+        !self.later.has(key)
+    }
+
+    /// With one more attribute, whose name stands at that place.
+    pub fn with_attribute(
+        self,
+        alloc: Global,
+        place: Place,
+        key: Word,
+        value: Text,
+    ) -> Result<Head, AllocError>
+        ensures { IfOk result (λ h. head_view h ≡ with_attribute (head_view self) place (string_bytes key.text) value) }
+    {
+        let Head {
+            name,
+            mut attributes,
+            place: tag,
+            mut later,
+        } = self;
+        let key = key.into_text();
+        add_later(alloc, &mut later, attributes.len(), key.as_str())?;
+        attributes.push(Attribute {
+            name: key,
+            value,
+            line: place.line,
+            column: place.column,
+        })?;
+        Ok(Head {
+            name,
+            attributes,
+            place: tag,
+            later,
+        })
+    }
+}
+
+/// Adds a name, unless it is one of the first.
+fn add_later(alloc: Global, later: &mut Names, count: usize, name: &str) -> Result<(), AllocError>
+    ensures { OnOk result ((names : List (List ℕ)) → HasNames later.old names → HasNames later.new (cond (leb 8 count) (names ++ name.now ∷ []) names)) }
+{
+    if count < NEAR {
+        return Ok(());
+    }
+    later.add(alloc, name)
+}
+
+fn near(attributes: &[Attribute]) -> &[Attribute]
+    ensures { result.now ≡ take 8 attributes.now }
+{
+    if attributes.len() <= NEAR {
+        return attributes;
+    }
+    &attributes[..NEAR]
+}
+
+/// Has one of these this name?
+fn is_named(attributes: &[Attribute], key: &Word) -> bool
+    ensures { result ≡ is_among (string_bytes key.now.text) (names_of attributes.now) }
+{
+    for attribute in attributes {
+        if attribute.name.equals(key.text.as_str()) {
+            return true;
+        }
+    }
+    false
+}

@@ -1,0 +1,12 @@
+//! Texts of a document while they are being read: names, values and runs within their limit, and the names of a tag.
+//! The reader of documents fills them; it stands on the grammar's characters alone.
+#![tactic(auto)]
+
+mod drafts;
+mod names;
+
+pub use drafts::{Draft, Halt, Word};
+pub use names::Names;
+
+#[cfg(test)]
+mod tests;

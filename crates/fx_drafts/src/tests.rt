@@ -1,0 +1,31 @@
+use super::*;
+use std::test::Fail;
+
+#[tactic(auto, unfolding(fx_markup::specs::Characters::class_of, fx_markup::specs::Characters::is_white, fx_markup::specs::Characters::is_letter))]
+#[test]
+fn finds_names_again(rt: HostRuntime) -> Result<(), Fail> {
+    let alloc = rt.alloc();
+    let mut names = Names::new(alloc);
+    names.add(alloc, "a")?;
+    names.add(alloc, "b")?;
+    let word = Word::of(alloc, 'b');
+    assert!(rt; word.is_ok());
+    let Ok(mut word) = word else {
+        return Ok(());
+    };
+    assert!(rt; names.has(&word));
+    assert!(rt; word.push('c').is_ok());
+    assert!(rt; !names.has(&word));
+    assert_eq!(rt; word.into_text().as_str(), "bc");
+    Ok(())
+}
+
+#[test]
+fn counts_characters(rt: HostRuntime) {
+    let mut draft = Draft::new(rt.alloc());
+    assert!(rt; draft.push('é').is_ok());
+    assert_eq!(rt; draft.count, 1);
+    draft.clear();
+    assert!(rt; draft.push('x').is_ok());
+    assert_eq!(rt; draft.into_text().as_str(), "x");
+}

@@ -3,6 +3,10 @@ pub mod Defaults
 pub mod Trims
 pub mod Names
 pub mod Stacks
+pub mod Calm
 pub mod Loops
+pub mod Firsts
+pub mod Whole
+pub mod Turning
 pub mod Answered
 pub mod JudgementLemmas

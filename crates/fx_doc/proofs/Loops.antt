@@ -24,13 +24,11 @@ use Rattle.fx_doc.specs.declared.modes.Mode.TheVariants as v
 pub record IsTurn (all said : List ℕ) (c : ℕ) : Type 0 where
   pub more : List ℕ
   pub split : all ≡ said ++ (c ∷ more)
-  pub short : length said < length all
 
 pub turn : (all said : List ℕ) (c : ℕ) → map (λ (x : ℕ). x) said ≡ take (length said) all → length said < length all → c ≡ get_or all (length said) c → IsTurn all said c
 turn all said c e h g = record {
   more = drop (suc (length said)) all;
   split = sym (take-append-drop (length said) all) ∙ (ap (λ y. y ++ drop (length said) all) (sym e ∙ map-id said) ∙ ap (λ y. said ++ y) (drop-cons all (length said) c h ∙ ap (λ y. y ∷ drop (suc (length said)) all) (sym g)));
-  short = h;
 }
 
 pub line_small : (all said : List ℕ) (p : Place) (n : ℕ) → length said < length all → length all ≤ n → n ≤ 4194304 → p ≡ after_all start said → p.line < 2 ^ 31
@@ -64,6 +62,9 @@ mode_short r m e = refl
 
 pub never_long : (r : Reader) → is_long (view r) ≡ false
 never_long r = or_none (mode_long (view r).mode) (level_long (view r).held) (mode_short r r.mode refl) (not_past r.held.level.run.count r.held.level.run.short)
+
+pub level_short : (r : Reader) → level_long (view r).held ≡ false
+level_short r = not_past r.held.level.run.count r.held.level.run.short
 
 -- a turn that goes on
 

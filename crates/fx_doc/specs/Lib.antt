@@ -3,3 +3,4 @@ pub mod Views
 pub mod Reads
 pub mod Judgements
 pub mod Taking
+pub mod Reached

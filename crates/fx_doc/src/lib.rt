@@ -12,6 +12,7 @@ mod levels;
 mod markup;
 mod modes;
 mod reader;
+mod reading;
 mod tags;
 mod values;
 

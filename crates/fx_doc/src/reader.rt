@@ -19,6 +19,7 @@ use crate::markup::{
     bang_dashed, banged, commented, dash_dashed, dashed, inside, opening, referring,
 };
 use crate::modes::{Held, Level, Mode, Reader};
+use crate::reading::read_text;
 use crate::tags::{ended, key_spaced, keyed, naming, signed, slashed, spaced, tight};
 use crate::values::{ending, quoted, value_referring};
 use fx_base::List;
@@ -90,7 +91,7 @@ impl Reader {
     }
 
     /// One character further, within the limits on depth and length.
-    fn next(&mut self, alloc: Global, place: Place, c: char) -> Result<(), DocError>
+    pub fn next(&mut self, alloc: Global, place: Place, c: char) -> Result<(), DocError>
         ensures { IsNext (view self.old) place c self.new result }
     {
         let sign = self.sign_place(place);
@@ -200,23 +201,6 @@ fn child_in(piece: Content) -> Option<Element>
     match piece {
         Content::Child(element) => Some(element),
         Content::Chars(_, _, _) => None,
-    }
-}
-
-/// The document of a text, or why it is none.
-pub fn read_text(alloc: Global, text: &str) -> Result<Document, DocError>
-    requires { length text.now ≤ 4194304 }
-    ensures { IsRead (chars text.now) result }
-{
-    let mut reader = Reader::new(alloc);
-    let mut place = Place::START;
-    for c in text.chars() {
-        reader.next(alloc, place, c)?;
-        place = place.after(c);
-    }
-    match reader.into_document() {
-        Some(document) => Ok(document),
-        None => Err(DocError::Markup(place.line, place.column)),
     }
 }
 

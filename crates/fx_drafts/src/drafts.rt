@@ -1,6 +1,6 @@
 //! Texts that are being read: names, and values or runs with the count of their signs.
 //! A text that would pass 4,096 characters is refused before it grows.
-ghost use Rattle.std.specs.Prelude.{◌≡◌, ◌≤◌, ◌<◌, ◌+◌, ◌∷◌, ◌++◌, [], length, true, IfOk, OnOk, IsErrOf, ◌↔◌};
+ghost use Rattle.std.specs.Prelude.{◌≡◌, ◌≤◌, ◌<◌, ◌+◌, ◌∷◌, ◌++◌, [], length, true, IfOk, IfErr, OnOk, IsErrOf, ◌↔◌};
 ghost use Rattle.std.specs.Str.{chars};
 ghost use Rattle.std.specs.String.{string_bytes};
 ghost use Rattle.std.specs.Char.{encode_utf8};
@@ -58,6 +58,16 @@ impl Word {
     {
         let mut text = String::new(alloc);
         text.push(c)?;
+        Ok(Word { text })
+    }
+
+    /// The name of this text.
+    pub fn of_text(alloc: Global, text: &str) -> Result<Word, Halt>
+        requires { length text.now ≤ 4096 }
+        ensures name { IfOk result (λ w. string_bytes w.text ≡ text.now) }
+        ensures memory { IfErr result (λ e. e ≡ Halt.Memory) }
+    {
+        let text = String::from_str(alloc, text)?;
         Ok(Word { text })
     }
 

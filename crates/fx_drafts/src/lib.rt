@@ -2,9 +2,11 @@
 //! The reader of documents fills them; it stands on the grammar's characters alone.
 #![tactic(auto)]
 
+mod ahead;
 mod drafts;
 mod names;
 
+pub use ahead::{Ahead, attribute_ahead};
 pub use drafts::{Draft, Halt, Word};
 pub use names::Names;
 

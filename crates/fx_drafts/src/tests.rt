@@ -29,3 +29,17 @@ fn counts_characters(rt: HostRuntime) {
     assert!(rt; draft.push('x').is_ok());
     assert_eq!(rt; draft.into_text().as_str(), "x");
 }
+
+#[test]
+fn finds_an_attribute_ahead(rt: HostRuntime) {
+    let found = attribute_ahead("a.b=\"x y\" c");
+    assert!(rt; found.is_some());
+    if let Some(ahead) = found {
+        assert_eq!(rt; ahead.name, "a.b");
+        assert_eq!(rt; ahead.value, "x y");
+        assert_eq!(rt; ahead.behind, " c");
+    }
+    assert!(rt; attribute_ahead("a=\"&lt;\"").is_none());
+    assert!(rt; attribute_ahead("1=\"\"").is_none());
+    assert!(rt; attribute_ahead("a=\"").is_none());
+}

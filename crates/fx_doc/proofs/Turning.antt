@@ -1,0 +1,103 @@
+-- One turn of the loop over a text, and its end.
+-- The answers on the loop cite these.
+use Rattle.std.proofs.Common.{◌≡◌, ℕ, ◌+◌, ◌-◌, ◌<◌, ◌≤◌, ◌^◌, true, List, [], ◌∷◌, ◌++◌, length, Ok, Err, Result, None, Some, refl, sym, ◌∙◌, ap, subst, append_assoc, append-nil, length-append, arith}
+use Rattle.std.specs.List.{list_all}
+use Rattle.std.specs.Result.{IsErrAnd}
+use Rattle.std.specs.Str.{chars, IsUtf8}
+use Rattle.std.proofs.lemmas.Str.{chars-nil, IsUtf8-had}
+use Rattle.fx_markup.specs.Characters.{start, after, after_all}
+use Rattle.fx_markup.specs.Grammar.{Reading as ReadingView, IsRoot}
+use Rattle.fx_markup.specs.Machine.{State, initial, answer}
+use Rattle.fx_markup.specs.Beginnings.{IsStopped}
+use Rattle.fx_markup.specs.declared.Place.{Place}
+use Rattle.fx_markup.proofs.Bounds.{within_start}
+use Rattle.fx_markup.proofs.Roots.{line_bound, column_bound, answered_root}
+use Rattle.fx_doc.specs.Reads.{IsNext, IsRead}
+use Rattle.fx_doc.specs.Reached.{Calm, Said, TookFlat, IsReached, is_flat}
+use Rattle.fx_doc.specs.Views.{view, reading}
+use Rattle.fx_doc.specs.declared.document.Document.{Document}
+use Rattle.fx_doc.specs.declared.document.DocError.{DocError}
+use Rattle.fx_doc.specs.declared.modes.Reader.{Reader}
+use Rattle.fx_doc.proofs.Calm.{said_more}
+use Rattle.fx_doc.proofs.Firsts.{flat_chars, utf8_behind, along_is}
+use Rattle.fx_doc.proofs.Loops.{goes_on, within_on, stops, passed, ends_read, ends_stopped}
+use Rattle.fx_markup.proofs.Turns.{place_more}
+
+pub begins : (text : List ℕ) (r : Reader) → IsUtf8 text → view r ≡ initial → IsReached text text start (view r)
+begins text r u e = record {
+  said = [];
+  split = refl;
+  fewer = same (length text);
+  utf8 = u;
+  reached = record { state = ap Some (sym e); place = refl; within = within_start };
+}
+  where
+    same : (n : ℕ) → 0 + n ≤ n
+    same n = omega arith
+
+pub line_fits : (text rest : List ℕ) (p : Place) (s : State) → IsReached text rest p s → length text ≤ 4194304 → p.line + length rest ≤ 4194306
+line_fits text rest p s h k =
+    let b : (after_all start h.said).line ≤ 1 + length h.said = line_bound start h.said in
+    let e : p.line ≡ (after_all start h.said).line = ap (λ (y : Place). y.line) h.reached.place in
+    let f : length h.said + length rest ≤ length text = h.fewer in
+    omega arith
+
+pub column_fits : (text rest : List ℕ) (p : Place) (s : State) → IsReached text rest p s → length text ≤ 4194304 → p.column + length rest ≤ 4194306
+column_fits text rest p s h k =
+    let b : (after_all start h.said).column ≤ 1 + length h.said = column_bound start h.said in
+    let e : p.column ≡ (after_all start h.said).column = ap (λ (y : Place). y.column) h.reached.place in
+    let f : length h.said + length rest ≤ length text = h.fewer in
+    omega arith
+
+-- behind one character
+pub one_reached : (text rest behind : List ℕ) (p q : Place) (r r' : Reader) (c : ℕ) → IsReached text rest p (view r) → chars rest ≡ c ∷ chars behind → length behind < length rest → IsUtf8 behind → IsNext (view r) p c r' (Ok tt) → q ≡ after p c → IsReached text behind q (view r')
+one_reached text rest behind p q r r' c h e k u n w =
+    let l : length (h.said ++ (c ∷ [])) ≡ length h.said + 1 = length-append h.said (c ∷ []) in
+    let f : length h.said + length rest ≤ length text = h.fewer in
+    record {
+      said = h.said ++ (c ∷ []);
+      split = h.split ∙ (ap (λ y. h.said ++ y) e ∙ sym (append_assoc h.said (c ∷ []) (chars behind)));
+      fewer = omega arith;
+      utf8 = u;
+      reached = record {
+        state = goes_on h.said c p r r' h.reached.state h.reached.place n;
+        place = w ∙ place_more h.said c p h.reached.place;
+        within = within_on h.said c p r r' h.reached.state h.reached.place h.reached.within n;
+      };
+    }
+
+-- behind a part of plain ASCII
+pub flat_reached : (text rest left : List ℕ) (p q : Place) (r r' : Reader) → IsReached text rest p (view r) → TookFlat rest p (view r) left (view r') → q.line ≡ p.line → q.column ≡ p.column + (length rest - length left) → IsReached text left q (view r')
+flat_reached text rest left p q r r' h t e f =
+    let l : length rest ≡ length t.part + length left = ap length t.split ∙ length-append t.part left in
+    let m : length (h.said ++ t.part) ≡ length h.said + length t.part = length-append h.said t.part in
+    let g : length h.said + length rest ≤ length text = h.fewer in
+    let n : length rest - length left ≡ length t.part = omega arith in
+    let w : q ≡ after_all p t.part = (λ i. record { line = e i; column = (f ∙ ap (λ y. p.column + y) n) i }) ∙ sym (along_is p t.part t.flat) in
+    record {
+      said = h.said ++ t.part;
+      split = h.split ∙ (ap (λ y. h.said ++ y) (ap chars t.split ∙ flat_chars t.part left t.flat) ∙ sym (append_assoc h.said t.part (chars left)));
+      fewer = omega arith;
+      utf8 = utf8_behind t.part left t.flat (subst IsUtf8 t.split h.utf8);
+      reached = subst (λ (y : Place). Said (h.said ++ t.part) y (view r')) (sym w) (said_more h.said p (view r) t.part (view r') h.reached t.calm);
+    }
+
+-- a step that stops
+pub stops_reached : (text rest behind : List ℕ) (p : Place) (r r' : Reader) (c : ℕ) (e : DocError) → IsReached text rest p (view r) → chars rest ≡ c ∷ chars behind → IsNext (view r) p c r' (Err e) → IsRead (chars text) (Err e)
+stops_reached text rest behind p r r' c e h k n = stops (chars text) h.said c p r r' e (record { more = chars behind; split = h.split ∙ ap (λ y. h.said ++ y) k }) h.reached.state h.reached.place h.reached.within n
+
+pub memory_read : (all : List ℕ) (r : Result Document DocError) (e m : DocError) → IsRead all (Err m) → e ≡ m → IsErrAnd r (λ y. y ≡ e) → IsRead all r
+memory_read all r e m h g i = passed all r e i (subst (λ (z : DocError). IsRead all (Err z)) (sym g) h)
+
+-- the end of the text
+whole : (text rest : List ℕ) (p : Place) (s : State) (h : IsReached text rest p s) → rest ≡ [] → h.said ≡ chars text
+whole text rest p s h e = sym (h.split ∙ (ap (λ y. h.said ++ chars y) e ∙ (ap (λ y. h.said ++ y) chars-nil ∙ append-nil h.said)))
+
+pub ends_reached : (text rest : List ℕ) (p : Place) (r : Reader) (d : Document) → IsReached text rest p (view r) → rest ≡ [] → answer (view r) ≡ Some (reading d) → IsRead (chars text) (Ok d)
+ends_reached text rest p r d h e a = ends_read (chars text) h.said r d (whole text rest p (view r) h e) h.reached.state h.reached.within a
+
+pub stopped_reached : (text rest : List ℕ) (p : Place) (r : Reader) → IsReached text rest p (view r) → rest ≡ [] → answer (view r) ≡ None → IsStopped (chars text) p
+stopped_reached text rest p r h e a = ends_stopped (chars text) h.said p r (whole text rest p (view r) h e) h.reached.state h.reached.place h.reached.within a
+
+pub root_reached : (text rest : List ℕ) (p : Place) (r : Reader) → IsReached text rest p (view r) → (n : ReadingView) → answer (view r) ≡ Some n → IsRoot n.root
+root_reached text rest p r h n e = answered_root h.said (view r) n h.reached.state e

@@ -1,0 +1,77 @@
+-- An attribute that is taken whole: what the reader is behind it.
+-- Above the lemmas on calm characters; the answers on the loop cite these.
+use Rattle.std.proofs.Common.{◌≡◌, ℕ, ◌+◌, ◌<◌, ◌≤◌, Bool, true, false, ◌&&◌, not, List, [], ◌∷◌, ◌++◌, length, refl, sym, ◌∙◌, ap, subst, append_assoc, arith}
+use Rattle.std.specs.List.{list_all}
+use lib.Dec.{eqb, ltb}
+use Rattle.fx_markup.specs.Characters.{class_of, is_white, is_letter, is_later, in_name}
+use Rattle.fx_markup.specs.Grammar.{Head as HeadView}
+use Rattle.fx_markup.specs.Machine.{State, Mode, Spaced, Tight, is_fresh, with_attribute}
+use Rattle.fx_markup.specs.declared.Place.{Place}
+use Rattle.fx_markup.proofs.Marks.{as_state}
+use Rattle.fx_drafts.specs.Ahead.{IsAhead, is_named, is_plain}
+use Rattle.fx_doc.specs.Reached.{Calm, TookFlat, is_flat}
+use Rattle.fx_doc.specs.Views.{view, head_view, held_view, mode_view, stack_view}
+use Rattle.fx_doc.specs.declared.modes.Head.{Head}
+use Rattle.fx_doc.specs.declared.modes.Mode.{Mode as ModeHere}
+use Rattle.fx_doc.specs.declared.modes.Mode.TheVariants as v
+use Rattle.fx_doc.specs.declared.modes.Reader.{Reader}
+use Rattle.fx_doc.proofs.Calm.{attribute_calm, attribute_text, tight_after}
+use Rattle.fx_doc.proofs.Loops.{level_short}
+
+both : (a b : Bool) → (a && b) ≡ true → (a ≡ true) × (b ≡ true)
+both true b e = (refl, e)
+both false b e = Prim.cc
+
+lf_named : in_name (class_of 10) ≡ false
+unfolding class_of is_white is_letter is_later
+lf_named = refl
+
+named_off : (c : ℕ) → in_name (class_of c) ≡ true → c ≡ 10 → ⊥
+named_off c e f = absurd (let h : true ≡ false = sym e ∙ (ap (λ y. in_name (class_of y)) f ∙ lf_named) in cc)
+
+not_eqb : (c : ℕ) → (c ≡ 10 → ⊥) → not (eqb c 10) ≡ true
+not_eqb c n = by (eqb c 10) refl
+  where
+    by : (b : Bool) → eqb c 10 ≡ b → not b ≡ true
+    by true e = absurd (n (grind (arith, e)))
+    by false e = refl
+
+named_flat : (c : ℕ) → is_named c ≡ true → is_flat c ≡ true
+named_flat c e = let a = both (ltb c 128) (in_name (class_of c)) e in ap (λ b. b && not (eqb c 10)) a.0 ∙ not_eqb c (named_off c a.1)
+
+plain_flat : (c : ℕ) → is_plain c ≡ true → is_flat c ≡ true
+plain_flat c e = grind (arith, e)
+
+all_flat : (p : ℕ → Bool) → ((c : ℕ) → p c ≡ true → is_flat c ≡ true) → (cs rest : List ℕ) → list_all p cs ≡ true → list_all is_flat rest ≡ true → list_all is_flat (cs ++ rest) ≡ true
+all_flat p f [] rest e g = g
+all_flat p f (c ∷ cs) rest e g = let a = both (p c) (list_all p cs) e in ap (λ b. b && list_all is_flat (cs ++ rest)) (f c a.0) ∙ all_flat p f cs rest a.1 g
+
+text_flat : (name value : List ℕ) → list_all is_named name ≡ true → list_all is_plain value ≡ true → list_all is_flat (attribute_text name value) ≡ true
+text_flat name value n v = all_flat is_named named_flat name (61 ∷ (34 ∷ (value ++ (34 ∷ [])))) n (all_flat is_plain plain_flat value (34 ∷ []) v refl)
+
+-- whether a name is fresh in the tag at hand
+fresh_in : List ℕ → Mode → Bool
+fresh_in k (Spaced h) = is_fresh k h
+fresh_in k m = true
+
+same_fresh : (s : Reader) (k : List ℕ) (m : ModeHere) (a b : Head) → m ≡ v.Spaced a → m ≡ v.Spaced b → is_fresh k (head_view b) ≡ is_fresh k (head_view a)
+unfolding fresh_in
+same_fresh s k m a b e f = ap (λ (y : ModeHere). fresh_in k (mode_view (stack_view s.held.stack.items) y)) (sym f ∙ e)
+
+text_split : (name value behind : List ℕ) → name ++ (61 ∷ (34 ∷ (value ++ (34 ∷ behind)))) ≡ attribute_text name value ++ behind
+text_split name value behind =
+    ap (λ y. name ++ (61 ∷ (34 ∷ y))) (sym (append_assoc value (34 ∷ []) behind)) ∙ sym (append_assoc name (61 ∷ (34 ∷ (value ++ (34 ∷ [])))) behind)
+
+pub took_attribute : (r : Reader) (m : ModeHere) (a b d : Head) (rest name value behind key val : List ℕ) (p : Place) → r.mode ≡ v.Spaced a → m ≡ r.mode → m ≡ v.Spaced b → IsAhead rest name value behind → key ≡ name → val ≡ value
+    → is_fresh key (head_view a) ≡ true → head_view d ≡ with_attribute (head_view b) p key val → TookFlat rest p (view r) behind (as_state (held_view r.held) (Tight (head_view d)))
+took_attribute r m a b d rest name value behind key val p e f g h j k n w =
+    let fresh : is_fresh name (head_view b) ≡ true = ap (λ y. is_fresh y (head_view b)) (sym j) ∙ (same_fresh r key r.mode a b e (sym f ∙ g) ∙ n) in
+    let new : with_attribute (head_view b) p name value ≡ head_view d = sym (w ∙ (ap (λ y. with_attribute (head_view b) p y val) j ∙ ap (with_attribute (head_view b) p name) k)) in
+    let calm : Calm p (as_state (held_view r.held) (Spaced (head_view b))) (attribute_text name value) (tight_after (held_view r.held) (head_view b) p name value) = attribute_calm (held_view r.held) (head_view b) name value p (level_short r) h.begins h.named h.plain h.name_short h.value_short fresh in
+    record {
+      part = attribute_text name value;
+      split = h.written ∙ text_split name value behind;
+      flat = text_flat name value h.named h.plain;
+      calm = subst (λ (y : ModeHere). Calm p (as_state (held_view r.held) (mode_view (stack_view r.held.stack.items) y)) (attribute_text name value) (as_state (held_view r.held) (Tight (head_view d)))) (sym (sym f ∙ g))
+          (subst (λ (y : HeadView). Calm p (as_state (held_view r.held) (Spaced (head_view b))) (attribute_text name value) (as_state (held_view r.held) (Tight y))) new calm);
+    }

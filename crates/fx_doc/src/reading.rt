@@ -1,0 +1,97 @@
+//! The loop over a text: a step of the reader for each character, and an attribute taken whole where one stands ahead.
+//! What is read so is what the machine of `fx_markup` reads.
+ghost use Rattle.std.specs.Prelude.{◌≡◌, ◌∷◌, ◌+◌, ◌<◌, ◌≤◌, ◌^◌, [], length, IfSome, IfNone, IfOk, IfErr};
+ghost use Rattle.std.specs.Str.{chars, IsUtf8};
+ghost use Rattle.fx_doc.specs.Reached.{TookFlat};
+ghost use Rattle.fx_doc.specs.Reads.{IsRead};
+ghost use Rattle.fx_doc.specs.Views.{view};
+ghost use Rattle.fx_doc.specs.declared.document.DocError.TheVariants as fault;
+
+use crate::document::{DocError, Document};
+use crate::modes::{Mode, Reader};
+use fx_base::Text;
+use fx_drafts::{Word, attribute_ahead};
+use fx_markup::Place;
+use std::alloc::Global;
+use std::mem;
+
+/// The first character, and the text behind it.
+fn first_character(text: &str) -> Option<(char, &str)>
+    ensures some { IfSome result (λ x. (chars text.now ≡ x.0 ∷ chars x.1.now) × (length x.1.now < length text.now)) }
+    ensures utf8 { IfSome result (λ x. IsUtf8 x.1.now) }
+    ensures none { IfNone result (text.now ≡ []) }
+{
+    let mut characters = text.chars();
+    let c = characters.next()?;
+    Some((c, characters.as_str()))
+}
+
+/// The place behind so many characters of one line.
+fn along(place: Place, count: usize) -> Place
+    requires { place.column + count < 2 ^ 32 }
+    ensures line { result.line ≡ place.line }
+    ensures column { result.column ≡ place.column + count }
+{
+    Place {
+        line: place.line,
+        column: place.column + count as u32,
+    }
+}
+
+impl Reader {
+    /// Takes the attribute that stands ahead, if it is written as most are, and gives the text behind it.
+    fn take_attribute<'a>(
+        &mut self,
+        alloc: Global,
+        place: Place,
+        rest: &'a str,
+    ) -> Result<&'a str, DocError>
+        ensures took { IfOk result (λ left. TookFlat rest.now place (view self.old) left.now (view self.new)) }
+        ensures memory { IfErr result (λ e. e ≡ fault.Memory) }
+    {
+        let Mode::Spaced(head) = &self.mode else {
+            return Ok(rest);
+        };
+        let Some(ahead) = attribute_ahead(rest) else {
+            return Ok(rest);
+        };
+        let Ok(key) = Word::of_text(alloc, ahead.name) else {
+            return Err(DocError::Memory);
+        };
+        if !head.is_fresh(&key) {
+            return Ok(rest);
+        }
+        // The value is short, so nothing but memory can be wanting.
+        let Ok(value) = Text::from_str(alloc, ahead.value) else {
+            return Err(DocError::Memory);
+        };
+        let Mode::Spaced(head) = mem::replace(&mut self.mode, Mode::Ended) else {
+            unreachable!()
+        };
+        let Ok(head) = head.with_attribute(alloc, place, key, value) else {
+            return Err(DocError::Memory);
+        };
+        self.mode = Mode::Tight(head);
+        Ok(ahead.behind)
+    }
+}
+
+/// The document of a text, or why it is none.
+pub fn read_text(alloc: Global, text: &str) -> Result<Document, DocError>
+    requires { length text.now ≤ 4194304 }
+    ensures { IsRead (chars text.now) result }
+{
+    let mut reader = Reader::new(alloc);
+    let mut place = Place::START;
+    let mut rest = text;
+    while let Some((c, behind)) = first_character(rest) {
+        reader.next(alloc, place, c)?;
+        place = place.after(c);
+        rest = reader.take_attribute(alloc, place, behind)?;
+        place = along(place, behind.len() - rest.len());
+    }
+    match reader.into_document() {
+        Some(document) => Ok(document),
+        None => Err(DocError::Markup(place.line, place.column)),
+    }
+}

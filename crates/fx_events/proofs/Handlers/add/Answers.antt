@@ -1,0 +1,88 @@
+use Rattle.std.proofs.Common.{◌≡◌, ◌↔◌, ◌∙◌, List, [], ◌∷◌, Option, None, Some, cond, is_some, Err, IsTrue, OnOk, OnErr, ap, sym, subst}
+use Rattle.std.specs.FinMap.{from_entries, insert}
+use Rattle.std.specs.Map.{lookup, set_value}
+use Rattle.std.proofs.lemmas.Map.Steps.{set_value_same}
+use Rattle.std.proofs.lemmas.Result.{err_from_is_err_and, on_ok_weaker, on_err_weaker}
+use Rattle.fx_base.specs.declared.keys.NodeKey.{NodeKey}
+use Rattle.fx_events.specs.declared.EventError.TheVariants.{Full}
+use Rattle.fx_events.specs.declared.registrations.Registration.{Registration}
+use Rattle.fx_events.specs.Handlers.{HandlerMap, after_add, is_full, registrations_of, with_registration}
+use Rattle.fx_events.specs.Keyed.{key_cmp}
+use Rattle.fx_events.proofs.Maps.{same_key, first_alone, inserted, listed, memory_is_another, never_full, success_is_another}
+use Rattle.fx_events.proofs.Handlers.add.Goals as goal
+
+there : (c : goal.After-self-in-Some-1) → registrations_of c.args.self.now c.args.key ≡ c.in-Some.node.now
+there c =
+    listed c.self.inside.nodes.entries c.args.self.now c.self.view_is c.new.result c.args.key c.new.ensures
+    (Some c.in-Some.node.now) c.in-Some.ensures.value
+
+pub returns-in-Some-clause-added : goal.returns-in-Some-clause-added
+returns-in-Some-clause-added c =
+    let entries = c.self.inside.nodes.entries in
+    let key = c.args.key in
+    let new : Registration = record { on = c.args.on; phase = c.args.phase; action = c.args.action } in
+    let w = c.add.new.self in
+    let changed = (c.get_mut.follows.holds w).3 (sym (ap is_some c.in-Some.ensures.value)) in
+    let put : from_entries {R = key_cmp} (c.get_mut.follows.lender w).entries ≡ insert c.args.self.now key w =
+    inserted entries (c.get_mut.follows.lender w).entries key w
+    (λ q. changed.0 q ∙ ap (λ (k : NodeKey). cond (same_key k q) (Some w) (lookup (same_key q) entries)) c.new.ensures)
+    ∙ ap (λ (m : HandlerMap). insert m key w) c.self.view_is in
+    on_ok_weaker {P = w ≡ with_registration new c.in-Some.node.now} c.add.result
+    (λ is. put ∙ ap (insert c.args.self.now key) (is ∙ ap (with_registration new) (sym (there c))))
+    c.add.ensures.added
+
+pub returns-in-Some-clause-full : goal.returns-in-Some-clause-full
+returns-in-Some-clause-full c =
+    let new : Registration = record { on = c.args.on; phase = c.args.phase; action = c.args.action } in
+    subst (λ (l : List Registration). (c.add.result ≡ Err Full) ↔ IsTrue (is_full new l)) (sym (there c)) c.add.ensures.full
+
+pub returns-in-Some-clause-err : goal.returns-in-Some-clause-err
+returns-in-Some-clause-err c =
+    let entries = c.self.inside.nodes.entries in
+    let node = c.in-Some.node.now in
+    let w = c.add.new.self in
+    on_err_weaker {P = w ≡ node} c.add.result
+    (λ is.
+    ap (from_entries {R = key_cmp})
+    ((c.get_mut.follows.holds w).0
+    ∙ ap (set_value (same_key c.new.result) entries) is
+    ∙ set_value_same (same_key c.new.result) entries node (sym c.in-Some.ensures.value))
+    ∙ c.self.view_is)
+    c.add.ensures.err
+
+pub returns-in_err-node-clause-full : goal.returns-in_err-node-clause-full
+returns-in_err-node-clause-full c =
+    let new : Registration = record { on = c.args.on; phase = c.args.phase; action = c.args.action } in
+    let none = listed c.self.inside.nodes.entries c.args.self.now c.self.view_is c.new.result c.args.key c.new.ensures None c.in_default.ensures.value in
+    let p = err_from_is_err_and c.from_residual.result c.from_residual.ensures.1 in
+    never_full new (registrations_of c.args.self.now c.args.key) none c.from_residual.result (memory_is_another c.from_residual.result (p.1 ∙ ap Err p.2))
+
+pub returns-in_err-insert-clause-full : goal.returns-in_err-insert-clause-full
+returns-in_err-insert-clause-full c =
+    let new : Registration = record { on = c.args.on; phase = c.args.phase; action = c.args.action } in
+    let none = listed c.self.inside.nodes.entries c.args.self.now c.self.view_is c.new.result c.args.key c.new.ensures None c.in_default.ensures.value in
+    let p = err_from_is_err_and c.from_residual-in_err-insert.result c.from_residual-in_err-insert.ensures.1 in
+    never_full new (registrations_of c.args.self.now c.args.key) none c.from_residual-in_err-insert.result
+    (memory_is_another c.from_residual-in_err-insert.result (p.1 ∙ ap Err p.2))
+
+pub returns-clause-added : goal.returns-clause-added
+returns-clause-added c =
+    let entries = c.self.inside.nodes.entries in
+    let key = c.args.key in
+    let new : Registration = record { on = c.args.on; phase = c.args.phase; action = c.args.action } in
+    let none = listed entries c.args.self.now c.self.view_is c.new.result key c.new.ensures None c.in_default.ensures.value in
+    let alone : List Registration = new ∷ [] in
+    inserted entries c.insert.new.self.entries key alone
+    (λ q.
+    c.in_ok-insert.ensures.updates.0 q
+    ∙ (λ i.
+    cond (same_key (c.new-2.ensures i) q) (Some (c.in_ok-node.ensures i))
+    (lookup (same_key q) (c.get_mut.follows.holds-at-none i).entries)))
+    ∙ ap (λ (m : HandlerMap). insert m key alone) c.self.view_is
+    ∙ ap (insert c.args.self.now key) (sym (ap (with_registration new) none ∙ first_alone new))
+
+pub returns-clause-full : goal.returns-clause-full
+returns-clause-full c =
+    let new : Registration = record { on = c.args.on; phase = c.args.phase; action = c.args.action } in
+    let none = listed c.self.inside.nodes.entries c.args.self.now c.self.view_is c.new.result c.args.key c.new.ensures None c.in_default.ensures.value in
+    never_full new (registrations_of c.args.self.now c.args.key) none _ success_is_another

@@ -1,0 +1,4 @@
+pub mod Events
+pub mod Keyed
+pub mod Handlers
+pub mod Routes

@@ -2,6 +2,7 @@ pub mod Changes
 pub mod Edits
 pub mod Forest
 pub mod Given
+pub mod History
 pub mod Keys
 pub mod Lines
 pub mod Listing

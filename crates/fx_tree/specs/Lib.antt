@@ -1,3 +1,4 @@
+pub mod History
 pub mod Refusals
 pub mod Scene
 pub mod Slots

@@ -5,6 +5,7 @@
 mod nodes;
 
 ghost use Rattle.std.specs.Prelude.{◌≡◌, ◌↔◌, ◌⊎◌, ◌+◌, ◌++◌, [], Some, length, reverse, is_some, IfOk, OnOk, OnErr};
+ghost use Rattle.fx_tree.specs.History.{DeadStayDead, EachBirthOnce};
 ghost use Rattle.fx_tree.specs.Refusals.{IsAnswer, IsFirmAnswer, attach_refusal, detach_refusal, drop_refusal, root_refusal, stale};
 ghost use Rattle.fx_tree.specs.Scene.{IsSound, after_attach, after_detach, after_drop, after_make, after_set_root, children_of, nothing, parent_of, path, subtree};
 ghost use Rattle.fx_tree.specs.declared.TreeError.TheVariants.{Memory};
@@ -249,6 +250,16 @@ impl Tree {
         Ok(keys)
     }
 }
+
+/// A birth number is given once: over every list of calls they are 1, 2, 3 and so on.
+pub fn births_are_given_once()
+    ensures { EachBirthOnce }
+{}
+
+/// A dead node stays dead, whatever its slot holds later.
+pub fn dead_nodes_stay_dead()
+    ensures { DeadStayDead }
+{}
 
 #[cfg(test)]
 mod tests;

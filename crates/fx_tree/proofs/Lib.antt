@@ -9,3 +9,4 @@ pub mod Listing
 pub mod Made
 pub mod Prune
 pub mod Views
+pub mod Walks

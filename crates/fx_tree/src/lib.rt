@@ -5,7 +5,7 @@
 mod nodes;
 
 ghost use Rattle.std.specs.Prelude.{◌≡◌, ◌↔◌, ◌⊎◌, ◌+◌, ◌++◌, [], Some, length, reverse, is_some, IfOk, OnOk, OnErr};
-ghost use Rattle.fx_tree.specs.History.{DeadStayDead, EachBirthOnce};
+ghost use Rattle.fx_tree.specs.History.{DeadStayDead, EachBirthOnce, PathsMeetOnce, SubtreesMeetOnce};
 ghost use Rattle.fx_tree.specs.Refusals.{IsAnswer, IsFirmAnswer, attach_refusal, detach_refusal, drop_refusal, root_refusal, stale};
 ghost use Rattle.fx_tree.specs.Scene.{IsSound, after_attach, after_detach, after_drop, after_make, after_set_root, children_of, nothing, parent_of, path, subtree};
 ghost use Rattle.fx_tree.specs.declared.TreeError.TheVariants.{Memory};
@@ -259,6 +259,16 @@ pub fn births_are_given_once()
 /// A dead node stays dead, whatever its slot holds later.
 pub fn dead_nodes_stay_dead()
     ensures { DeadStayDead }
+{}
+
+/// A walk meets each node once: no node stands twice in a subtree.
+pub fn subtrees_meet_each_node_once()
+    ensures { SubtreesMeetOnce }
+{}
+
+/// No node stands twice on the path to a node.
+pub fn paths_meet_each_node_once()
+    ensures { PathsMeetOnce }
 {}
 
 #[cfg(test)]

@@ -1,5 +1,5 @@
 -- A subtree is freed leaf by leaf: what holds from leaf to leaf, and what is left at the end.
-use Rattle.std.proofs.Common.{◌≡◌, ◌≢◌, ℕ, ◌+◌, ◌<◌, ◌≤◌, Bool, true, false, not, cond, ◌==◌, ◌&&◌, ◌||◌, List, [], ◌∷◌, ◌++◌, length, filter, Option, Some, None, is_some, count_by, refl, sym, ◌∙◌, ap, subst, inl, inr, ◌⊎◌, arith}
+use Rattle.std.proofs.Common.{◌≡◌, ◌≢◌, ℕ, ◌+◌, ◌<◌, ◌≤◌, Bool, true, false, not, cond, ◌==◌, ◌&&◌, ◌||◌, List, [], ◌∷◌, ◌++◌, length, filter, Option, Some, None, is_some, unwrap_or, count_by, refl, sym, ◌∙◌, ap, subst, inl, inr, ◌⊎◌, arith}
 use Rattle.std.proofs.lemmas.Bool.{cases_Bool, false≢true, both_ways, or_cases, or_right, and_parts, false_from_ne_true, true_from_ne_false, not-true}
 use Rattle.std.proofs.lemmas.Option.{none-some, same_Some}
 use Rattle.fx_base.specs.declared.keys.NodeKey.{NodeKey}
@@ -7,8 +7,9 @@ use Rattle.fx_tree.specs.declared.nodes.Stored.{Stored}
 use Rattle.fx_tree.specs.Scene.{Node, is_same, has, without, line_in, IsLine}
 use Rattle.fx_tree.specs.Refusals.{is_held}
 use Rattle.fx_tree.specs.Slots.{alive_at, up_at, below_at, line_at, seen_at, IsForest, IsNumbered, IsTopmost, IsUnlinked, IsFreed, IsPruned}
-use Rattle.fx_tree.proofs.Keys.{is_same-refl, is_same-true, is_same-false, is_same-sym, has-cons, without-absent}
+use Rattle.fx_tree.proofs.Keys.{is_same-refl, is_same-true, is_same-false, is_same-sym, has-cons, has-nil, without-absent}
 use Rattle.fx_tree.proofs.Lines.{line_is, line_in-more}
+use Rattle.fx_tree.proofs.Walks.{deep}
 use Rattle.fx_tree.proofs.Listing.{IsSingle, seen_at-slot, seen_home, seen_alive, alive_seen, alive_up, alive_below}
 use Rattle.fx_tree.proofs.Forest.{line_known, IsForest-unlinked, IsTopmost-unlinked, IsForest-freed, IsTopmost-freed, IsNumbered-edited, IsNumbered-freed, lives_still, lived_before}
 
@@ -115,6 +116,16 @@ top_line slots key member (x ∷ rest) ends line there =
     no_line [] l h = false≢true h
     no_line (y ∷ ys) l h = l
 
+-- where the next way down begins: at a living node of the subtree, while the top lives
+abbrev pub IsResting : List (Option Stored) → NodeKey → NodeKey → Type 0
+IsResting now top at = alive_at now top ≡ true → (alive_at now at ≡ true) × (has (line_at now at) top ≡ true)
+
+-- what stands below a node of the subtree stands in the subtree
+pub still_within : (slots : List (Option Stored)) → IsForest slots → (leaf at top : NodeKey)
+    → has (line_at slots leaf) at ≡ true → has (line_at slots at) top ≡ true → has (line_at slots leaf) top ≡ true
+still_within slots forest leaf at top there above =
+    deep (up_at slots) at top (line_at slots at) (line_known slots forest at) above (Some leaf) (line_at slots leaf) (line_known slots forest leaf) there
+
 module _ (old now mid new : List (Option Stored)) (top leaf : NodeKey) (pruning : IsPruning old now top)
     (topmost : up_at old top ≡ None)
     (alive : alive_at now leaf ≡ true) (within : has (line_at now leaf) top ≡ true) (bare : below_at now leaf ≡ [])
@@ -191,6 +202,35 @@ module _ (old now mid new : List (Option Stored)) (top leaf : NodeKey) (pruning 
           let ends = (is_now leaf e).1 in
           let same : is_same leaf top ≡ true = alone (line_at now leaf) ends (line_known now pruning.forest leaf) within in
           both_ways _ (sym (ap (λ (o : Option NodeKey). is_held o top) e) ∙ other) same
+
+  -- the next way down begins at the leaf's parent
+  pub resting : IsResting new top (unwrap_or (up_at now leaf) leaf)
+  resting lives = by_up (up_at now leaf) refl
+    where
+      by_up : (o : Option NodeKey) → up_at now leaf ≡ o → (alive_at new (unwrap_or o leaf) ≡ true) × (has (line_at new (unwrap_or o leaf)) top ≡ true)
+      by_up None is =
+          let same : is_same leaf top ≡ true = top_line now leaf top (line_at now leaf) is (line_known now pruning.forest leaf) within in
+          absurd (both_ways _ (lived top lives).1 (is_same-sym top leaf ∙ same))
+      by_up (Some parent) is =
+          let there = pruning.forest.up leaf parent is in
+          let apart : is_same parent leaf ≡ false =
+          is_same-false parent leaf
+          (λ e. both_ways _ (has-nil leaf) (sym (ap (λ (l : List NodeKey). has l leaf) (ap (below_at now) e ∙ bare)) ∙ there)) in
+          let before = alive_below now leaf parent there in
+          let lives_new = lives_still mid new leaf mid_forest freed mid_topmost mid_bare parent (unlinked.alive parent ∙ before) apart in
+          let long : has (leaf ∷ line_at now parent) top ≡ true =
+          sym (ap (λ (l : List NodeKey). has l top) (line_of_child now pruning.forest leaf parent is)) ∙ within in (
+            lives_new,
+            elim (or_cases (is_same leaf top) (has (line_at now parent) top) (sym (has-cons leaf (line_at now parent) top) ∙ long)) [
+              | inl same ↦
+                  absurd (none-some parent (sym topmost ∙ ap (up_at old) (sym (is_same-true leaf top same)) ∙ sym (pruning.ups leaf alive) ∙ is))
+              | inr above ↦
+                  ap (λ (l : List NodeKey). has l top)
+                  (sym (line_kept old new IsPruning-more.forest IsPruning-more.ups parent lives_new)
+                  ∙ line_kept old now pruning.forest pruning.ups parent before)
+                  ∙ above
+            ],
+          )
 
 -- the top isn't alive at the end
 

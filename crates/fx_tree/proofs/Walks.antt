@@ -188,6 +188,22 @@ module _ (up : NodeKey → Option NodeKey) where
       ap (λ (l : List NodeKey). suc (length l))
       (one_line (Some parent) xs above_keys (subst P (ap up line.0 ∙ is) line.1) higher)
 
+  -- what stands above a node of a line is in it
+  pub deep : (at top : NodeKey) (line : List NodeKey) → IsLine up (Some at) line → has line top ≡ true
+      → (o : Option NodeKey) (keys : List NodeKey) → IsLine up o keys → has keys at ≡ true → has keys top ≡ true
+  unfolding IsLine
+  deep at top line is there o [] further among = absurd (both_ways _ (has-nil at) among)
+  deep at top line is there None (x ∷ xs) further among = absurd further
+  deep at top line is there (Some key) (x ∷ xs) further among =
+      elim (cases_Bool (is_same x at)) [
+        | inl same ↦
+            let whole : IsLine up (Some at) (x ∷ xs) = (is_same-true x at same, further.1) in
+            ap (λ (l : List NodeKey). has l top) (one_line (Some at) (x ∷ xs) line whole is) ∙ there
+        | inr apart ↦
+            has-cons x xs top
+            ∙ or_right (is_same x top) (has xs top) (deep at top line is there (up x) xs further.1 (later x xs at among apart))
+      ]
+
   line_once : (o : Option NodeKey) (keys : List NodeKey) → IsLine up o keys → is_once keys ≡ true
   unfolding IsLine is_once
   line_once o [] line = refl

@@ -1,6 +1,6 @@
 //! Nodes in their slots: each keeps its birth number, a link to its parent and the list of its children.
 //! The tree's calls stand on these functions over the slab.
-ghost use Rattle.std.specs.Prelude.{ℕ, ◌≡◌, ◌≢◌, ◌+◌, ◌<◌, ◌≤◌, ◌-◌, ◌++◌, [], Bool, true, not, length, insert, filter, is_some, Some, None, slice_index_or, nat_lt, IsSome, OnOk, OnErr};
+ghost use Rattle.std.specs.Prelude.{ℕ, ◌≡◌, ◌≢◌, ◌+◌, ◌<◌, ◌≤◌, ◌-◌, ◌++◌, [], Bool, true, not, length, insert, filter, is_some, Some, None, unwrap_or, slice_index_or, nat_lt, IsSome, OnOk, OnErr};
 ghost use Rattle.std.specs.Option.{option_map, option_copied};
 ghost use Rattle.slab.specs.Slab.{slab_len, get};
 ghost use Rattle.fx_tree.specs.Scene.{has, is_same, line_in, subtree_in, without};
@@ -376,14 +376,23 @@ fn first_leaf(nodes: &Slab<Stored>, key: NodeKey) -> NodeKey
     unreachable!()
 }
 
-/// Frees a topmost node and all that stand below it, the leaves first.
+/// The parent of a node, or the node where it has none.
+fn parent_or_itself(nodes: &Slab<Stored>, key: NodeKey) -> NodeKey
+    ensures { result ≡ unwrap_or (up_at nodes.now.slots key) key }
+{
+    parent_in(nodes, key).unwrap_or(key)
+}
+
+/// Frees a topmost node and all that stand below it, the leaves first. Each way down begins where the last leaf stood.
 pub fn prune(nodes: &mut Slab<Stored>, top: NodeKey)
     requires forest { IsForest nodes.old.slots }
     requires topmost { up_at nodes.old.slots top ≡ None }
     ensures { IsPruned nodes.old.slots nodes.new.slots top }
 {
+    let mut at = top;
     while is_live(nodes, top) {
-        let leaf = first_leaf(nodes, top);
+        let leaf = first_leaf(nodes, at);
+        at = parent_or_itself(nodes, leaf);
         unlink(nodes, leaf);
         free(nodes, leaf);
     }

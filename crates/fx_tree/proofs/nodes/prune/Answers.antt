@@ -1,15 +1,39 @@
-use Rattle.std.proofs.Common.{sym, ◌∙◌}
-use Rattle.fx_tree.proofs.Prune.{IsPruning-start, IsPruning-more, IsPruned-end}
+use Rattle.std.proofs.Common.{◌≡◌, true, sym, ◌∙◌, subst}
+use Rattle.fx_base.specs.declared.keys.NodeKey.{NodeKey}
+use Rattle.fx_tree.specs.Scene.{has}
+use Rattle.fx_tree.specs.Slots.{line_at}
+use Rattle.fx_tree.proofs.Prune.{IsPruning-start, IsPruning-more, IsPruned-end, IsResting, leaf_start, resting, still_within}
 use Rattle.fx_tree.proofs.nodes.prune.Goals as goal
 
 pub loop-top-init : goal.loop-top-init
-loop-top-init c = IsPruning-start _ c.args.top c.requires.forest
+loop-top-init c =
+    record {
+      pruning = IsPruning-start _ c.args.top c.requires.forest;
+      resting = λ lives. (lives, (leaf_start c.args.nodes.now.slots c.args.top).0);
+    }
+
+pub first_leaf-leaf-requires-clause-forest : goal.first_leaf-leaf-requires-clause-forest
+first_leaf-leaf-requires-clause-forest c = c.loop-top.invariant.pruning.forest
+
+pub first_leaf-leaf-requires-clause-alive : goal.first_leaf-leaf-requires-clause-alive
+first_leaf-leaf-requires-clause-alive c = (c.loop-top.invariant.resting (sym c.loop-top-test.ensures)).0
 
 pub loop-top-preserved : goal.loop-top-preserved
 loop-top-preserved c =
-    IsPruning-more _ c.loop-top.nodes.slots c.unlink.new.nodes.slots _ c.args.top c.first_leaf-leaf.result c.loop-top.invariant c.requires.topmost
-    c.first_leaf-leaf.ensures.alive c.first_leaf-leaf.ensures.within c.first_leaf-leaf.ensures.leaf
-    c.unlink.ensures.unlinked c.free.ensures.freed c.unlink.ensures.len c.free.ensures.len
+    let was = c.loop-top.invariant in
+    let leaf = c.first_leaf-leaf.ensures in
+    let within =
+    still_within c.loop-top.nodes.slots was.pruning.forest c.first_leaf-leaf.result c.loop-top.at c.args.top leaf.within
+    (was.resting (sym c.loop-top-test.ensures)).1 in
+    record {
+      pruning =
+          IsPruning-more _ c.loop-top.nodes.slots c.unlink.new.nodes.slots c.free.new.nodes.slots c.args.top c.first_leaf-leaf.result was.pruning c.requires.topmost
+          leaf.alive within leaf.leaf c.unlink.ensures.unlinked c.free.ensures.freed c.unlink.ensures.len c.free.ensures.len;
+      resting =
+          subst (IsResting c.free.new.nodes.slots c.args.top) (sym c.parent_or_itself-at.ensures)
+          (resting _ c.loop-top.nodes.slots c.unlink.new.nodes.slots c.free.new.nodes.slots c.args.top c.first_leaf-leaf.result was.pruning c.requires.topmost
+          leaf.alive within leaf.leaf c.unlink.ensures.unlinked c.free.ensures.freed c.unlink.ensures.len c.free.ensures.len);
+    }
 
 pub returns : goal.returns
-returns c = IsPruned-end _ _ c.args.top c.requires.forest c.loop-top.invariant (sym c.loop-top-test.ensures)
+returns c = IsPruned-end _ _ c.args.top c.requires.forest c.loop-top.invariant.pruning (sym c.loop-top-test.ensures)

@@ -1,10 +1,10 @@
 -- What stays true over all calls: birth numbers rise, and the dead stay dead.
-use Rattle.std.proofs.Common.{◌≡◌, ℕ, ◌+◌, ◌≤◌, Bool, true, false, cond, ◌||◌, List, [], ◌∷◌, ◌++◌, length, map, filter, Option, Some, None, is_some, refl, sym, ◌∙◌, ap, add-one, arith, length-append}
+use Rattle.std.proofs.Common.{◌≡◌, ℕ, ◌+◌, ◌≤◌, Bool, true, false, cond, ◌||◌, List, [], ◌∷◌, ◌++◌, length, map, filter, Some, is_some, refl, sym, ◌∙◌, ap, add-one, arith, length-append}
 use Rattle.std.specs.Option.{option_map}
 use Rattle.std.specs.List.{find, range_with_len}
 use Rattle.std.proofs.lemmas.Bool.{or_parts}
 use Rattle.fx_base.specs.declared.keys.NodeKey.{NodeKey}
-use Rattle.fx_tree.specs.Scene.{Node, Scene, children_of, is_alive, is_same, is_within, nothing, with_child, without_child}
+use Rattle.fx_tree.specs.Scene.{Node, Scene, children_of, is_alive, is_same, nothing, with_child, without_child}
 use Rattle.fx_tree.specs.History.{LeadsTo, none, made, rooted, attached, detached, dropped, EachBirthOnce, DeadStayDead}
 use Rattle.fx_tree.proofs.Given.{range_with_len-suc}
 use Rattle.fx_tree.proofs.Keys.{is_same-false}

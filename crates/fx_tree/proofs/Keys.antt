@@ -1,7 +1,9 @@
 -- Lists of keys: what is among them after one is put in or taken out.
-use Rattle.std.proofs.Common.{◌≡◌, ℕ, zero, suc, ◌+◌, ◌<◌, ◌≤◌, Bool, true, false, not, cond, ◌==◌, ◌&&◌, ◌||◌, List, [], ◌∷◌, ◌++◌, length, take, drop, filter, get_or, arith, refl, sym, ◌∙◌, ap, subst, inl, inr, ◌⊎◌}
-use Rattle.std.specs.List.{insert, list_all, list_any}
-use Rattle.std.proofs.lemmas.Bool.{cases_Bool, and_parts, and_from, eqb-true, eq-eqb, both_ways, false≢true, or_parts, not-true}
+use Rattle.std.proofs.Common.{◌≡◌, ℕ, zero, suc, ◌+◌, ◌-◌, ◌<◌, Bool, true, false, not, cond, ◌==◌, ◌&&◌, ◌||◌, List, [], ◌∷◌, ◌++◌, length, take, get_or, arith, refl, sym, ◌∙◌, ap, inl, inr, ◌⊎◌}
+use Rattle.std.specs.List.{insert, list_all}
+use Rattle.std.proofs.lemmas.Bool.{cases_Bool, and_parts, and_from, eqb-true, eq-eqb, both_ways, false≢true, or_parts, or_right, not-true}
+use Rattle.std.proofs.lemmas.List.{append-nil, take_all, take_more}
+use Rattle.std.proofs.lemmas.List.Elements.{filter-append}
 use Rattle.fx_base.specs.declared.keys.NodeKey.{NodeKey}
 use Rattle.fx_tree.specs.Scene.{is_same, has, without, is_once}
 
@@ -162,7 +164,40 @@ list_all-from_has test (x ∷ xs) each =
     later true b e = refl
     later false b e = e
 
-pub has-first : (keys : List NodeKey) (d : NodeKey) → 0 < length keys → has keys (get_or keys 0 d) ≡ true
+pub has-item : (keys : List NodeKey) (i : ℕ) (d : NodeKey) → i < length keys → has keys (get_or keys i d) ≡ true
 unfolding has
-has-first [] d some = absurd (omega (arith, some))
-has-first (x ∷ rest) d some = ap (λ (b : Bool). b || has rest x) (is_same-refl x)
+has-item [] i d within = absurd (omega (arith, within))
+has-item (x ∷ rest) zero d within = ap (λ (b : Bool). b || has rest x) (is_same-refl x)
+has-item (x ∷ rest) (suc i) d within =
+    or_right (is_same x (get_or rest i d)) (has rest (get_or rest i d)) (has-item rest i d (omega (arith, within)))
+
+-- the keys end with this one
+pub last_of : (keys : List NodeKey) (d : NodeKey) → 0 < length keys → keys ≡ take (length keys - 1) keys ++ get_or keys (length keys - 1) d ∷ []
+last_of keys d some =
+    let e : length keys ≡ (length keys - 1) + 1 = omega (arith, some) in
+    let within : length keys - 1 < length keys = omega (arith, some) in
+    sym (take_all (length keys) keys (omega arith))
+    ∙ ap (λ (n : ℕ). take n keys) e
+    ∙ take_more keys (length keys - 1) d within
+
+has-last : (front : List NodeKey) (x : NodeKey) → has (front ++ x ∷ []) x ≡ true
+unfolding has
+has-last [] x = ap (λ (b : Bool). b || false) (is_same-refl x)
+has-last (y ∷ ys) x = or_right (is_same y x) (has (ys ++ x ∷ []) x) (has-last ys x)
+
+alone_last : (front : List NodeKey) (x : NodeKey) → is_once (front ++ x ∷ []) ≡ true → has front x ≡ false
+unfolding has is_once
+alone_last [] x once = refl
+alone_last (y ∷ ys) x once =
+    let parts = and_parts (not (has (ys ++ x ∷ []) y)) (is_once (ys ++ x ∷ [])) once in
+    let apart : is_same y x ≡ false =
+    is_same-false y x
+    (λ e. both_ways _ (not-true _ parts.0) (ap (has (ys ++ x ∷ [])) e ∙ has-last ys x)) in
+    ap (λ (b : Bool). b || has ys x) apart ∙ alone_last ys x parts.1
+
+pub without-last : (front : List NodeKey) (x : NodeKey) → is_once (front ++ x ∷ []) ≡ true → without x (front ++ x ∷ []) ≡ front
+without-last front x once =
+    filter-append (λ (k : NodeKey). not (is_same k x)) front (x ∷ [])
+    ∙ ap (λ (l : List NodeKey). l ++ without x (x ∷ [])) (without-absent x front (alone_last front x once))
+    ∙ ap (λ (b : Bool). front ++ cond (not b) (x ∷ []) []) (is_same-refl x)
+    ∙ append-nil front

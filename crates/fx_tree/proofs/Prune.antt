@@ -1,6 +1,6 @@
 -- A subtree is freed leaf by leaf: what holds from leaf to leaf, and what is left at the end.
-use Rattle.std.proofs.Common.{◌≡◌, ◌≢◌, ℕ, ◌+◌, ◌<◌, ◌≤◌, Bool, true, false, not, cond, ◌==◌, ◌&&◌, ◌||◌, List, [], ◌∷◌, ◌++◌, length, filter, Option, Some, None, is_some, unwrap_or, count_by, refl, sym, ◌∙◌, ap, subst, inl, inr, ◌⊎◌, arith}
-use Rattle.std.proofs.lemmas.Bool.{cases_Bool, false≢true, both_ways, or_cases, or_right, and_parts, false_from_ne_true, true_from_ne_false, not-true}
+use Rattle.std.proofs.Common.{◌≡◌, ◌≢◌, ℕ, ◌+◌, ◌<◌, ◌≤◌, Bool, true, false, cond, ◌||◌, List, [], ◌∷◌, length, Option, Some, None, is_some, unwrap_or, count_by, refl, sym, ◌∙◌, ap, subst, inl, inr, arith}
+use Rattle.std.proofs.lemmas.Bool.{cases_Bool, false≢true, both_ways, or_cases, or_right, false_from_ne_true}
 use Rattle.std.proofs.lemmas.Option.{none-some, same_Some}
 use Rattle.fx_base.specs.declared.keys.NodeKey.{NodeKey}
 use Rattle.fx_tree.specs.declared.nodes.Stored.{Stored}
@@ -10,7 +10,7 @@ use Rattle.fx_tree.specs.Slots.{alive_at, up_at, below_at, line_at, seen_at, IsF
 use Rattle.fx_tree.proofs.Keys.{is_same-refl, is_same-true, is_same-false, is_same-sym, has-cons, has-nil, without-absent}
 use Rattle.fx_tree.proofs.Lines.{line_is, line_in-more}
 use Rattle.fx_tree.proofs.Walks.{deep}
-use Rattle.fx_tree.proofs.Listing.{IsSingle, seen_at-slot, seen_home, seen_alive, alive_seen, alive_up, alive_below}
+use Rattle.fx_tree.proofs.Listing.{seen_at-slot, seen_alive, alive_seen, alive_below}
 use Rattle.fx_tree.proofs.Forest.{line_known, IsForest-unlinked, IsTopmost-unlinked, IsForest-freed, IsTopmost-freed, IsNumbered-edited, IsNumbered-freed, lives_still, lived_before}
 
 pub record IsPruning (old now : List (Option Stored)) (top : NodeKey) : Type 0 where

@@ -1,13 +1,13 @@
 -- A walk of the tree meets each node once.
-use Rattle.std.proofs.Common.{◌≡◌, ℕ, zero, suc, ◌+◌, ◌<◌, ◌≤◌, Bool, true, false, not, cond, ◌&&◌, ◌||◌, List, [], ◌∷◌, ◌++◌, length, reverse, Option, Some, None, Contains, is_some, unwrap_or, refl, sym, ◌∙◌, ap, subst, inl, inr, ◌⊎◌, arith}
+use Rattle.std.proofs.Common.{◌≡◌, ℕ, zero, suc, ◌+◌, ◌≤◌, Bool, true, false, not, cond, ◌||◌, List, [], ◌∷◌, ◌++◌, length, reverse, Option, Some, None, Contains, unwrap_or, refl, sym, ◌∙◌, ap, subst, inl, inr, arith}
 use Rattle.std.specs.Option.{option_map}
 use Rattle.std.specs.List.{find, flat_map}
-use Rattle.std.proofs.lemmas.Bool.{cases_Bool, and_parts, and_from, both_ways, false≢true, false_from_ne_true, not-true, or_cases, or_right}
+use Rattle.std.proofs.lemmas.Bool.{cases_Bool, and_parts, and_from, both_ways, false_from_ne_true, not-true, or_cases, or_right}
 use Rattle.std.proofs.lemmas.List.{reverse-append}
 use Rattle.std.proofs.lemmas.Option.{none-some, same_Some}
 use Rattle.slab.proofs.SlabLemmas.{Contains-cons, Contains-cons_cases}
 use Rattle.fx_base.specs.declared.keys.NodeKey.{NodeKey}
-use Rattle.fx_tree.specs.Scene.{Node, Scene, IsLine, IsSound, children_of, children_or_none, has, is_alive, is_once, is_same, line, parent_of, path, subtree, subtree_in}
+use Rattle.fx_tree.specs.Scene.{Node, Scene, IsLine, IsSound, children_of, children_or_none, has, is_alive, is_once, is_same, line, parent_of, subtree, subtree_in}
 use Rattle.fx_tree.specs.History.{PathsMeetOnce, SubtreesMeetOnce}
 use Rattle.fx_tree.proofs.Keys.{has-cons, has-nil, is_same-refl, is_same-true}
 use Rattle.fx_tree.proofs.Lines.{line_is}

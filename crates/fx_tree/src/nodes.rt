@@ -1,9 +1,10 @@
 //! Nodes in their slots: each keeps its birth number, a link to its parent and the list of its children.
 //! The tree's calls stand on these functions over the slab.
-ghost use Rattle.std.specs.Prelude.{ℕ, ◌≡◌, ◌≢◌, ◌+◌, ◌<◌, ◌≤◌, ◌-◌, ◌++◌, [], Bool, true, not, length, insert, filter, is_some, Some, None, unwrap_or, slice_index_or, nat_lt, IsSome, OnOk, OnErr};
+ghost use Rattle.std.specs.Prelude.{ℕ, ◌≡◌, ◌≢◌, ◌+◌, ◌<◌, ◌≤◌, ◌-◌, ◌++◌, ◌∷◌, List, [], Bool, true, not, length, insert, filter, is_some, Some, None, unwrap_or, slice_index_or, nat_lt, IfSome, IsSome, OnOk, OnErr};
 ghost use Rattle.std.specs.Option.{option_map, option_copied};
+ghost use Rattle.fx_base.specs.declared.keys.NodeKey.{NodeKey};
 ghost use Rattle.slab.specs.Slab.{slab_len, get};
-ghost use Rattle.fx_tree.specs.Scene.{has, is_same, line_in, subtree_in, without};
+ghost use Rattle.fx_tree.specs.Scene.{has, is_once, is_same, line_in, subtree_in, without};
 ghost use Rattle.fx_tree.specs.Refusals.{is_held};
 ghost use Rattle.fx_tree.specs.Slots.{IsForest, IsFreed, IsLinked, IsPruned, IsUnlinked, alive_at, attach_refused, below_at, fits_in, line_at, node_at, seen_at, up_at};
 
@@ -63,10 +64,28 @@ impl Children {
         Ok(())
     }
 
+    /// Takes the child out, and where it is the last one doesn't go over the others.
     fn remove(&mut self, child: NodeKey)
+        requires { is_once self.old ≡ true }
         ensures { self.new ≡ without child self.old }
     {
+        if self.ends_with(child) {
+            self.keys.pop();
+            return;
+        }
         self.keys.retain(|key| !same_key(*key, child));
+    }
+}
+
+impl Children {
+    /// Whether the child is the last one.
+    fn ends_with(&self, child: NodeKey) -> bool
+        ensures { result ≡ true → (front : List NodeKey) × (self.now ≡ front ++ child ∷ []) }
+    {
+        match self.keys.as_slice() {
+            [] => false,
+            [.., last] => same_key(*last, child),
+        }
     }
 }
 
@@ -307,6 +326,7 @@ fn insert_child(
 
 /// Takes the child out of the parent's list.
 fn remove_child(nodes: &mut Slab<Stored>, parent: NodeKey, child: NodeKey)
+    requires { IfSome (get nodes.old parent.slot) (λ stored. is_once stored.children ≡ true) }
     ensures changed { get nodes.new parent.slot ≡ option_map (λ stored. record { birth = stored.birth; parent = stored.parent; children = without child stored.children }) (get nodes.old parent.slot) }
     ensures others { (other : ℕ) → other ≢ parent.slot → get nodes.new other ≡ get nodes.old other }
     ensures len { slab_len nodes.new ≡ slab_len nodes.old }
@@ -359,7 +379,7 @@ fn free(nodes: &mut Slab<Stored>, key: NodeKey)
 }
 
 /// A node without children that is this one or stands below it.
-fn first_leaf(nodes: &Slab<Stored>, key: NodeKey) -> NodeKey
+fn last_leaf(nodes: &Slab<Stored>, key: NodeKey) -> NodeKey
     requires forest { IsForest nodes.now.slots }
     requires alive { alive_at nodes.now.slots key ≡ true }
     ensures alive { alive_at nodes.now.slots result ≡ true }
@@ -370,7 +390,7 @@ fn first_leaf(nodes: &Slab<Stored>, key: NodeKey) -> NodeKey
     for _step in 0..MOST_DEEP {
         match children_in(nodes, at) {
             [] => return at,
-            [first, ..] => at = *first,
+            [.., last] => at = *last,
         }
     }
     unreachable!()
@@ -391,7 +411,7 @@ pub fn prune(nodes: &mut Slab<Stored>, top: NodeKey)
 {
     let mut at = top;
     while is_live(nodes, top) {
-        let leaf = first_leaf(nodes, at);
+        let leaf = last_leaf(nodes, at);
         at = parent_or_itself(nodes, leaf);
         unlink(nodes, leaf);
         free(nodes, leaf);

@@ -1,7 +1,7 @@
-use Rattle.std.proofs.Common.{◌≡◌, ◌+◌, ◌<◌, true, length}
+use Rattle.std.proofs.Common.{◌≡◌, ◌<◌, true, length}
 use Rattle.fx_tree.specs.Scene.{has}
 use Rattle.fx_tree.specs.Slots.{alive_at, line_at}
-use Rattle.fx_tree.proofs.nodes.first_leaf.Given as goal
+use Rattle.fx_tree.proofs.nodes.last_leaf.Given as goal
 
 abbrev pub invariant-loop-step : goal.invariant-loop-step
 invariant-loop-step l =

@@ -1,0 +1,14 @@
+//! A style sheet as it is read (CSS, Selectors Level 3): rules with selectors and declarations, where a sheet stands in
+//! the cascade, and what matching and the cascade hand on. Readers make it; selectors, the cascade and styles use it.
+#![tactic(auto)]
+
+mod declarations;
+mod selectors;
+mod sheets;
+
+pub use declarations::{Declaration, Declared, Found, FoundValue, Paint};
+pub use selectors::{Combinator, Compound, Selector};
+pub use sheets::{Candidate, Rule, Sheet, SheetAt, SheetOrigin};
+
+#[cfg(test)]
+mod tests;

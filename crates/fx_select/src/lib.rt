@@ -1,0 +1,9 @@
+//! Selectors (Selectors Level 3) over the facts of nodes: which nodes a selector matches, how specific it is, and an index
+//! that finds the rules of a list of sheets that match a node. The cascade goes over what is found here.
+#![tactic(auto)]
+
+mod matching;
+mod weights;
+
+pub use matching::matches;
+pub use weights::specificity;

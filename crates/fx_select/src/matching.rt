@@ -1,0 +1,144 @@
+//! Matching a selector (Selectors Level 3), from the last compound upwards.
+//! The index asks it of its candidates.
+ghost use Rattle.std.specs.Prelude.{◌≡◌, ◌<◌, length, reverse, slice_get, Some};
+ghost use Rattle.std.specs.List.{list_all};
+ghost use Rattle.std.specs.Str.{bytes_eq};
+ghost use Rattle.std.specs.Option.{ForSome};
+ghost use Rattle.fx_select.specs.Chains.{ParentsStandBefore, chain, upward};
+ghost use Rattle.fx_select.specs.Matching.{IsVerdict, fits, fits_kind, has_text, matches_before, matches_chain, matches_up, somewhere};
+
+use fx_base::Text;
+use fx_kinds::{Class, StyleFacts, name_of};
+use fx_sheet::{Combinator, Compound, Selector};
+
+/// Does the selector match the node at this place? A selector without compounds matches nothing.
+pub fn matches(selector: &Selector, facts: &[StyleFacts], at: usize) -> bool
+    requires before { ParentsStandBefore facts.now }
+    requires there { at < length facts.now }
+    ensures { result ≡ matches_chain selector.now (chain facts.now at) }
+{
+    match match_up(selector.compounds.as_slice(), facts, at) {
+        Match::Here => true,
+        Match::NotHere => false,
+        Match::Nowhere => false,
+    }
+}
+
+/// What trying compounds at a node tells of it and of its ancestors.
+#[derive(Clone, Copy)]
+enum Match {
+    /// They match there.
+    Here,
+    /// They don't match there.
+    NotHere,
+    /// They match neither there nor at any ancestor: some descendant step ran out of ancestors, of which a start further
+    /// up has fewer.
+    Nowhere,
+}
+
+/// Do these compounds match, the last of them at this node? Each descendant step settles for the nearest ancestor where
+/// what stands before it matches, so a selector costs at most its compounds times the node's ancestors.
+#[cycle(match_up)]
+fn match_up(compounds: &[Compound], facts: &[StyleFacts], at: usize) -> Match
+    requires before { ParentsStandBefore facts.now }
+    requires there { at < length facts.now }
+    ensures { IsVerdict (matches_up (reverse compounds.now)) (chain facts.now at) result }
+{
+    let Some((last, before)) = compounds.split_last() else {
+        return Match::Nowhere;
+    };
+    let node = node_at(facts, at);
+    if !fits(last, node) {
+        return Match::NotHere;
+    }
+    match_before(last.combinator, before, facts, node.parent)
+}
+
+/// Do these compounds match by the combinator behind them, above a node with this parent?
+#[cycle(match_up)]
+fn match_before(
+    combinator: Option<Combinator>,
+    before: &[Compound],
+    facts: &[StyleFacts],
+    parent: Option<usize>,
+) -> Match
+    requires before { ParentsStandBefore facts.now }
+    requires there { ForSome parent (λ p. p < length facts.now) }
+    ensures { IsVerdict (matches_before combinator (matches_up (reverse before.now))) (upward facts.now parent) result }
+{
+    let Some(combinator) = combinator else {
+        return Match::Here;
+    };
+    match combinator {
+        Combinator::Child => match_parent(before, facts, parent),
+        Combinator::Descendant => match_ancestor(before, facts, parent),
+    }
+}
+
+#[cycle(match_up)]
+fn match_parent(before: &[Compound], facts: &[StyleFacts], parent: Option<usize>) -> Match
+    requires before { ParentsStandBefore facts.now }
+    requires there { ForSome parent (λ p. p < length facts.now) }
+    ensures { IsVerdict (matches_up (reverse before.now)) (upward facts.now parent) result }
+{
+    match parent {
+        None => Match::Nowhere,
+        Some(place) => match_up(before, facts, place),
+    }
+}
+
+#[cycle(match_up)]
+fn match_ancestor(before: &[Compound], facts: &[StyleFacts], parent: Option<usize>) -> Match
+    requires before { ParentsStandBefore facts.now }
+    requires there { ForSome parent (λ p. p < length facts.now) }
+    ensures { IsVerdict (somewhere (matches_up (reverse before.now))) (upward facts.now parent) result }
+{
+    let mut above = parent;
+    while let Some(place) = above {
+        match match_up(before, facts, place) {
+            Match::Here => return Match::Here,
+            Match::Nowhere => return Match::Nowhere,
+            Match::NotHere => above = node_at(facts, place).parent,
+        }
+    }
+    Match::Nowhere
+}
+
+fn node_at(facts: &[StyleFacts], at: usize) -> &StyleFacts
+    requires { at < length facts.now }
+    ensures { slice_get facts.now at ≡ Some result.now }
+{
+    &facts[at]
+}
+
+/// Has the node all that the compound names?
+#[tactic(auto, unfolding(crate::specs::Matching::fits))]
+fn fits(compound: &Compound, node: &StyleFacts) -> bool
+    ensures { result ≡ fits compound.now node.now }
+{
+    fits_kind(&compound.kind, node.class)
+        && has_each(node.classes.as_slice(), compound.classes.as_slice())
+        && is_each(&node.id, compound.ids.as_slice())
+        && has_each(node.pseudos.as_slice(), compound.pseudos.as_slice())
+}
+
+fn fits_kind(kind: &Option<Text>, class: Class) -> bool
+    ensures { result ≡ fits_kind kind.now class }
+{
+    match kind {
+        None => true,
+        Some(kind) => kind.as_str() == name_of(class),
+    }
+}
+
+fn has_each(texts: &[Text], wanted: &[Text]) -> bool
+    ensures { result ≡ list_all (has_text texts.now) wanted.now }
+{
+    wanted.iter().all(|text| texts.contains(text))
+}
+
+fn is_each(id: &Text, wanted: &[Text]) -> bool
+    ensures { result ≡ list_all (λ other. bytes_eq other id.now) wanted.now }
+{
+    wanted.iter().all(|other| *other == *id)
+}

@@ -1,3 +1,4 @@
 pub mod ChainLemmas
 pub mod ClimbLemmas
 pub mod MatchLemmas
+pub mod NamedLemmas

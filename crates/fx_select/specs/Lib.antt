@@ -1,3 +1,4 @@
 pub mod Chains
 pub mod Matching
+pub mod Named
 pub mod Specificity

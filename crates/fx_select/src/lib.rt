@@ -2,8 +2,10 @@
 //! that finds the rules of a list of sheets that match a node. The cascade goes over what is found here.
 #![tactic(auto)]
 
+mod lists;
 mod matching;
 mod weights;
 
+pub use lists::{NamedLists, SelectorAt};
 pub use matching::matches;
 pub use weights::specificity;

@@ -1,4 +1,5 @@
 pub mod ChainLemmas
 pub mod ClimbLemmas
+pub mod ListingLemmas
 pub mod MatchLemmas
 pub mod NamedLemmas

@@ -2,10 +2,12 @@
 //! that finds the rules of a list of sheets that match a node. The cascade goes over what is found here.
 #![tactic(auto)]
 
+mod index;
 mod lists;
 mod matching;
 mod weights;
 
-pub use lists::{NamedLists, SelectorAt};
+pub use index::RuleIndex;
+pub use lists::SelectorAt;
 pub use matching::matches;
 pub use weights::specificity;

@@ -1,0 +1,141 @@
+//! The rules of a list of sheets by what a node must have to be matched (an id, a class, a type).
+//! Styling asks it for the rules that match a node.
+ghost use Rattle.std.specs.Prelude.{◌≡◌, ◌++◌, OnOk, IfOk, [], ◌∷◌};
+ghost use Rattle.fx_select.specs.Keys.{Key, InRest, key_of, key_of_compound};
+ghost use Rattle.fx_select.specs.Listing.{IsListing, listed, rule_entries, selector_entries, sheet_entries, under_key, with_added};
+
+use crate::lists::{NamedLists, SelectorAt};
+use fx_sheet::{Compound, Rule, Selector, SheetAt};
+use std::alloc::{AllocError, Global};
+use std::marker::Model;
+
+/// The selectors of a list of sheets, each listed once: under the first id of its last compound, else under its first
+/// class, else under its type, else in the rest. A rule without selector stands in the rest.
+#[derive(Drop)]
+pub struct RuleIndex {
+    ids: NamedLists,
+    classes: NamedLists,
+    kinds: NamedLists,
+    rest: Vec<SelectorAt>,
+}
+
+impl Model for RuleIndex {
+    ghost use Rattle.fx_select.specs.Listing.{Listing};
+
+    ghost Value = { Listing };
+
+    ghost view = { λ i. record { ids = i.ids; classes = i.classes; kinds = i.kinds; rest = i.rest.items } };
+}
+
+impl RuleIndex {
+    /// The index of these sheets.
+    pub fn build(alloc: Global, sheets: &[SheetAt]) -> Result<RuleIndex, AllocError>
+        ensures { IfOk result (λ index. IsListing sheets.now index) }
+    {
+        let mut index = RuleIndex::empty(alloc);
+        for (place, sheet) in sheets.iter().enumerate() {
+            index.list_sheet(alloc, place, sheet.sheet.rules.as_slice())?;
+        }
+        Ok(index)
+    }
+
+    fn empty(alloc: Global) -> RuleIndex
+        ensures { (key : Key) → listed result key ≡ [] }
+    {
+        RuleIndex {
+            ids: NamedLists::new(alloc),
+            classes: NamedLists::new(alloc),
+            kinds: NamedLists::new(alloc),
+            rest: Vec::new(alloc),
+        }
+    }
+
+    fn list_sheet(&mut self, alloc: Global, sheet: usize, rules: &[Rule]) -> Result<(), AllocError>
+        ensures { OnOk result ((key : Key) → listed self.new key ≡ listed self.old key ++ under_key key (sheet_entries sheet rules.now)) }
+    {
+        for (place, rule) in rules.iter().enumerate() {
+            self.list_rule(alloc, sheet, place, rule.selectors.as_slice())?;
+        }
+        Ok(())
+    }
+
+    fn list_rule(
+        &mut self,
+        alloc: Global,
+        sheet: usize,
+        rule: usize,
+        selectors: &[Selector],
+    ) -> Result<(), AllocError>
+        ensures { OnOk result ((key : Key) → listed self.new key ≡ listed self.old key ++ under_key key (rule_entries sheet rule selectors.now)) }
+    {
+        if selectors.is_empty() {
+            return self.list_rest(SelectorAt {
+                sheet,
+                rule,
+                selector: None,
+            });
+        }
+        self.list_selectors(alloc, sheet, rule, selectors)
+    }
+
+    fn list_selectors(
+        &mut self,
+        alloc: Global,
+        sheet: usize,
+        rule: usize,
+        selectors: &[Selector],
+    ) -> Result<(), AllocError>
+        ensures { OnOk result ((key : Key) → listed self.new key ≡ listed self.old key ++ under_key key (selector_entries sheet rule selectors.now)) }
+    {
+        for (place, selector) in selectors.iter().enumerate() {
+            let at = SelectorAt {
+                sheet,
+                rule,
+                selector: Some(place),
+            };
+            self.list_selector(alloc, selector, at)?;
+        }
+        Ok(())
+    }
+
+    fn list_selector(
+        &mut self,
+        alloc: Global,
+        selector: &Selector,
+        at: SelectorAt,
+    ) -> Result<(), AllocError>
+        ensures { OnOk result ((key : Key) → listed self.new key ≡ with_added (listed self.old) (key_of selector.now) at key) }
+    {
+        match selector.compounds.as_slice().split_last() {
+            Some((last, _)) => self.list_compound(alloc, last, at),
+            None => self.list_rest(at),
+        }
+    }
+
+    fn list_compound(
+        &mut self,
+        alloc: Global,
+        last: &Compound,
+        at: SelectorAt,
+    ) -> Result<(), AllocError>
+        ensures { OnOk result ((key : Key) → listed self.new key ≡ with_added (listed self.old) (key_of_compound last.now) at key) }
+    {
+        if let Some(id) = last.ids.as_slice().first() {
+            return self.ids.add(alloc, id.as_str(), at);
+        }
+        if let Some(class) = last.classes.as_slice().first() {
+            return self.classes.add(alloc, class.as_str(), at);
+        }
+        match &last.kind {
+            Some(kind) => self.kinds.add(alloc, kind.as_str(), at),
+            None => self.list_rest(at),
+        }
+    }
+
+    fn list_rest(&mut self, at: SelectorAt) -> Result<(), AllocError>
+        ensures { OnOk result ((key : Key) → listed self.new key ≡ with_added (listed self.old) InRest at key) }
+    {
+        self.rest.push(at)?;
+        Ok(())
+    }
+}

@@ -1,6 +1,10 @@
 pub mod Chains
+pub mod Hits
 pub mod Keys
 pub mod Listing
 pub mod Matching
 pub mod Named
+pub mod Noted
+pub mod Short
 pub mod Specificity
+pub mod Strongest

@@ -2,6 +2,7 @@
 //! that finds the rules of a list of sheets that match a node. The cascade goes over what is found here.
 #![tactic(auto)]
 
+mod hits;
 mod index;
 mod lists;
 mod matching;

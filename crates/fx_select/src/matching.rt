@@ -104,7 +104,7 @@ fn match_ancestor(before: &[Compound], facts: &[StyleFacts], parent: Option<usiz
     Match::Nowhere
 }
 
-fn node_at(facts: &[StyleFacts], at: usize) -> &StyleFacts
+pub fn node_at(facts: &[StyleFacts], at: usize) -> &StyleFacts
     requires { at < length facts.now }
     ensures { slice_get facts.now at ≡ Some result.now }
 {

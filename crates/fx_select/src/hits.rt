@@ -1,0 +1,184 @@
+//! Listed selectors that match a node, as candidates for the cascade.
+//! The index collects them and gives each of their rules once.
+ghost use Rattle.std.specs.Prelude.{◌≡◌, ◌++◌, ◌<◌, ◌≤◌, ◌==◌, length, OnOk, All};
+ghost use Rattle.std.specs.List.{filter_map, list_any};
+ghost use Rattle.std.specs.Option.{option_to_list};
+ghost use Rattle.fx_select.specs.Chains.{ParentsStandBefore, chain};
+ghost use Rattle.fx_select.specs.Hits.{bare_weight, hit_in, hit_of, is_inline, is_own, is_visible, lists_sheet, selector_weight, weight_at};
+ghost use Rattle.fx_select.specs.Short.{AreShort, AreShortRules, AreShortSelectors};
+ghost use Rattle.fx_select.specs.Specificity.{part_count};
+
+use crate::lists::SelectorAt;
+use crate::matching::{matches, node_at};
+use crate::weights::specificity;
+use fx_kinds::StyleFacts;
+use fx_sheet::{Candidate, Selector, SheetAt};
+use std::alloc::AllocError;
+
+/// Puts those of the selectors behind the hits that match the node at this place.
+pub fn push_hits(
+    hits: &mut Vec<Candidate>,
+    listed: &[SelectorAt],
+    sheets: &[SheetAt],
+    facts: &[StyleFacts],
+    at: usize,
+) -> Result<(), AllocError>
+    requires before { ParentsStandBefore facts.now }
+    requires there { at < length facts.now }
+    requires short { AreShort sheets.now }
+    ensures { OnOk result (hits.new.items ≡ hits.old.items ++ filter_map (hit_of sheets.now (chain facts.now at)) listed.now) }
+{
+    for selector in listed {
+        push_hit(hits, hit_of(*selector, sheets, facts, at))?;
+    }
+    Ok(())
+}
+
+fn push_hit(hits: &mut Vec<Candidate>, hit: Option<Candidate>) -> Result<(), AllocError>
+    ensures { OnOk result (hits.new.items ≡ hits.old.items ++ option_to_list hit) }
+{
+    match hit {
+        Some(hit) => {
+            hits.push(hit)?;
+            Ok(())
+        }
+        None => Ok(()),
+    }
+}
+
+#[tactic(auto, unfolding(crate::specs::Hits::hit_of))]
+fn hit_of(
+    listed: SelectorAt,
+    sheets: &[SheetAt],
+    facts: &[StyleFacts],
+    at: usize,
+) -> Option<Candidate>
+    requires before { ParentsStandBefore facts.now }
+    requires there { at < length facts.now }
+    requires short { AreShort sheets.now }
+    ensures { result ≡ hit_of sheets.now (chain facts.now at) listed }
+{
+    let sheet = sheets.get(listed.sheet)?;
+    hit_in(listed, sheet, facts, at)
+}
+
+#[tactic(auto, unfolding(crate::specs::Hits::hit_in))]
+fn hit_in(listed: SelectorAt, sheet: &SheetAt, facts: &[StyleFacts], at: usize) -> Option<Candidate>
+    requires before { ParentsStandBefore facts.now }
+    requires there { at < length facts.now }
+    requires short { AreShortRules sheet.now.sheet.rules }
+    ensures { result ≡ hit_in (chain facts.now at) listed sheet.now }
+{
+    let rule = sheet.sheet.rules.as_slice().get(listed.rule)?;
+    let selectors = rule.selectors.as_slice();
+    let specificity = weight_at(listed.selector, listed.sheet, selectors, facts, at)?;
+    Some(Candidate {
+        sheet: listed.sheet,
+        rule: listed.rule,
+        specificity,
+        origin: sheet.origin,
+    })
+}
+
+#[tactic(auto, unfolding(crate::specs::Hits::weight_at))]
+fn weight_at(
+    place: Option<usize>,
+    sheet: usize,
+    selectors: &[Selector],
+    facts: &[StyleFacts],
+    at: usize,
+) -> Option<(u32, u32, u32)>
+    requires before { ParentsStandBefore facts.now }
+    requires there { at < length facts.now }
+    requires short { AreShortSelectors selectors.now }
+    ensures { result ≡ weight_at (chain facts.now at) sheet selectors.now place }
+{
+    match place {
+        Some(place) => selector_weight(selectors.get(place)?, sheet, facts, at),
+        None => bare_weight(sheet, selectors, facts, at),
+    }
+}
+
+#[tactic(auto, unfolding(crate::specs::Hits::selector_weight))]
+fn selector_weight(
+    selector: &Selector,
+    sheet: usize,
+    facts: &[StyleFacts],
+    at: usize,
+) -> Option<(u32, u32, u32)>
+    requires before { ParentsStandBefore facts.now }
+    requires there { at < length facts.now }
+    requires short { part_count selector.now ≤ 4194304 }
+    ensures { result ≡ selector_weight (chain facts.now at) sheet selector.now }
+{
+    if matches(selector, facts, at) && is_visible(sheet, facts, at) {
+        Some(specificity(selector))
+    } else {
+        None
+    }
+}
+
+fn bare_weight(
+    sheet: usize,
+    selectors: &[Selector],
+    facts: &[StyleFacts],
+    at: usize,
+) -> Option<(u32, u32, u32)>
+    requires before { ParentsStandBefore facts.now }
+    requires there { at < length facts.now }
+    ensures { result ≡ bare_weight (chain facts.now at) sheet selectors.now }
+{
+    if selectors.is_empty() && is_own(sheet, facts, at) {
+        Some((0, 0, 0))
+    } else {
+        None
+    }
+}
+
+/// Is the sheet the node's inline sheet, or one that the node or an ancestor lists?
+fn is_visible(sheet: usize, facts: &[StyleFacts], at: usize) -> bool
+    requires before { ParentsStandBefore facts.now }
+    requires there { at < length facts.now }
+    ensures { result ≡ is_visible (chain facts.now at) sheet }
+{
+    is_own(sheet, facts, at) || is_listed(sheet, facts, at)
+}
+
+fn is_own(sheet: usize, facts: &[StyleFacts], at: usize) -> bool
+    requires before { ParentsStandBefore facts.now }
+    requires there { at < length facts.now }
+    ensures { result ≡ is_own (chain facts.now at) sheet }
+{
+    is_inline(node_at(facts, at), sheet)
+}
+
+fn is_inline(node: &StyleFacts, sheet: usize) -> bool
+    ensures { result ≡ is_inline node.now sheet }
+{
+    match node.inline {
+        Some(own) => own == sheet,
+        None => false,
+    }
+}
+
+fn is_listed(sheet: usize, facts: &[StyleFacts], at: usize) -> bool
+    requires before { ParentsStandBefore facts.now }
+    requires there { at < length facts.now }
+    ensures { result ≡ list_any (lists_sheet sheet) (chain facts.now at) }
+{
+    let mut above = Some(at);
+    while let Some(place) = above {
+        let node = node_at(facts, place);
+        if lists_sheet(node, sheet) {
+            return true;
+        }
+        above = node.parent;
+    }
+    false
+}
+
+fn lists_sheet(node: &StyleFacts, sheet: usize) -> bool
+    ensures { result ≡ lists_sheet sheet node.now }
+{
+    node.sheets.as_slice().contains(&sheet)
+}

@@ -4,3 +4,7 @@ pub mod HitLemmas
 pub mod ListingLemmas
 pub mod MatchLemmas
 pub mod NamedLemmas
+pub mod NotedLemmas
+pub mod OrderLemmas
+pub mod RuleLemmas
+pub mod StrongestLemmas

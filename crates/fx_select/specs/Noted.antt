@@ -1,5 +1,6 @@
 -- One more hit among the rules that were hit so far.
-use Rattle.std.specs.Prelude.{ℕ, ◌==◌, nat_lt, Bool, ◌&&◌, ◌||◌, List, [], ◌∷◌, if◌then◌else◌}
+use Rattle.std.specs.Prelude.{ℕ, ◌==◌, nat_lt, Bool, false, ◌&&◌, ◌||◌, List, [], ◌∷◌, fold, slice_get, if◌then◌else◌}
+use Rattle.std.specs.Option.{option_map_or}
 use Rattle.fx_sheet.specs.declared.sheets.Candidate.{Candidate}
 use Rattle.fx_select.specs.Strongest.{greater}
 
@@ -19,3 +20,11 @@ unfoldable pub noted : Candidate → List Candidate → List Candidate
 noted hit [] = hit ∷ []
 noted hit (one ∷ more) =
     if is_before one hit then one ∷ noted hit more else (if is_same_rule one hit then raised one hit ∷ more else hit ∷ one ∷ more)
+
+-- the rule of the hit stands at this place
+abbrev pub has_rule : List Candidate → ℕ → Candidate → Bool
+has_rule found place hit = option_map_or (λ (one : Candidate). is_same_rule one hit) (slice_get found place) false
+
+-- all hits one after another
+abbrev pub note_all : List Candidate → List Candidate
+note_all hits = fold (λ (found : List Candidate) (hit : Candidate). noted hit found) [] hits

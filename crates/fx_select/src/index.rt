@@ -1,11 +1,21 @@
 //! The rules of a list of sheets by what a node must have to be matched (an id, a class, a type).
 //! Styling asks it for the rules that match a node.
-ghost use Rattle.std.specs.Prelude.{◌≡◌, ◌++◌, OnOk, IfOk, [], ◌∷◌};
-ghost use Rattle.fx_select.specs.Keys.{Key, InRest, key_of, key_of_compound};
+ghost use Rattle.std.specs.Prelude.{◌≡◌, ◌++◌, ◌<◌, length, map, OnOk, IfOk, []};
+ghost use Rattle.std.specs.List.{filter_map, flat_map};
+ghost use Rattle.fx_select.specs.Chains.{ParentsStandBefore, chain};
+ghost use Rattle.fx_select.specs.Hits.{hit_of, hits_of};
+ghost use Rattle.fx_select.specs.Keys.{ByClass, Key, InRest, key_of, key_of_compound};
+ghost use Rattle.fx_select.specs.Short.{AreShort};
+ghost use Rattle.fx_select.specs.Strongest.{matched_of};
 ghost use Rattle.fx_select.specs.Listing.{IsListing, listed, rule_entries, selector_entries, sheet_entries, under_key, with_added};
 
+use crate::hits::push_hits;
 use crate::lists::{NamedLists, SelectorAt};
-use fx_sheet::{Compound, Rule, Selector, SheetAt};
+use crate::matching::node_at;
+use crate::strongest::strongest;
+use fx_base::Text;
+use fx_kinds::{StyleFacts, name_of};
+use fx_sheet::{Candidate, Compound, Rule, Selector, SheetAt};
 use std::alloc::{AllocError, Global};
 use std::marker::Model;
 
@@ -25,6 +35,79 @@ impl Model for RuleIndex {
     ghost Value = { Listing };
 
     ghost view = { λ i. record { ids = i.ids; classes = i.classes; kinds = i.kinds; rest = i.rest.items } };
+}
+
+impl RuleIndex {
+    /// The rules that match the node at this place, in order of sheet and rule, each once with the greatest specificity of
+    /// its selectors that match. `sheets` are those that the index was built of.
+    pub fn matched(
+        &self,
+        alloc: Global,
+        sheets: &[SheetAt],
+        facts: &[StyleFacts],
+        at: usize,
+    ) -> Result<Vec<Candidate>, AllocError>
+        requires before { ParentsStandBefore facts.now }
+        requires there { at < length facts.now }
+        requires short { AreShort sheets.now }
+        ensures { IfOk result (λ found. found.items ≡ matched_of self.now sheets.now facts.now at) }
+    {
+        let hits = self.hits(alloc, sheets, facts, at)?;
+        strongest(alloc, hits.as_slice())
+    }
+
+    fn hits(
+        &self,
+        alloc: Global,
+        sheets: &[SheetAt],
+        facts: &[StyleFacts],
+        at: usize,
+    ) -> Result<Vec<Candidate>, AllocError>
+        requires before { ParentsStandBefore facts.now }
+        requires there { at < length facts.now }
+        requires short { AreShort sheets.now }
+        ensures { IfOk result (λ hits. hits.items ≡ hits_of self.now sheets.now (chain facts.now at)) }
+    {
+        let node = node_at(facts, at);
+        let mut hits = Vec::new(alloc);
+        push_hits(
+            &mut hits,
+            self.ids.under(node.id.as_str()),
+            sheets,
+            facts,
+            at,
+        )?;
+        self.push_class_hits(&mut hits, node.classes.as_slice(), sheets, facts, at)?;
+        push_hits(
+            &mut hits,
+            self.kinds.under(name_of(node.class)),
+            sheets,
+            facts,
+            at,
+        )?;
+        push_hits(&mut hits, self.rest.as_slice(), sheets, facts, at)?;
+        Ok(hits)
+    }
+
+    fn push_class_hits(
+        &self,
+        hits: &mut Vec<Candidate>,
+        classes: &[Text],
+        sheets: &[SheetAt],
+        facts: &[StyleFacts],
+        at: usize,
+    ) -> Result<(), AllocError>
+        requires before { ParentsStandBefore facts.now }
+        requires there { at < length facts.now }
+        requires short { AreShort sheets.now }
+        ensures { OnOk result (hits.new.items ≡ hits.old.items
+            ++ filter_map (hit_of sheets.now (chain facts.now at)) (flat_map (listed self.now) (map ByClass classes.now))) }
+    {
+        for class in classes {
+            push_hits(hits, self.classes.under(class.as_str()), sheets, facts, at)?;
+        }
+        Ok(())
+    }
 }
 
 impl RuleIndex {

@@ -6,6 +6,7 @@ mod hits;
 mod index;
 mod lists;
 mod matching;
+mod strongest;
 mod weights;
 
 pub use index::RuleIndex;

@@ -1,0 +1,34 @@
+use Rattle.std.proofs.Common.{◌≡◌, ◌++◌, ℕ, List, map, sym, ◌∙◌, ap}
+use Rattle.std.specs.List.{filter_map, flat_map}
+use Rattle.fx_sheet.specs.declared.sheets.Candidate.{Candidate}
+use Rattle.fx_kinds.specs.Classes.{name_of}
+use Rattle.fx_select.specs.Chains.{chain, upward}
+use Rattle.fx_select.specs.Hits.{hit_of}
+use Rattle.fx_select.specs.Keys.{ByClass, ById, ByKind, InRest}
+use Rattle.fx_select.specs.Listing.{Listing, listed}
+use Rattle.fx_select.specs.Named.{under}
+use Rattle.fx_select.proofs.ChainLemmas.{upward-some}
+use Rattle.fx_select.proofs.HitLemmas.{hits_of-step, joined-hits}
+use Rattle.fx_select.proofs.index.RuleIndex.hits.Goals as goal
+
+pub returns : goal.returns
+returns c =
+    let facts = c.args.facts.now in
+    let node = c.node_at-node.result.now in
+    let inside = c.self.inside in
+    let listing = c.args.self.now in
+    joined-hits (hit_of c.args.sheets.now (chain facts c.args.at)) (listed listing) node.id (name_of node.class) node.classes
+    c.new-hits.result.items c.push_hits.new.hits.items c.push_class_hits.new.hits.items c.push_hits-2.new.hits.items c.push_hits-3.new.hits.items
+    c.under.result.now c.under-2.result.now c.as_slice-2.result.now
+    c.new-hits.ensures.items
+    c.in_ok-push_hits.ensures
+    (c.in_ok-push_class_hits.ensures
+    ∙ ap (λ (cs : List (List ℕ)). c.push_hits.new.hits.items
+    ++ filter_map (hit_of c.args.sheets.now (chain facts c.args.at)) (flat_map (listed listing) (map ByClass cs))) c.as_slice.ensures)
+    c.in_ok-push_hits-2.ensures
+    c.in_ok-push_hits-3.ensures
+    (c.under.ensures ∙ ap (under inside.ids) c.as_str.ensures.text ∙ ap (λ (l : Listing). listed l (ById node.id)) c.self.view_is)
+    (c.under-2.ensures ∙ ap (under inside.kinds) c.name_of.ensures ∙ ap (λ (l : Listing). listed l (ByKind (name_of node.class))) c.self.view_is)
+    (c.as_slice-2.ensures.value ∙ ap (λ (l : Listing). l.rest) c.self.view_is)
+    ∙ sym (hits_of-step listing c.args.sheets.now (chain facts c.args.at) node (upward facts node.parent)
+    (upward-some facts c.requires.before c.args.at node c.node_at-node.ensures))

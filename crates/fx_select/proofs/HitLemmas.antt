@@ -13,7 +13,7 @@ use Rattle.fx_select.specs.Hits.{hit_of, hits_of, keys_of}
 use Rattle.fx_select.specs.Keys.{Key, ByClass, ById, ByKind, InRest}
 use Rattle.fx_select.specs.Listing.{Listing, listed}
 
-filter_map-one : {X Y : Type 0} (h : X → Option Y) (x : X) (o : Option Y) → h x ≡ o → filter_map h (x ∷ []) ≡ option_to_list o
+pub filter_map-one : {X Y : Type 0} (h : X → Option Y) (x : X) (o : Option Y) → h x ≡ o → filter_map h (x ∷ []) ≡ option_to_list o
 filter_map-one h x None is = rw is refl
 filter_map-one h x (Some y) is = rw is refl
 

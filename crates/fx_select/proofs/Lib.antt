@@ -1,10 +1,14 @@
 pub mod ChainLemmas
 pub mod ClimbLemmas
 pub mod HitLemmas
+pub mod KeyLemmas
+pub mod LawLemmas
 pub mod ListingLemmas
 pub mod MatchLemmas
+pub mod MemberLemmas
 pub mod NamedLemmas
 pub mod NotedLemmas
 pub mod OrderLemmas
 pub mod RuleLemmas
 pub mod StrongestLemmas
+pub mod WeightLemmas

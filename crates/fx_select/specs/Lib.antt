@@ -1,3 +1,4 @@
+pub mod AllMatching
 pub mod Chains
 pub mod Hits
 pub mod Keys

@@ -1,13 +1,16 @@
 //! The rules of a list of sheets by what a node must have to be matched (an id, a class, a type).
 //! Styling asks it for the rules that match a node.
-ghost use Rattle.std.specs.Prelude.{◌≡◌, ◌++◌, ◌<◌, length, map, OnOk, IfOk, []};
+ghost use Rattle.std.specs.Prelude.{◌≡◌, ◌++◌, ◌<◌, ℕ, List, length, map, OnOk, IfOk, []};
 ghost use Rattle.std.specs.List.{filter_map, flat_map};
+ghost use Rattle.fx_kinds.specs.declared.facts.StyleFacts.{StyleFacts as StyleFactsValue};
+ghost use Rattle.fx_sheet.specs.declared.sheets.SheetAt.{SheetAt as SheetValue};
 ghost use Rattle.fx_select.specs.Chains.{ParentsStandBefore, chain};
 ghost use Rattle.fx_select.specs.Hits.{hit_of, hits_of};
 ghost use Rattle.fx_select.specs.Keys.{ByClass, Key, InRest, key_of, key_of_compound};
 ghost use Rattle.fx_select.specs.Short.{AreShort};
 ghost use Rattle.fx_select.specs.Strongest.{matched_of};
-ghost use Rattle.fx_select.specs.Listing.{IsListing, listed, rule_entries, selector_entries, sheet_entries, under_key, with_added};
+ghost use Rattle.fx_select.specs.AllMatching.{matching_of};
+ghost use Rattle.fx_select.specs.Listing.{IsListing, Listing, listed, rule_entries, selector_entries, sheet_entries, under_key, with_added};
 
 use crate::hits::push_hits;
 use crate::lists::{NamedLists, SelectorAt};
@@ -36,6 +39,14 @@ impl Model for RuleIndex {
 
     ghost view = { λ i. record { ids = i.ids; classes = i.classes; kinds = i.kinds; rest = i.rest.items } };
 }
+
+/// Over the sheets that an index was built of, the rules that it gives are all that match: those of every sheet that the
+/// node sees, in their order, each once with the greatest specificity of its selectors that match.
+pub fn all_matched()
+    ensures { (sheets : List SheetValue) (listing : Listing) (facts : List StyleFactsValue) (at : ℕ)
+        → ParentsStandBefore facts → at < length facts → IsListing sheets listing
+        → matched_of listing sheets facts at ≡ matching_of sheets facts at }
+{}
 
 impl RuleIndex {
     /// The rules that match the node at this place, in order of sheet and rule, each once with the greatest specificity of

@@ -9,7 +9,7 @@ mod matching;
 mod strongest;
 mod weights;
 
-pub use index::RuleIndex;
+pub use index::{RuleIndex, all_matched};
 pub use lists::SelectorAt;
 pub use matching::matches;
 pub use weights::specificity;

@@ -13,3 +13,6 @@ pub use index::{RuleIndex, all_matched};
 pub use lists::SelectorAt;
 pub use matching::matches;
 pub use weights::specificity;
+
+#[cfg(test)]
+mod tests;

@@ -1,12 +1,12 @@
 -- One step of a try at a node of a list of facts.
-use Rattle.std.proofs.Common.{◌≡◌, ℕ, ◌<◌, Bool, true, false, List, [], ◌∷◌, ◌++◌, length, reverse, Option, Some, None, refl, sym, ◌∙◌, ap, subst, inl, inr, arith}
+use Rattle.std.proofs.Common.{◌≡◌, ℕ, ◌<◌, Bool, true, false, List, [], ◌∷◌, ◌++◌, length, reverse, Some, sym, ◌∙◌, ap, subst, inl, inr, arith}
 use Rattle.std.specs.Prelude.{slice_get}
 use Rattle.std.proofs.lemmas.Option.{slice_get_cases}
 use Rattle.std.proofs.lemmas.List.{reverse-append}
 use Rattle.fx_sheet.specs.declared.selectors.Compound.{Compound}
 use Rattle.fx_kinds.specs.declared.facts.StyleFacts.{StyleFacts}
 use Rattle.fx_select.specs.declared.matching.Match.{Match}
-use Rattle.fx_select.specs.declared.matching.Match.TheVariants.{Here, NotHere, Nowhere}
+use Rattle.fx_select.specs.declared.matching.Match.TheVariants.{Nowhere}
 use Rattle.fx_select.specs.Chains.{ParentsStandBefore, chain, upward}
 use Rattle.fx_select.specs.Matching.{IsVerdict, fits, matches_before, matches_up, somewhere}
 use Rattle.fx_select.proofs.ChainLemmas.{upward-some}

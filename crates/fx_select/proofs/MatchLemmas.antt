@@ -1,6 +1,6 @@
 -- What a try at a node says of its ancestors.
-use Rattle.std.proofs.Common.{◌≡◌, ℕ, Bool, true, false, ◌&&◌, ◌||◌, List, [], ◌∷◌, Option, Some, None, refl, sym, ◌∙◌, ap}
-use Rattle.std.proofs.lemmas.Bool.{cases_Bool, false≢true}
+use Rattle.std.proofs.Common.{◌≡◌, Bool, true, false, ◌&&◌, ◌||◌, List, [], ◌∷◌, Option, Some, None, refl, sym, ◌∙◌, ap}
+use Rattle.std.proofs.lemmas.Bool.{false≢true}
 use Rattle.fx_sheet.specs.declared.selectors.Combinator.{Combinator}
 use Rattle.fx_sheet.specs.declared.selectors.Combinator.TheVariants.{Descendant, Child}
 use Rattle.fx_sheet.specs.declared.selectors.Compound.{Compound}

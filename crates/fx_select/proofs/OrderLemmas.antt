@@ -1,5 +1,5 @@
 -- The order of rules by sheet and rule, as tests tell it.
-use Rattle.std.proofs.Common.{◌≡◌, ℕ, ◌<◌, ◌⊎◌, inl, inr, Bool, true, false, ◌&&◌, ◌||◌, ltb, eqb, refl, arith}
+use Rattle.std.proofs.Common.{◌≡◌, ℕ, ◌<◌, ◌⊎◌, inl, inr, true, false, ◌&&◌, ◌||◌, ltb, eqb, arith}
 use Rattle.std.proofs.lemmas.Bool.Decides.{nat_tests}
 
 -- by the first number, then by the second

@@ -1,5 +1,5 @@
 -- What an index of rules lists, and what it lists of a list of sheets.
-use Rattle.std.specs.Prelude.{ℕ, ◌≡◌, Bool, List, [], ◌∷◌, ◌++◌, map, filter, Option, Some, None, if◌then◌else◌}
+use Rattle.std.specs.Prelude.{ℕ, ◌≡◌, List, [], ◌∷◌, ◌++◌, map, filter, Some, None, if◌then◌else◌}
 use Rattle.std.specs.List.{flat_map, enumerate_from}
 use Rattle.fx_sheet.specs.declared.selectors.Selector.{Selector}
 use Rattle.fx_sheet.specs.declared.sheets.Rule.{Rule}

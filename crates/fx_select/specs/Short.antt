@@ -1,5 +1,5 @@
 -- Selectors of at most 4,194,304 parts.
-use Rattle.std.specs.Prelude.{ℕ, ◌≤◌, List, All}
+use Rattle.std.specs.Prelude.{◌≤◌, List, All}
 use Rattle.fx_sheet.specs.declared.selectors.Selector.{Selector}
 use Rattle.fx_sheet.specs.declared.sheets.Rule.{Rule}
 use Rattle.fx_sheet.specs.declared.sheets.SheetAt.{SheetAt}

@@ -1,5 +1,5 @@
 -- How specific a selector is (Selectors Level 3, "Calculating a selector's specificity").
-use Rattle.std.specs.Prelude.{ℕ, ◌+◌, ◌==◌, nat_lt, Bool, ◌&&◌, ◌||◌, List, length, sum_by, count_by, is_some}
+use Rattle.std.specs.Prelude.{ℕ, ◌+◌, List, length, sum_by, count_by, is_some}
 use Rattle.fx_sheet.specs.declared.selectors.Compound.{Compound}
 use Rattle.fx_sheet.specs.declared.selectors.Selector.{Selector}
 

@@ -1,4 +1,3 @@
-use Rattle.std.proofs.Common.{◌≡◌}
 use Rattle.fx_select.specs.Chains.{chain}
 use Rattle.fx_select.specs.Hits.{hit_of}
 use Rattle.fx_select.proofs.HitLemmas.{filter_map-more}

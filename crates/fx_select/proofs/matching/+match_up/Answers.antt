@@ -1,4 +1,4 @@
-use Rattle.std.proofs.Common.{◌≡◌, ◌<◌, ℕ, Bool, true, false, List, [], length, reverse, Option, Some, None, refl, sym, ◌∙◌, ap, subst}
+use Rattle.std.proofs.Common.{◌≡◌, ℕ, false, [], reverse, Option, Some, sym, ◌∙◌, ap, subst}
 use Rattle.fx_sheet.specs.declared.selectors.Combinator.{Combinator}
 use Rattle.fx_sheet.specs.declared.selectors.Combinator.TheVariants.{Descendant, Child}
 use Rattle.fx_select.specs.Chains.{upward}

@@ -1,5 +1,5 @@
 -- Fewer compounds are left at each step, and the ancestors that were tried didn't match.
-use Rattle.std.proofs.Common.{◌≡◌, ◌+◌, ◌*◌, ◌<◌, ℕ, suc, length, Option, Some, None}
+use Rattle.std.proofs.Common.{◌≡◌, ◌+◌, ◌*◌, ◌<◌, ℕ, suc, length}
 use Rattle.std.specs.Prelude.{reverse}
 use Rattle.std.specs.Option.{option_map_or, ForSome}
 use Rattle.fx_select.specs.Chains.{upward}

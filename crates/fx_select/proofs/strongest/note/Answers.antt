@@ -1,4 +1,4 @@
-use Rattle.std.proofs.Common.{◌≡◌, Bool, List, set, sym, ◌∙◌, ap}
+use Rattle.std.proofs.Common.{List, set, sym, ◌∙◌, ap}
 use Rattle.std.specs.List.{prefix_len}
 use Rattle.fx_sheet.specs.declared.sheets.Candidate.{Candidate}
 use Rattle.fx_select.specs.Noted.{has_rule, is_before}

@@ -1,4 +1,4 @@
-use Rattle.std.proofs.Common.{◌≡◌, ◌++◌, ◌+◌, ℕ, List, take, sym, ◌∙◌, ap, arith}
+use Rattle.std.proofs.Common.{◌++◌, ◌+◌, ℕ, List, take, sym, ◌∙◌, ap}
 use Rattle.fx_sheet.specs.declared.sheets.Rule.{Rule}
 use Rattle.fx_sheet.specs.declared.sheets.SheetAt.{SheetAt}
 use Rattle.fx_select.specs.declared.lists.SelectorAt.{SelectorAt}

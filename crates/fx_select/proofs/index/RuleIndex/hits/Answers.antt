@@ -1,10 +1,9 @@
-use Rattle.std.proofs.Common.{◌≡◌, ◌++◌, ℕ, List, map, sym, ◌∙◌, ap}
+use Rattle.std.proofs.Common.{◌++◌, ℕ, List, map, sym, ◌∙◌, ap}
 use Rattle.std.specs.List.{filter_map, flat_map}
-use Rattle.fx_sheet.specs.declared.sheets.Candidate.{Candidate}
 use Rattle.fx_kinds.specs.Classes.{name_of}
 use Rattle.fx_select.specs.Chains.{chain, upward}
 use Rattle.fx_select.specs.Hits.{hit_of}
-use Rattle.fx_select.specs.Keys.{ByClass, ById, ByKind, InRest}
+use Rattle.fx_select.specs.Keys.{ByClass, ById, ByKind}
 use Rattle.fx_select.specs.Listing.{Listing, listed}
 use Rattle.fx_select.specs.Named.{under}
 use Rattle.fx_select.proofs.ChainLemmas.{upward-some}

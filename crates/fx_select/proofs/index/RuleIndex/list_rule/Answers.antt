@@ -1,9 +1,9 @@
-use Rattle.std.proofs.Common.{◌≡◌, ◌++◌, ◌∷◌, [], List, Bool, true, None, eqb, length, refl, sym, ◌∙◌, ap, arith}
+use Rattle.std.proofs.Common.{◌≡◌, ◌++◌, ◌∷◌, [], List, true, None, eqb, length, refl, sym, ◌∙◌, ap, arith}
 use Rattle.std.proofs.lemmas.Bool.{eqb-true}
 use Rattle.std.proofs.lemmas.Result.{on_ok_weaker}
 use Rattle.fx_sheet.specs.declared.selectors.Selector.{Selector}
 use Rattle.fx_select.specs.declared.lists.SelectorAt.{SelectorAt}
-use Rattle.fx_select.specs.Keys.{Key, InRest}
+use Rattle.fx_select.specs.Keys.{InRest}
 use Rattle.fx_select.specs.Listing.{listed, rule_entries, under_key}
 use Rattle.fx_select.proofs.ListingLemmas.{under_key-one}
 use Rattle.fx_select.proofs.index.RuleIndex.list_rule.Goals as goal

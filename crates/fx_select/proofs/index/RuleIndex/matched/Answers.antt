@@ -1,6 +1,5 @@
-use Rattle.std.proofs.Common.{◌≡◌, List, sym, ◌∙◌, ap}
+use Rattle.std.proofs.Common.{◌≡◌, ◌∙◌, ap}
 use Rattle.std.proofs.lemmas.Result.{IfOk-weaker}
-use Rattle.fx_sheet.specs.declared.sheets.Candidate.{Candidate}
 use Rattle.fx_select.specs.Chains.{chain}
 use Rattle.fx_select.specs.Hits.{hits_of}
 use Rattle.fx_select.specs.Noted.{note_all}

@@ -1,5 +1,4 @@
-use Rattle.std.proofs.Common.{◌≡◌, ℕ, List, get_or, sym, ◌∙◌, ap}
-use Rattle.fx_select.specs.declared.lists.SelectorAt.{SelectorAt}
+use Rattle.std.proofs.Common.{get_or, ◌∙◌, ap}
 use Rattle.fx_select.specs.Chains.{chain}
 use Rattle.fx_select.specs.Hits.{hit_of}
 use Rattle.fx_select.specs.Keys.{ByClass}

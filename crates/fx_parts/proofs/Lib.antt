@@ -1,0 +1,4 @@
+pub mod TrimLemmas
+pub mod IdentLemmas
+pub mod LayerLemmas
+pub mod SelectorLemmas

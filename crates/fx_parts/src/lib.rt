@@ -3,12 +3,15 @@
 #![tactic(auto)]
 
 mod compounds;
+mod declaring;
 mod layers;
 mod limits;
 mod selecting;
 mod texts;
+mod values;
 
 
+pub use declaring::read_declaration;
 pub use selecting::read_selectors;
 
 use fx_base::List;

@@ -17,20 +17,6 @@ read_of before after = option_map (λ d. record { declaration = d; past = past_b
 cut_so : (text before after : List ℕ) → before ≡ front not_colon text → after ≡ behind not_colon text → read_of before after ≡ declaration_at text
 cut_so text before after b a = ap (λ y. read_of y after) b ∙ ap (λ y. read_of (front not_colon text) y) a
 
-pub uncut : (text before after : List ℕ) → before ≡ front not_colon text → after ≡ behind not_colon text → length after ≡ 0 → None ≡ declaration_at text
-uncut text before [] b a e = cut_so text before [] b a
-uncut text before (c ∷ cs) b a e = absurd (cc)
-
-unnamed_by : (name : List ℕ) (r : Bool) → is_ident name ≡ r → None ≡ ident_at name → is_ident name ≡ false
-unnamed_by name true e n = absurd (let some : ident_at name ≡ Some name = ap (λ b. cond b (Some name) None) e in cc)
-unnamed_by name false e n = e
-
-pub unnamed : (text before after : List ℕ) (c : ℕ) (value : List ℕ) → before ≡ front not_colon text → after ≡ behind not_colon text → after ≡ c ∷ value → None ≡ ident_at (trimmed before) → None ≡ declaration_at text
-unnamed text before after c value b a e n =
-    let bad : is_ident (trimmed before) ≡ false = unnamed_by (trimmed before) (is_ident (trimmed before)) refl n in
-    ap (λ r. option_map (λ d. record { declaration = d; past = past_behind (form_of (trimmed before)) (length before) (c ∷ value) }) (cond r (option_map (declaration (trimmed before)) (declared_at (form_of (trimmed before)) (trimmed value))) None)) (sym bad)
-    ∙ ap (λ y. read_of before y) (sym e) ∙ cut_so text before after b a
-
 named_is : (text before after : List ℕ) (c : ℕ) (value name : List ℕ) → before ≡ front not_colon text → after ≡ behind not_colon text → after ≡ c ∷ value → Some name ≡ ident_at (trimmed before)
     → option_map (λ d. record { declaration = d; past = past_in_value (form_of name) (length before + 1) value }) (option_map (declaration name) (declared_at (form_of name) (trimmed value))) ≡ declaration_at text
 named_is text before after c value name b a e n =
@@ -39,12 +25,6 @@ named_is text before after c value name b a e n =
     ap (λ y. option_map (λ d. record { declaration = d; past = past_in_value (form_of y) (length before + 1) value }) (option_map (declaration y) (declared_at (form_of y) (trimmed value)))) (sym same)
     ∙ ap (λ r. option_map (λ d. record { declaration = d; past = past_in_value (form_of (trimmed before)) (length before + 1) value }) (cond r (option_map (declaration (trimmed before)) (declared_at (form_of (trimmed before)) (trimmed value))) None)) (sym good.0)
     ∙ ap (λ y. read_of before y) (sym e) ∙ cut_so text before after b a
-
-pub undeclared : (text before after : List ℕ) (c : ℕ) (value name : List ℕ) → before ≡ front not_colon text → after ≡ behind not_colon text → after ≡ c ∷ value → Some name ≡ ident_at (trimmed before)
-    → None ≡ declared_at (form_of name) (trimmed value) → None ≡ declaration_at text
-undeclared text before after c value name b a e n d =
-    ap (λ y. option_map (λ d. record { declaration = d; past = past_in_value (form_of name) (length before + 1) value }) (option_map (declaration name) y)) d
-    ∙ named_is text before after c value name b a e n
 
 pub declares : (text before after : List ℕ) (c : ℕ) (value name : List ℕ) → before ≡ front not_colon text → after ≡ behind not_colon text → after ≡ c ∷ value → Some name ≡ ident_at (trimmed before)
     → (d : Declared) (past : Option ℕ) → Some d ≡ declared_at (form_of name) (trimmed value) → past ≡ past_in_value (form_of name) (length before + 1) value

@@ -11,7 +11,6 @@ use lib.Dec.{ltb}
 use Rattle.fx_base.specs.Identifier.{is_letter, is_letter_or_digit}
 use Rattle.fx_parts.specs.Texts.{utf8, is_later, is_word, behind_dash, is_ident}
 
-
 later_low : (c : ℕ) → is_later c ≡ true → c < 128
 later_low c e = grind (arith, nat_tests, e)
 

@@ -10,7 +10,7 @@ parts_left (Some rest) = parts 0 rest
 
 parts_first_by : (d c : ℕ) (cs : List ℕ) (b : Bool) → parts (depth_behind d c) cs ≡ take (part_length (depth_behind d c) cs) cs ∷ parts_left (behind_comma (drop (part_length (depth_behind d c) cs) cs))
     → cond b ([] ∷ parts 0 cs) (onto_first c (parts (depth_behind d c) cs))
-      ≡ take (cond b 0 (suc (part_length (depth_behind d c) cs))) (c ∷ cs) ∷ parts_left (behind_comma (drop (cond b 0 (suc (part_length (depth_behind d c) cs))) (c ∷ cs)))
+    ≡ take (cond b 0 (suc (part_length (depth_behind d c) cs))) (c ∷ cs) ∷ parts_left (behind_comma (drop (cond b 0 (suc (part_length (depth_behind d c) cs))) (c ∷ cs)))
 parts_first_by d c cs true h = refl
 parts_first_by d c cs false h = ap (λ y. onto_first c y) h
 

@@ -173,8 +173,8 @@ links_shorter (c ∷ cs) after rest n s a r =
 
 linked_first : (text : List ℕ) → (length text == 0) ≡ false → stops not_gap text ≡ true
     → linked_at (links_at false text)
-      ≡ option_and_then (λ c. option_map (λ cs. c ∷ cs) (linked_at (links_at false (behind not_gap (behind is_gap text)))))
-        (link_at (record { gap = front is_gap text; word = front not_gap (behind is_gap text) }))
+    ≡ option_and_then (λ c. option_map (λ cs. c ∷ cs) (linked_at (links_at false (behind not_gap (behind is_gap text)))))
+    (link_at (record { gap = front is_gap text; word = front not_gap (behind is_gap text) }))
 linked_first text n s = ap (λ y. linked_at y) (links_first text n s)
 
 map_more : (done : List Compound) (x : Compound) (o : Option (List Compound)) → option_map (λ cs. (done ++ (x ∷ [])) ++ cs) o ≡ option_map (λ cs. done ++ cs) (option_map (λ cs. x ∷ cs) o)
@@ -187,31 +187,31 @@ pub links_turn : (done : List Compound) (text gap after rest : List ℕ) (k : Co
 links_turn done text gap after rest k x n s g a r ek ex =
     let behind_both : rest ≡ behind not_gap (behind is_gap text) = r ∙ ap (λ y. behind not_gap y) a in
     let link : link_at (record { gap = front is_gap text; word = front not_gap (behind is_gap text) }) ≡ Some x =
-        ap (λ y. option_and_then (λ combinator. compound_at (Some combinator) (front not_gap (behind is_gap text))) y) (sym (ek ∙ ap (λ y. combinator_at y) g))
-        ∙ sym (ex ∙ ap (λ y. compound_at (Some k) (front not_gap y)) a) in
+    ap (λ y. option_and_then (λ combinator. compound_at (Some combinator) (front not_gap (behind is_gap text))) y) (sym (ek ∙ ap (λ y. combinator_at y) g))
+    ∙ sym (ex ∙ ap (λ y. compound_at (Some k) (front not_gap y)) a) in
     map_more done x (linked_at (links_at false rest))
     ∙ ap (λ y. option_map (λ cs. done ++ cs) (option_map (λ cs. x ∷ cs) (linked_at (links_at false y)))) behind_both
     ∙ ap (λ y. option_map (λ cs. done ++ cs) y)
-      (ap (λ y. option_and_then (λ c. option_map (λ cs. c ∷ cs) (linked_at (links_at false (behind not_gap (behind is_gap text))))) y) (sym link) ∙ sym (linked_first text n s))
+    (ap (λ y. option_and_then (λ c. option_map (λ cs. c ∷ cs) (linked_at (links_at false (behind not_gap (behind is_gap text))))) y) (sym link) ∙ sym (linked_first text n s))
 
 links_none : (done : List Compound) (text : List ℕ) → (length text == 0) ≡ false → stops not_gap text ≡ true
     → link_at (record { gap = front is_gap text; word = front not_gap (behind is_gap text) }) ≡ None → None ≡ option_map (λ cs. done ++ cs) (linked_at (links_at false text))
 links_none done text n s link =
     ap (λ y. option_map (λ cs. done ++ cs) y)
-      (ap (λ y. option_and_then (λ c. option_map (λ cs. c ∷ cs) (linked_at (links_at false (behind not_gap (behind is_gap text))))) y) (sym link) ∙ sym (linked_first text n s))
+    (ap (λ y. option_and_then (λ c. option_map (λ cs. c ∷ cs) (linked_at (links_at false (behind not_gap (behind is_gap text))))) y) (sym link) ∙ sym (linked_first text n s))
 
 pub links_unjoined : (done : List Compound) (text gap : List ℕ) → (length text == 0) ≡ false → stops not_gap text ≡ true → gap ≡ front is_gap text → None ≡ combinator_at gap
     → None ≡ option_map (λ cs. done ++ cs) (linked_at (links_at false text))
 links_unjoined done text gap n s g e =
     links_none done text n s
-      (ap (λ y. option_and_then (λ combinator. compound_at (Some combinator) (front not_gap (behind is_gap text))) y) (sym (e ∙ ap (λ y. combinator_at y) g)))
+    (ap (λ y. option_and_then (λ combinator. compound_at (Some combinator) (front not_gap (behind is_gap text))) y) (sym (e ∙ ap (λ y. combinator_at y) g)))
 
 pub links_unread : (done : List Compound) (text gap after : List ℕ) (k : Combinator) → (length text == 0) ≡ false → stops not_gap text ≡ true → gap ≡ front is_gap text → after ≡ behind is_gap text
     → Some k ≡ combinator_at gap → None ≡ compound_at (Some k) (front not_gap after) → None ≡ option_map (λ cs. done ++ cs) (linked_at (links_at false text))
 links_unread done text gap after k n s g a ek ex =
     links_none done text n s
-      (ap (λ y. option_and_then (λ combinator. compound_at (Some combinator) (front not_gap (behind is_gap text))) y) (sym (ek ∙ ap (λ y. combinator_at y) g))
-      ∙ sym (ex ∙ ap (λ y. compound_at (Some k) (front not_gap y)) a))
+    (ap (λ y. option_and_then (λ combinator. compound_at (Some combinator) (front not_gap (behind is_gap text))) y) (sym (ek ∙ ap (λ y. combinator_at y) g))
+    ∙ sym (ex ∙ ap (λ y. compound_at (Some k) (front not_gap y)) a))
 
 not_zero : (n : ℕ) → (suc n == 0) ≡ true → ⊥
 not_zero n e = grind (arith, nat_tests, e)

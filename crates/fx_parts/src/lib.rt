@@ -10,12 +10,10 @@ mod selecting;
 mod texts;
 mod values;
 
-
 pub use declaring::read_declaration;
-pub use selecting::read_selectors;
-
 use fx_base::List;
 use fx_sheet::{Declaration, Selector};
+pub use selecting::read_selectors;
 
 /// The selectors of a rule, as they are read.
 #[derive(Drop)]
@@ -33,3 +31,6 @@ pub struct ReadDeclaration {
     /// The place in the text, in characters, of the ninth layer of a list of paints or of sides.
     pub past: Option<usize>,
 }
+
+#[cfg(test)]
+mod tests;

@@ -4,3 +4,6 @@ pub mod LayerLemmas
 pub mod SelectorLemmas
 pub mod ValueLemmas
 pub mod DeclarationLemmas
+pub mod SeparatedLaws
+pub mod SelectorLaws
+pub mod DeclarationLaws

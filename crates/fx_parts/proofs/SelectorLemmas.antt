@@ -45,7 +45,7 @@ pub parts_skip : (text : List ℕ) → parts_at text ≡ parts_at (behind not_si
 parts_skip [] = refl
 parts_skip (c ∷ cs) = parts_skip_by c cs (is_sign c) refl (parts_skip cs)
 
-not_not : (b : Bool) → not (not b) ≡ true → b ≡ true
+pub not_not : (b : Bool) → not (not b) ≡ true → b ≡ true
 not_not true e = refl
 not_not false e = e
 
@@ -171,7 +171,7 @@ links_shorter (c ∷ cs) after rest n s a r =
     let last : length rest ≡ length (behind not_gap after) = ap (λ y. length y) r in
     omega arith
 
-linked_first : (text : List ℕ) → (length text == 0) ≡ false → stops not_gap text ≡ true
+pub linked_first : (text : List ℕ) → (length text == 0) ≡ false → stops not_gap text ≡ true
     → linked_at (links_at false text)
     ≡ option_and_then (λ c. option_map (λ cs. c ∷ cs) (linked_at (links_at false (behind not_gap (behind is_gap text)))))
     (link_at (record { gap = front is_gap text; word = front not_gap (behind is_gap text) }))

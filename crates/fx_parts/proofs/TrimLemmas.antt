@@ -44,10 +44,10 @@ pub ruleset back_moves = (back_step, back_stop)
 
 -- what is left stands between white
 
-record FrontCut (text : List ℕ) : Type 0 where
-  before : List ℕ
-  parts : text ≡ before ++ trim_front text
-  white : list_all is_white before ≡ true
+pub record FrontCut (text : List ℕ) : Type 0 where
+  pub before : List ℕ
+  pub parts : text ≡ before ++ trim_front text
+  pub white : list_all is_white before ≡ true
 
 front_cut_by : (c : ℕ) (cs : List ℕ) (b : Bool) → is_white c ≡ b → FrontCut cs → FrontCut (c ∷ cs)
 front_cut_by c cs true e h = record {
@@ -57,7 +57,7 @@ front_cut_by c cs true e h = record {
 }
 front_cut_by c cs false e h = record { before = []; parts = sym (front_stop c cs e); white = refl }
 
-front_cut : (text : List ℕ) → FrontCut text
+pub front_cut : (text : List ℕ) → FrontCut text
 front_cut [] = record { before = []; parts = refl; white = refl }
 front_cut (c ∷ cs) = front_cut_by c cs (is_white c) refl (front_cut cs)
 
@@ -139,7 +139,7 @@ trimmed_sound text =
 
 -- what stands between white is what is left
 
-front_skip : (ws rest : List ℕ) → list_all is_white ws ≡ true → trim_front (ws ++ rest) ≡ trim_front rest
+pub front_skip : (ws rest : List ℕ) → list_all is_white ws ≡ true → trim_front (ws ++ rest) ≡ trim_front rest
 front_skip [] rest h = refl
 front_skip (w ∷ ws) rest h =
     let both = and_parts (is_white w) (list_all is_white ws) h in
@@ -155,6 +155,9 @@ back_stays : (text : List ℕ) → ((rest : List ℕ) (c : ℕ) → text ≡ res
 back_stays [] ends = refl
 back_stays (c ∷ []) ends = last_shown c (ends [] c refl)
 back_stays (c ∷ d ∷ ds) ends = ap (λ y. trim_last c y) (back_stays (d ∷ ds) (λ rest x e. ends (c ∷ rest) x (ap (λ y. c ∷ y) e)))
+
+pub front_all : (ws : List ℕ) → list_all is_white ws ≡ true → trim_front ws ≡ []
+front_all ws h = ap trim_front (sym (append-nil ws)) ∙ front_skip ws [] h
 
 kept : (inner after : List ℕ) → list_all is_white after ≡ true → ((c : ℕ) (rest : List ℕ) → inner ≡ c ∷ rest → is_white c ≡ false)
     → ((rest : List ℕ) (c : ℕ) → inner ≡ rest ++ (c ∷ []) → is_white c ≡ false) → trim_back (trim_front (inner ++ after)) ≡ inner

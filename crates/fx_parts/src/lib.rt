@@ -4,6 +4,7 @@
 
 mod compounds;
 mod declaring;
+mod laws;
 mod layers;
 mod limits;
 mod selecting;
@@ -11,9 +12,11 @@ mod texts;
 mod values;
 
 pub use declaring::read_declaration;
+pub use laws::{one_declaration, one_selectors};
+pub use selecting::read_selectors;
+
 use fx_base::List;
 use fx_sheet::{Declaration, Selector};
-pub use selecting::read_selectors;
 
 /// The selectors of a rule, as they are read.
 #[derive(Drop)]

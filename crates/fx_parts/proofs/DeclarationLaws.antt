@@ -1,7 +1,7 @@
 -- A text spells one declaration at most, and the reading finds it.
-use Rattle.std.proofs.Common.{◌≡◌, ◌≢◌, ℕ, zero, suc, ◌<◌, ◌⊎◌, inl, inr, Bool, true, false, cond, not, ◌==◌, List, [], ◌∷◌, ◌++◌, length, codes, Option, Some, None, refl, sym, ap, ◌∙◌, subst, arith, slice_index_or}
-use Rattle.std.specs.Prelude.{slice_get, ℤ, IsTrue}
-use Rattle.std.specs.List.{list_all, position}
+use Rattle.std.proofs.Common.{◌≡◌, ℕ, zero, suc, ◌<◌, ◌⊎◌, inl, inr, Bool, true, false, cond, ◌==◌, List, [], ◌∷◌, ◌++◌, length, codes, Option, Some, None, refl, sym, ap, ◌∙◌, subst, arith, slice_index_or}
+use Rattle.std.specs.Prelude.{slice_get, ℤ}
+use Rattle.std.specs.List.{list_all}
 use Rattle.std.specs.Option.{option_map, option_map_or}
 use Rattle.std.specs.Str.{bytes_eq}
 use Rattle.std.proofs.lemmas.Bool.Decides.{nat_tests}
@@ -13,9 +13,8 @@ use Rattle.fx_base.specs.declared.kinds.Family.TheVariants.{Pos}
 use Rattle.fx_base.specs.declared.values.Value.TheVariants as value
 use Rattle.fx_look.specs.declared.styles.StyleForm.{StyleForm}
 use Rattle.fx_look.specs.declared.styles.StyleForm.TheVariants as form
-use Rattle.fx_look.specs.Colors.{IsColor, color_at, is_white}
+use Rattle.fx_look.specs.Colors.{color_at, is_white}
 use Rattle.fx_look.specs.Numbers.{IsSize, size_at}
-use Rattle.fx_look.specs.Insets.{IsSides, sides_at}
 use Rattle.fx_look.specs.Decimals.{front, behind}
 use Rattle.fx_look.proofs.FrontLemmas.{bytes_tell, front_and_behind, front-stop, behind-stop, behind_stops, then_gives, map_gives}
 use Rattle.fx_look.proofs.ColorLemmas.{color_sound, color_complete}
@@ -26,8 +25,8 @@ use Rattle.fx_sheet.specs.declared.declarations.Paint.TheVariants as paint
 use Rattle.fx_sheet.specs.declared.declarations.Declared.{Declared}
 use Rattle.fx_sheet.specs.declared.declarations.Declared.TheVariants as declared
 use Rattle.fx_sheet.specs.declared.declarations.Declaration.{Declaration}
-use Rattle.fx_parts.specs.Texts.{utf8, is_later, is_ident, stops, trimmed, IsTrimmed, IsBetweenWhite}
-use Rattle.fx_parts.specs.Layers.{Separated, separated_at}
+use Rattle.fx_parts.specs.Texts.{utf8, is_later, is_ident, stops, trimmed, IsTrimmed}
+use Rattle.fx_parts.specs.Layers.{separated_at}
 use Rattle.fx_parts.specs.Declaring.{IsPaint, color, named, AreSides, positions, IsStyled, insets, constant, size, yes, no, visible, hidden, collapse, painted, painted_layers, inset_layers, IsDeclared, inherited, styled, other, form_of, IsDeclaration, named_at, paint_at, insets_at, position_at, truth_at, visibility_at, styled_at, declared_at, declaration, with_value, not_colon, declaration_in}
 use Rattle.fx_parts.proofs.TrimLemmas.{trimmed_sound, trimmed_complete}
 use Rattle.fx_parts.proofs.SelectorLemmas.{not_not}

@@ -1,8 +1,7 @@
 -- What is read of the two sides of the first `:` is the declaration.
-use Rattle.std.proofs.Common.{◌≡◌, ℕ, ◌+◌, Bool, true, false, cond, List, [], ◌∷◌, ◌++◌, length, Option, Some, None, refl, sym, ap, ◌∙◌, subst}
+use Rattle.std.proofs.Common.{◌≡◌, ℕ, ◌+◌, cond, List, ◌∷◌, length, Option, Some, None, sym, ap, ◌∙◌}
 use Rattle.std.specs.Option.{option_map}
 use Rattle.fx_sheet.specs.declared.declarations.Declared.{Declared}
-use Rattle.fx_sheet.specs.declared.declarations.Declaration.{Declaration}
 use Rattle.fx_look.specs.Decimals.{front, behind}
 use Rattle.fx_look.proofs.FrontLemmas.{then_gives}
 use Rattle.fx_parts.specs.declared.ReadDeclaration.{ReadDeclaration}

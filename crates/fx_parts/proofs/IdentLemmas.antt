@@ -1,14 +1,14 @@
 -- Identifiers are ASCII, so their bytes are their characters.
-use Rattle.std.proofs.Common.{◌≡◌, ℕ, ◌<◌, ◌≤◌, ◌/◌, ◌%◌, ◌+◌, ◌==◌, Bool, true, false, cond, List, [], ◌∷◌, ◌++◌, length, nat_le, refl, sym, ap, ◌∙◌, subst, arith}
+use Rattle.std.proofs.Common.{◌≡◌, ℕ, ◌<◌, ◌≤◌, ◌/◌, ◌%◌, ◌+◌, ◌==◌, Bool, true, false, cond, List, [], ◌∷◌, ◌++◌, length, nat_le, refl, ap, ◌∙◌, arith}
 use Rattle.std.specs.Prelude.{◌↔◌, Option, Some, None, IfSome, IsNone}
 use Rattle.std.specs.List.{list_all}
 use Rattle.std.specs.Str.{chars}
 use Rattle.std.proofs.lemmas.Bool.{and_parts, and_from}
 use Rattle.std.proofs.lemmas.Bool.Decides.{nat_tests}
 use Rattle.std.proofs.lemmas.Str.{chars-encodes}
-use lib.Utf8.{encode, encodes, scalars, scalar}
+use lib.Utf8.{encode, scalars, scalar}
 use lib.Dec.{ltb}
-use Rattle.fx_base.specs.Identifier.{is_letter, is_letter_or_digit}
+use Rattle.fx_base.specs.Identifier.{is_letter}
 use Rattle.fx_parts.specs.Texts.{utf8, is_later, is_word, behind_dash, is_ident}
 
 later_low : (c : ℕ) → is_later c ≡ true → c < 128

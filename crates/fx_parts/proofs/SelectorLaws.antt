@@ -1,11 +1,11 @@
 -- A text spells one selector at most, and the reading finds it.
-use Rattle.std.proofs.Common.{◌≡◌, ℕ, zero, suc, ◌+◌, Bool, true, false, cond, not, ◌&&◌, ◌||◌, ◌==◌, List, [], ◌∷◌, ◌++◌, length, take, drop, append-nil, nat_le, Option, Some, None, refl, sym, ap, ◌∙◌, subst, arith}
+use Rattle.std.proofs.Common.{◌≡◌, ℕ, suc, ◌+◌, Bool, true, false, cond, not, ◌&&◌, ◌||◌, ◌==◌, List, [], ◌∷◌, ◌++◌, length, take, append-nil, nat_le, Option, Some, None, refl, sym, ap, ◌∙◌, subst, arith}
 use Rattle.std.specs.List.{list_all, prefix_len}
 use Rattle.std.specs.Option.{option_and_then, option_map}
 use Rattle.std.specs.Cmp.Derive.{both_true}
-use Rattle.std.proofs.lemmas.Bool.{and_parts, and_from}
+use Rattle.std.proofs.lemmas.Bool.{and_parts}
 use Rattle.std.proofs.lemmas.Bool.Decides.{nat_tests}
-use Rattle.fx_base.specs.Identifier.{is_letter, is_letter_or_digit}
+use Rattle.fx_base.specs.Identifier.{is_letter}
 use Rattle.fx_sheet.specs.declared.selectors.Combinator.{Combinator}
 use Rattle.fx_sheet.specs.declared.selectors.Combinator.TheVariants.{Descendant, Child}
 use Rattle.fx_sheet.specs.declared.selectors.Compound.{Compound}
@@ -14,7 +14,6 @@ use Rattle.fx_look.specs.Colors.{is_white}
 use Rattle.fx_look.specs.Decimals.{front, behind}
 use Rattle.fx_look.proofs.FrontLemmas.{front_and_behind, front-stop, behind-stop, behind_stops, then_gives, map_gives, bind_gives}
 use Rattle.fx_parts.specs.Texts.{is_later, is_word, behind_dash, is_ident, stops, trim_front}
-use Rattle.fx_parts.specs.Layers.{Separated}
 use Rattle.fx_parts.specs.Selecting.{is_sign, Part, is_part, parts_text, compound, IsKind, unsaid, any, type, IsCompound, IsCombinator, white, child, AreLinked, end, link, selector, IsSelector, IsSelectors, not_sign, parts_at, is_any, kind_at, with_parts, compound_at, is_gap, not_gap, behind_sign, combinator_at, Link, links_at, link_at, linked_at, selector_at, selectors_in}
 use Rattle.fx_parts.proofs.TrimLemmas.{front_skip, front_all, front_cut}
 use Rattle.fx_parts.proofs.SelectorLemmas.{behind_on, behind_here, parts_skip, parts_first, not_not, links_skip, links_first, linked_first}
@@ -271,10 +270,10 @@ linked_complete text cs (link t gap word rest k c more e g w r) =
     let rest_is : behind not_gap (behind is_gap t) ≡ rest = ap (behind not_gap) after ∙ behind-stop not_gap word rest clear stop in
     let some : t ≡ [] → ⊥ = λ n. append_some gap (word ++ rest) (combinator_some gap k g) (sym e ∙ n) in
     let linked : link_at (record { gap = front is_gap t; word = front not_gap (behind is_gap t) }) ≡ Some c =
-        ap (λ y. link_at (record { gap = y; word = front not_gap (behind is_gap t) })) gap_is
-        ∙ ap (λ y. link_at (record { gap = gap; word = y })) word_is
-        ∙ ap (λ y. option_and_then (λ combinator. compound_at (Some combinator) word) y) (combinator_complete gap k g)
-        ∙ compound_complete (Some k) word c w in
+    ap (λ y. link_at (record { gap = y; word = front not_gap (behind is_gap t) })) gap_is
+    ∙ ap (λ y. link_at (record { gap = gap; word = y })) word_is
+    ∙ ap (λ y. option_and_then (λ combinator. compound_at (Some combinator) word) y) (combinator_complete gap k g)
+    ∙ compound_complete (Some k) word c w in
     linked_first t (some_length t some) (ap (stops not_gap) e ∙ gap_first gap (word ++ rest) (combinator_some gap k g) all)
     ∙ ap (λ y. option_and_then (λ x. option_map (λ xs. x ∷ xs) (linked_at (links_at false (behind not_gap (behind is_gap t))))) y) linked
     ∙ ap (λ y. option_map (λ xs. c ∷ xs) (linked_at (links_at false y))) rest_is

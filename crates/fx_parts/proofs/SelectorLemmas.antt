@@ -1,5 +1,5 @@
 -- How the loops over compounds and over combinators go on.
-use Rattle.std.proofs.Common.{◌≡◌, ℕ, zero, suc, ◌+◌, ◌-◌, ◌<◌, ◌≤◌, Bool, true, false, cond, not, ◌&&◌, ◌||◌, ◌==◌, List, [], ◌∷◌, ◌++◌, length, take, drop, append_assoc, append-nil, Option, Some, None, refl, sym, ap, ◌∙◌, subst, length-drop, arith}
+use Rattle.std.proofs.Common.{◌≡◌, ℕ, suc, ◌+◌, ◌<◌, ◌≤◌, Bool, true, false, cond, not, ◌&&◌, ◌==◌, List, [], ◌∷◌, ◌++◌, length, drop, append_assoc, append-nil, Option, Some, None, refl, sym, ap, ◌∙◌, subst, length-drop, arith}
 use Rattle.std.specs.List.{list_all, prefix_len}
 use Rattle.std.specs.Option.{option_and_then, option_map}
 use Rattle.std.proofs.lemmas.Bool.{and_from}
@@ -9,7 +9,7 @@ use Rattle.fx_sheet.specs.declared.selectors.Compound.{Compound}
 use Rattle.fx_look.specs.Decimals.{front, behind}
 use Rattle.fx_look.proofs.FrontLemmas.{behind_stops, then_gives}
 use Rattle.fx_parts.specs.Texts.{stops, is_ident, ident_at}
-use Rattle.fx_parts.specs.Selecting.{Part, is_sign, is_part, not_sign, parts_at, names_behind, compound, with_parts, kind_at, is_gap, not_gap, Link, links_at, link_at, linked_at, combinator_at, compound_at, selector, selector_at}
+use Rattle.fx_parts.specs.Selecting.{Part, is_sign, is_part, not_sign, parts_at, names_behind, compound, with_parts, kind_at, is_gap, not_gap, links_at, link_at, linked_at, combinator_at, compound_at, selector, selector_at}
 use Rattle.fx_parts.specs.declared.compounds.Names.{Names}
 use Rattle.fx_parts.specs.Drafts.{NameLists, name_lists, no_names, with_names, names_of}
 

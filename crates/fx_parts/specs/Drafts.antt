@@ -1,5 +1,5 @@
 -- A compound as far as it is read, and how far the parts of a text are counted.
-use Rattle.std.specs.Prelude.{ℕ, ◌+◌, ◌-◌, ◌||◌, Bool, true, false, ◌==◌, nat_le, if◌then◌else◌, List, [], ◌∷◌, ◌++◌, Option, Some, None, slice_get}
+use Rattle.std.specs.Prelude.{ℕ, ◌+◌, ◌-◌, ◌||◌, true, false, ◌==◌, nat_le, if◌then◌else◌, List, [], ◌++◌, Option, Some, None, slice_get}
 use Rattle.std.specs.List.{list_all, find}
 use Rattle.std.specs.Option.{option_map}
 use Rattle.fx_look.specs.Colors.{is_white}

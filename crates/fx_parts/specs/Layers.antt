@@ -1,6 +1,6 @@
 -- Texts that are separated by commas, as selectors, paints and sides are: first the grammar, then the reading.
 -- A comma inside parentheses, as in `rgb(1,2,3)`, separates nothing.
-use Rattle.std.specs.Prelude.{◌≡◌, ℕ, suc, ◌+◌, ◌-◌, Bool, true, false, not, ◌&&◌, ◌==◌, if◌then◌else◌, List, [], ◌∷◌, ◌++◌, take, drop, Option, Some, None, IsTrue}
+use Rattle.std.specs.Prelude.{◌≡◌, ℕ, suc, ◌+◌, ◌-◌, Bool, true, not, ◌&&◌, ◌==◌, if◌then◌else◌, List, [], ◌∷◌, ◌++◌, take, drop, Option, Some, None, IsTrue}
 use Rattle.std.specs.Option.{option_and_then, option_map}
 use Rattle.fx_parts.specs.Texts.{IsBetweenWhite, trimmed}
 

@@ -12,11 +12,10 @@ mod texts;
 mod values;
 
 pub use declaring::read_declaration;
-pub use laws::{one_declaration, one_selectors};
-pub use selecting::read_selectors;
-
 use fx_base::List;
 use fx_sheet::{Declaration, Selector};
+pub use laws::{one_declaration, one_selectors};
+pub use selecting::read_selectors;
 
 /// The selectors of a rule, as they are read.
 #[derive(Drop)]

@@ -1,4 +1,4 @@
-use Rattle.std.proofs.Common.{[], ◌∷◌, ◌++◌, Some, None, sym, ap, ◌∙◌}
+use Rattle.std.proofs.Common.{[], ◌∷◌, ◌++◌, sym, ap, ◌∙◌}
 use Rattle.std.specs.Option.{option_map}
 use Rattle.fx_parts.specs.Selecting.{not_gap}
 use Rattle.fx_parts.proofs.SelectorLemmas.{stops_at, selector_unread, selector_read}

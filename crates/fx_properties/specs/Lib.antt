@@ -1,0 +1,9 @@
+pub mod Changes
+pub mod Eager
+pub mod Equality
+pub mod Numbers
+pub mod Refusals
+pub mod Sound
+pub mod Unread
+pub mod Users
+pub mod Uses

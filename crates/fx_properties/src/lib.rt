@@ -1,0 +1,9 @@
+//! The store of properties as contracts see it: entries with what defines them, their errors and what is true of every
+//! store. The property graph computes what is defined here, and layers above it cite the same definitions.
+#![tactic(auto)]
+
+mod entries;
+mod errors;
+
+pub use entries::{Definition, Entry, Operands, Origin, are_same};
+pub use errors::GraphError;

@@ -1,5 +1,9 @@
+pub mod Flags
+pub mod MarkSteps
 pub mod Members
 pub mod Ranks
+pub mod Reading
 pub mod Same
+pub mod Spreading
 pub mod Values
 pub mod Walks

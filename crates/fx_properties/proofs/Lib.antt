@@ -1,4 +1,6 @@
+pub mod Changed
 pub mod Flags
+pub mod Given
 pub mod MarkSteps
 pub mod Members
 pub mod Ranks

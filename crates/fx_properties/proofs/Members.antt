@@ -1,5 +1,5 @@
 -- What stands in a list, tests over a list, and how many pass one.
-use Rattle.std.proofs.Common.{◌≡◌, ℕ, zero, suc, ◌+◌, ◌<◌, ◌≤◌, Bool, true, false, cond, not, ◌||◌, ◌&&◌, ◌==◌, List, [], ◌∷◌, ◌++◌, length, map, get_or, set, arith, refl, sym, ◌∙◌, ap, subst, inl, inr, ◌⊎◌}
+use Rattle.std.proofs.Common.{◌≡◌, ℕ, zero, suc, ◌+◌, ◌<◌, ◌≤◌, Bool, true, false, cond, not, ◌||◌, ◌&&◌, ◌==◌, List, [], ◌∷◌, ◌++◌, length, map, filter, get_or, set, arith, refl, sym, ◌∙◌, ap, subst, inl, inr, ◌⊎◌}
 use Rattle.std.specs.List.{Contains, list_any, range_with_len}
 use Rattle.std.proofs.lemmas.Bool.{cases_Bool, false≢true, both_ways, eqb-true, eq-eqb}
 use Rattle.std.proofs.lemmas.List.Folds.{Any-from_list_any, list_any-from_Any}
@@ -100,4 +100,64 @@ tally_less p q (y ∷ ys) x weaker c fails holds =
                 rw (first, also) (omega arith)
             | inr other ↦ rw other (omega arith)
           ]
+    ]
+
+pub contains_map : {X Y : Type 0} (f : X → Y) (xs : List X) (x : X) → Contains xs x → Contains (map f xs) (f x)
+contains_map f [] x c = absurd (none_in_nil x c)
+contains_map {X} {Y} f (y ∷ ys) x c =
+    elim (contains_cases y ys x c) [
+      | inl here ↦ subst (Contains (map f (y ∷ ys))) (ap f here) (contains_first (f y) (map f ys))
+      | inr later ↦ contains_later (f y) (map f ys) (f x) (contains_map f ys x later)
+    ]
+
+pub map_contains : {X Y : Type 0} (f : X → Y) (xs : List X) (y : Y) → Contains (map f xs) y → (x : X) × Contains xs x × (f x ≡ y)
+map_contains f [] y c = absurd (none_in_nil y c)
+map_contains f (x ∷ xs) y c =
+    elim (contains_cases (f x) (map f xs) y c) [
+      | inl here ↦ (x, contains_first x xs, here)
+      | inr later ↦ let rest = map_contains f xs y later in (rest.0, contains_later x xs rest.0 rest.1, rest.2)
+    ]
+
+pub contains_filter : {X : Type 0} (test : X → Bool) (xs : List X) (x : X) → Contains xs x → test x ≡ true → Contains (filter test xs) x
+contains_filter test [] x c passes = absurd (none_in_nil x c)
+contains_filter {X} test (y ∷ ys) x c passes =
+    elim (contains_cases y ys x c) [
+      | inl here ↦
+          let first : test y ≡ true = ap test here ∙ passes in
+          rw first (subst (Contains (y ∷ filter test ys)) here (contains_first y (filter test ys)))
+      | inr later ↦
+          let rest : Contains (filter test ys) x = contains_filter test ys x later passes in
+          elim (cases_Bool (test y)) [
+            | inl first ↦ rw first (contains_later y (filter test ys) x rest)
+            | inr other ↦ rw other rest
+          ]
+    ]
+
+pub filter_contains : {X : Type 0} (test : X → Bool) (xs : List X) (x : X) → Contains (filter test xs) x → Contains xs x × (test x ≡ true)
+filter_contains test [] x c = absurd (none_in_nil x c)
+filter_contains {X} test (y ∷ ys) x c = by_first (filter_contains test ys x) (cases_Bool (test y))
+  where
+    longer : Contains ys x × (test x ≡ true) → Contains (y ∷ ys) x × (test x ≡ true)
+    longer h = (contains_later y ys x h.0, h.1)
+
+    by_first : (Contains (filter test ys) x → Contains ys x × (test x ≡ true)) → (test y ≡ true) ⊎ (test y ≡ false)
+        → Contains (y ∷ ys) x × (test x ≡ true)
+    by_first rest (inl first) =
+        let P : Bool → Type 0 = λ b. Contains (cond b (y ∷ filter test ys) (filter test ys)) x in
+        elim (contains_cases y (filter test ys) x (subst P first c)) [
+          | inl here ↦ (subst (Contains (y ∷ ys)) here (contains_first y ys), sym (ap test here) ∙ first)
+          | inr later ↦ longer (rest later)
+        ]
+    by_first rest (inr other) =
+        let P : Bool → Type 0 = λ b. Contains (cond b (y ∷ filter test ys) (filter test ys)) x in
+        longer (rest (subst P other c))
+
+-- a number stands in a list or doesn't
+pub cases_contains : (names : List ℕ) (name : ℕ) → Contains names name ⊎ (Contains names name → ⊥)
+cases_contains names name =
+    elim (cases_Bool (list_any (λ (o : ℕ). o == name) names)) [
+      | inl found ↦
+          let there = any_from (λ (o : ℕ). o == name) names found in
+          inl (subst (Contains names) (eqb-true there.0 name there.2) there.1)
+      | inr none ↦ inr (λ c. both_ways _ none (any_at (λ (o : ℕ). o == name) names name c (eq-eqb name name refl)))
     ]

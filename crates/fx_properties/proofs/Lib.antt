@@ -1,4 +1,6 @@
+pub mod Binding
 pub mod Changed
+pub mod Edges
 pub mod Flags
 pub mod Given
 pub mod MarkSteps

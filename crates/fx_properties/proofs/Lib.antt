@@ -2,9 +2,12 @@ pub mod Binding
 pub mod Changed
 pub mod Edges
 pub mod Flags
+pub mod Forgetting
 pub mod Given
+pub mod KindLemmas
 pub mod MarkSteps
 pub mod Members
+pub mod Order
 pub mod Ranks
 pub mod Reading
 pub mod Same

@@ -11,6 +11,7 @@ pub mod Order
 pub mod Ranks
 pub mod Reading
 pub mod Same
+pub mod SoundLemmas
 pub mod Spreading
 pub mod Values
 pub mod Walks

@@ -1,6 +1,7 @@
 pub mod Changes
 pub mod Eager
 pub mod Equality
+pub mod Laws
 pub mod Marking
 pub mod Numbers
 pub mod Refusals

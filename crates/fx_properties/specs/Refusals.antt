@@ -1,9 +1,12 @@
 -- When each call is refused, and with which error. The errors are tested in their order, each over all names.
 use Rattle.std.specs.Prelude.{ℕ, ◌≡◌, ◌+◌, ◌==◌, ◌⊎◌, nat_lt, Bool, true, false, cond, ◌||◌, not, List, [], ◌∷◌, ◌++◌, length, map, Option, Some, None, Result, Ok, Err, Contains}
+use Rattle.std.specs.Bool.{OnTrue, OnFalse}
+use Rattle.std.specs.List.{list_any}
 use Rattle.fx_base.specs.Printing.{kind_of}
 use Rattle.fx_base.specs.declared.keys.Name.{Name}
 use Rattle.fx_base.specs.declared.kinds.Kind.{Kind}
 use Rattle.fx_base.specs.declared.values.Value.{Value}
+use Rattle.fx_base.specs.declared.values.Value.TheVariants.{Text}
 use Rattle.fx_expr.specs.declared.tree.Expr.{Expr}
 use Rattle.fx_expr.specs.Tree.{tree}
 use Rattle.fx_expr.specs.Typing.{kind_in}
@@ -28,6 +31,19 @@ IsAnswer None (Ok value) = Unit {0}
 IsAnswer None (Err error) = error ≡ Memory
 IsAnswer (Some refusal) (Ok value) = ⊥
 IsAnswer (Some refusal) (Err error) = (error ≡ refusal) ⊎ (error ≡ Memory)
+
+-- a text takes memory to be kept, and no other value does
+abbrev pub is_text : Value → Bool
+is_text (Text t) = true
+is_text _ = false
+
+abbrev pub takes_memory : List (Name × Value) → Bool
+takes_memory pairs = list_any (λ (pair : Name × Value). is_text pair.1) pairs
+
+-- of a call that gives these values: memory may be wanting where one is a text
+abbrev pub IsGroupAnswer : {T : Type 0} → List (Name × Value) → Option GraphError → Result T GraphError → Type 0
+IsGroupAnswer pairs refusal result =
+    OnTrue (takes_memory pairs) (IsAnswer refusal result) × OnFalse (takes_memory pairs) (IsFirmAnswer refusal result)
 
 -- the first refusal, and else the second
 abbrev pub or_else : Option GraphError → Option GraphError → Option GraphError

@@ -10,6 +10,7 @@ pub mod Members
 pub mod Order
 pub mod Ranks
 pub mod Reading
+pub mod Refusing
 pub mod Same
 pub mod SoundLemmas
 pub mod Spreading

@@ -1,15 +1,13 @@
 -- A binding that is made, and one that is taken away.
-use Rattle.std.proofs.Common.{◌≡◌, ◌≢◌, ℕ, zero, suc, ◌+◌, ◌<◌, ◌≤◌, Bool, true, false, cond, List, [], ◌∷◌, ◌++◌, length, get_or, set, arith, refl, sym, ◌∙◌, ap, subst, inl, inr, ◌⊎◌}
+use Rattle.std.proofs.Common.{◌≡◌, ℕ, zero, suc, ◌+◌, ◌<◌, ◌≤◌, Bool, true, false, List, [], ◌∷◌, ◌++◌, length, set, arith, sym, ◌∙◌, ap, subst, inl, inr, ◌⊎◌}
 use Rattle.std.specs.List.{Contains}
-use Rattle.std.proofs.lemmas.Bool.{cases_Bool, cases_lt, cases_eq, both_ways}
-use Rattle.std.proofs.lemmas.List.{length-set, set_past}
+use Rattle.std.proofs.lemmas.Bool.{cases_lt, cases_eq, both_ways}
+use Rattle.std.proofs.lemmas.List.{length-set}
 use Rattle.fx_base.specs.declared.values.Value.{Value}
 use Rattle.fx_properties.specs.declared.entries.Entry.{Entry}
-use Rattle.fx_properties.specs.declared.entries.Definition.{Definition}
-use Rattle.fx_properties.specs.declared.entries.Definition.TheVariants.{Base, Bound, Forgotten}
-use Rattle.fx_properties.specs.Uses.{nothing, entry_of, operands_in, uses, bound_in, leads, Ranked}
+use Rattle.fx_properties.specs.Uses.{entry_of, operands_in, uses, Ranked}
 use Rattle.fx_properties.specs.Eager.{value_of_definition, value_in, eager}
-use Rattle.fx_properties.specs.Unread.{marked, leads_to_any, after_marking, IsClosed}
+use Rattle.fx_properties.specs.Unread.{leads_to_any, after_marking, IsClosed}
 use Rattle.fx_properties.specs.Marking.{IsClosedBut}
 use Rattle.fx_properties.specs.Changes.{given}
 use Rattle.fx_properties.specs.Refusals.{operand_count}
@@ -17,7 +15,7 @@ use Rattle.fx_properties.specs.Sound.{IsSettled}
 use Rattle.fx_properties.proofs.Members.{none_in_nil, contains_first}
 use Rattle.fx_properties.proofs.Walks.{any-member}
 use Rattle.fx_properties.proofs.Values.{value_same, value_past, eager-unfold}
-use Rattle.fx_properties.proofs.Ranks.{entry-set_same, entry-set_other, uses-set_same, uses-set_cases, ranked_plain}
+use Rattle.fx_properties.proofs.Ranks.{entry-set_same, entry-set_other, uses-set_cases}
 use Rattle.fx_properties.proofs.Changed.{settled_changed}
 
 -- only the name's own uses are new
@@ -57,16 +55,16 @@ value_kept es rank ranked name (suc depth) other below within =
           let e : other ≡ name = here in
           ap (λ n. value_of_definition (value_in depth fs) (entry_of fs n).definition) here
           ∙ ap (λ (d : Entry). value_of_definition (value_in depth fs) d.definition)
-            (entry-set_same es name (kept_entry es name) (omega arith))
+          (entry-set_same es name (kept_entry es name) (omega arith))
           ∙ ap (eager es) (sym here)
       | inr differs ↦
           let fs : List Entry = set es name (kept_entry es name) in
           ap (λ (d : Entry). value_of_definition (value_in depth fs) d.definition)
           (entry-set_other es name other (kept_entry es name) differs)
           ∙ value_same (value_in depth fs) (eager es) (entry_of es other).definition
-            (λ (o : ℕ) (c : Contains (uses es other) o).
-              let falls : rank o < rank other = ranked.falls other o c in
-              value_kept es rank ranked name depth o (omega arith) (ranked.within other o c))
+          (λ (o : ℕ) (c : Contains (uses es other) o).
+          let falls : rank o < rank other = ranked.falls other o c in
+          value_kept es rank ranked name depth o (omega arith) (ranked.within other o c))
           ∙ sym (eager-unfold es rank ranked other)
     ]
 
@@ -107,7 +105,7 @@ operand_count-set [] name entry h = absurd (omega arith)
 operand_count-set (first ∷ es) zero entry h = omega arith
 operand_count-set (first ∷ es) (suc name) entry h =
     let rest : operand_count (set es name entry) + length (uses es name) ≡ operand_count es + length (operands_in entry.definition) =
-      operand_count-set es name entry (omega arith) in
+    operand_count-set es name entry (omega arith) in
     omega arith
 
 pub operand_count-uses : (es : List Entry) (name : ℕ) → length (uses es name) ≤ operand_count es

@@ -1,22 +1,22 @@
 -- What a change of some names leaves as it is: entries by name, and the values that are kept of the others.
-use Rattle.std.proofs.Common.{◌≡◌, ◌≢◌, ℕ, zero, suc, ◌+◌, ◌<◌, ◌≤◌, Bool, true, false, cond, not, ◌&&◌, ◌||◌, List, [], ◌∷◌, ◌++◌, length, map, get_or, set, arith, refl, sym, ◌∙◌, ap, subst, inl, inr, ◌⊎◌}
+use Rattle.std.proofs.Common.{◌≡◌, ℕ, ◌+◌, ◌<◌, ◌≤◌, Bool, true, false, ◌||◌, List, [], ◌∷◌, ◌++◌, length, arith, refl, sym, ◌∙◌, ap, subst, inl, inr, ◌⊎◌}
 use Rattle.std.specs.List.{Contains}
-use Rattle.std.proofs.lemmas.Bool.{cases_Bool, cases_lt, cases_eq, both_ways, or_parts, or_left, or_right, false≢true, false_from_ne_true}
-use Rattle.std.proofs.lemmas.List.{get_or_past, length-set, length_push, get_or_push, get_or_append_left}
+use Rattle.std.proofs.lemmas.Bool.{cases_Bool, cases_lt, both_ways, or_parts, or_left, or_right, false≢true, false_from_ne_true}
+use Rattle.std.proofs.lemmas.List.{get_or_past, length_push, get_or_push, get_or_append_left}
 use Rattle.fx_base.specs.declared.values.Value.{Value}
 use Rattle.fx_expr.specs.Meaning.{no_value}
 use Rattle.fx_properties.specs.declared.entries.Entry.{Entry}
 use Rattle.fx_properties.specs.declared.entries.Definition.{Definition}
 use Rattle.fx_properties.specs.declared.entries.Definition.TheVariants.{Base, Bound, Forgotten}
-use Rattle.fx_properties.specs.Uses.{nothing, entry_of, operands_in, is_binding, is_gone, uses, bound_in, unknown_in, leads, Ranked}
-use Rattle.fx_properties.specs.Eager.{value_of_definition, value_in, eager}
+use Rattle.fx_properties.specs.Uses.{nothing, entry_of, operands_in, is_binding, is_gone, uses, bound_in, unknown_in, Ranked}
+use Rattle.fx_properties.specs.Eager.{value_of_definition, eager}
 use Rattle.fx_properties.specs.Unread.{marked, leads_to_any, after_marking, IsClosed}
 use Rattle.fx_properties.specs.Marking.{IsClosedBut}
 use Rattle.fx_properties.specs.Sound.{IsSettled}
 use Rattle.fx_properties.proofs.Members.{none_in_nil}
-use Rattle.fx_properties.proofs.Walks.{leads-up, any-member, any-first, any-to, user_within}
+use Rattle.fx_properties.proofs.Walks.{any-member, any-first, user_within}
 use Rattle.fx_properties.proofs.Values.{value_at, value-agree, eager-agree, eager-unfold}
-use Rattle.fx_properties.proofs.Flags.{marked-by, length-by, marked_within}
+use Rattle.fx_properties.proofs.Flags.{marked-by, length-by}
 use Rattle.fx_properties.proofs.Ranks.{uses-declared}
 use Rattle.fx_properties.proofs.Reading.{kept_of}
 
@@ -101,7 +101,7 @@ settled_changed es fs rank ranked names flags cache s long same closed = record 
     kept name h off =
         let f : length flags ≡ length es = s.flags in
         let parts = or_parts (marked flags name) (leads_to_any fs names name)
-          (sym (marked-marking fs names flags name (omega arith)) ∙ off) in
+        (sym (marked-marking fs names flags name (omega arith)) ∙ off) in
         s.kept name (omega arith) parts.0
         ∙ sym (eager-agree fs es (λ (n : ℕ). leads_to_any fs names n ≡ false) long same free name parts.1)
 
@@ -165,5 +165,5 @@ settled_declared es rank after ranked entry value later base flags cache s =
         let here : length es ≡ name = omega arith in
         get_or_push cache value no_value name (sv ∙ here)
         ∙ sym (eager-unfold (es ++ entry ∷ []) after later name
-          ∙ ap (λ (e : Entry). value_of_definition (eager (es ++ entry ∷ [])) e.definition) (get_or_push es entry nothing name here)
-          ∙ ap (value_of_definition (eager (es ++ entry ∷ []))) base)
+        ∙ ap (λ (e : Entry). value_of_definition (eager (es ++ entry ∷ [])) e.definition) (get_or_push es entry nothing name here)
+        ∙ ap (value_of_definition (eager (es ++ entry ∷ []))) base)

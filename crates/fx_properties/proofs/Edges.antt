@@ -1,11 +1,11 @@
 -- The rows of users while a name is taken out of them and put into others.
-use Rattle.std.proofs.Common.{◌≡◌, ◌≢◌, ℕ, zero, suc, ◌+◌, ◌<◌, ◌≤◌, Bool, true, false, cond, List, [], ◌∷◌, ◌++◌, length, get_or, set, arith, refl, sym, ◌∙◌, ap, subst, inl, inr, ◌⊎◌}
+use Rattle.std.proofs.Common.{◌≡◌, ℕ, ◌+◌, ◌<◌, ◌≤◌, List, [], ◌∷◌, ◌++◌, length, set, arith, refl, sym, ◌∙◌, ap, subst, inl, inr, ◌⊎◌}
 use Rattle.std.specs.List.{Contains}
-use Rattle.std.proofs.lemmas.Bool.{cases_Bool, cases_lt, cases_eq, both_ways}
+use Rattle.std.proofs.lemmas.Bool.{cases_lt, cases_eq}
 use Rattle.std.proofs.lemmas.List.{get_or-set_same, get_or-set_other, length-set, length_push, get_or_push, get_or_append_left, get_or_past}
 use Rattle.std.proofs.lemmas.List.Elements.{Contains-append_left, Contains-push, Contains-push_cases}
 use Rattle.fx_properties.specs.declared.entries.Entry.{Entry}
-use Rattle.fx_properties.specs.Uses.{nothing, entry_of, operands_in, uses}
+use Rattle.fx_properties.specs.Uses.{nothing, operands_in, uses}
 use Rattle.fx_properties.specs.Users.{Row, no_row, users_of, room_of, Mirrors, Unlinks, Links, Roomier}
 use Rattle.fx_properties.proofs.Members.{none_in_nil}
 use Rattle.fx_properties.proofs.Walks.{user_within}
@@ -111,7 +111,7 @@ links_more user names before now name row l within pushed = record {
         let R : ℕ → Type 0 = λ k. Contains (users_of now k) other in
         subst P (sym e)
         (subst Q (sym (users-set_same now name row within ∙ pushed))
-          (Contains-append_left (users_of now name) (user ∷ []) other (subst R e c)))
+        (Contains-append_left (users_of now name) (user ∷ []) other (subst R e c)))
     still n other (inr differs) c =
         let Q : List ℕ → Type 0 = λ xs. Contains xs other in
         subst Q (sym (users-set_other now name n row differs)) c
@@ -252,11 +252,11 @@ mirrors_declared es users entry row m none empty within =
     using user used c (inl low) =
         let Q : List ℕ → Type 0 = λ xs. Contains xs user in
         let old : Contains (uses es user) used =
-          m.using user used (subst Q (ap (λ (r : Row). r.items) (get_or_append_left users (row ∷ []) no_row used low)) c) in
+        m.using user used (subst Q (ap (λ (r : Row). r.items) (get_or_append_left users (row ∷ []) no_row used low)) c) in
         let P : List ℕ → Type 0 = λ xs. Contains xs used in
         subst P
         (sym (ap (λ (e : Entry). operands_in e.definition)
-          (get_or_append_left es (entry ∷ []) nothing user (user_within es user used old))))
+        (get_or_append_left es (entry ∷ []) nothing user (user_within es user used old))))
         old
     using user used c (inr past) =
         let Q : List ℕ → Type 0 = λ xs. Contains xs user in

@@ -1,13 +1,10 @@
 -- Flags after one is set or cleared, and how many are set.
-use Rattle.std.proofs.Common.{◌≡◌, ℕ, zero, suc, ◌+◌, ◌<◌, ◌≤◌, Bool, true, false, cond, not, ◌||◌, ◌&&◌, ◌==◌, List, [], ◌∷◌, ◌++◌, length, map, get_or, set, arith, refl, sym, ◌∙◌, ap, subst, inl, inr, ◌⊎◌}
-use Rattle.std.specs.List.{Contains, range_with_len}
-use Rattle.std.proofs.lemmas.Bool.{cases_Bool, cases_lt, cases_eq, false≢true, both_ways, true_from_ne_false, false_from_ne_true, and_parts, and_from}
-use Rattle.std.proofs.lemmas.List.{get_or_default, get_or_past, get_or-set_same, get_or-set_other, length-set, set-get_or}
+use Rattle.std.proofs.Common.{◌≡◌, ℕ, zero, suc, ◌+◌, ◌<◌, ◌≤◌, Bool, true, false, cond, not, List, [], ◌∷◌, length, map, get_or, set, arith, refl, sym, ◌∙◌, ap, inl, inr}
+use Rattle.std.specs.List.{range_with_len}
+use Rattle.std.proofs.lemmas.Bool.{cases_lt, both_ways}
+use Rattle.std.proofs.lemmas.List.{get_or_past, get_or-set_same, get_or-set_other, set-get_or}
 use Rattle.std.proofs.lemmas.List.FromFn.{fill_by_all, get_or-map-range_with_len, length-map-range_with_len}
-use Rattle.fx_properties.specs.declared.entries.Entry.{Entry}
-use Rattle.fx_properties.specs.Uses.{bound_in}
-use Rattle.fx_properties.specs.Unread.{marked, tally, unmarked, bound_unread}
-use Rattle.fx_properties.proofs.Members.{tally_same, tally_le, tally_less, in_range, none_in_nil, contains_first, contains_later}
+use Rattle.fx_properties.specs.Unread.{marked, tally, unmarked}
 
 pub marked-set_same : (flags : List Bool) (name : ℕ) (flag : Bool) → name < length flags → marked (set flags name flag) name ≡ flag
 marked-set_same flags name flag h = get_or-set_same flags name flag false h
@@ -52,7 +49,7 @@ tally_one test [] i x d h = absurd (omega arith)
 tally_one test (y ∷ ys) zero x d h = omega arith
 tally_one test (y ∷ ys) (suc i) x d h =
     let rest : tally test (set ys i x) + cond (test (get_or ys i d)) 1 0 ≡ tally test ys + cond (test x) 1 0 =
-      tally_one test ys i x d (omega arith) in
+    tally_one test ys i x d (omega arith) in
     omega arith
 
 pub unmarked-mark : (flags : List Bool) (name : ℕ) → name < length flags → marked flags name ≡ false
@@ -68,7 +65,7 @@ pub unmarked-clear : (flags : List Bool) (name : ℕ) → marked flags name ≡ 
 unfolding unmarked
 unmarked-clear flags name on =
     let one : tally not (set flags name false) + cond (not (marked flags name)) 1 0 ≡ tally not flags + 1 =
-      tally_one not flags name false false (marked_within flags name on) in
+    tally_one not flags name false false (marked_within flags name on) in
     let same : cond {A = ℕ} (not (marked flags name)) 1 0 ≡ 0 = ap (λ (b : Bool). cond {A = ℕ} (not b) 1 0) on in
     omega arith
 

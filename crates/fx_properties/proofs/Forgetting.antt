@@ -1,13 +1,13 @@
 -- Names that are forgotten, of which no other name is bound to one.
-use Rattle.std.proofs.Common.{◌≡◌, ◌≢◌, ℕ, zero, suc, ◌+◌, ◌<◌, ◌≤◌, Bool, true, false, cond, List, [], ◌∷◌, ◌++◌, length, get_or, set, arith, refl, sym, ◌∙◌, ap, subst, inl, inr, ◌⊎◌}
+use Rattle.std.proofs.Common.{◌≡◌, ℕ, ◌<◌, ◌≤◌, Bool, false, List, [], ◌∷◌, length, set, arith, refl, sym, ◌∙◌, ap, subst, inl, inr, ◌⊎◌}
 use Rattle.std.specs.List.{Contains}
-use Rattle.std.proofs.lemmas.Bool.{cases_Bool, cases_lt, cases_eq, both_ways}
+use Rattle.std.proofs.lemmas.Bool.{cases_lt, cases_eq}
 use Rattle.std.proofs.lemmas.List.{get_or_past, get_or-set_same, get_or-set_other, length-set}
 use Rattle.fx_base.specs.declared.values.Value.{Value}
 use Rattle.fx_expr.specs.Meaning.{no_value}
 use Rattle.fx_properties.specs.declared.entries.Entry.{Entry}
 use Rattle.fx_properties.specs.declared.entries.Definition.{Definition}
-use Rattle.fx_properties.specs.declared.entries.Definition.TheVariants.{Base, Bound, Forgotten}
+use Rattle.fx_properties.specs.declared.entries.Definition.TheVariants.{Forgotten}
 use Rattle.fx_properties.specs.Uses.{nothing, entry_of, operands_in, uses, Ranked}
 use Rattle.fx_properties.specs.Eager.{value_of_definition, eager}
 use Rattle.fx_properties.specs.Unread.{marked, IsClosed}
@@ -16,8 +16,8 @@ use Rattle.fx_properties.specs.Refusals.{IsFree}
 use Rattle.fx_properties.specs.Sound.{IsSettled}
 use Rattle.fx_properties.proofs.Members.{none_in_nil, contains_first, contains_later, contains_cases, cases_contains}
 use Rattle.fx_properties.proofs.Values.{eager-agree, eager-unfold}
-use Rattle.fx_properties.proofs.Flags.{marked-set_same, marked-set_other, marked_within}
-use Rattle.fx_properties.proofs.Ranks.{ranked_fewer, ranked_plain, entry-set_same, entry-set_other}
+use Rattle.fx_properties.proofs.Flags.{marked-set_same, marked-set_other}
+use Rattle.fx_properties.proofs.Ranks.{ranked_fewer, entry-set_same, entry-set_other}
 use Rattle.fx_properties.proofs.Reading.{kept_of}
 
 -- nothing is kept of these names
@@ -220,7 +220,7 @@ settled_forget names es rank ranked free flags cache s = record {
     kept name h off (inl member) =
         kept-reset names cache name member
         ∙ sym (eager-unfold (forget_all names es) rank (ranked_forget names es rank ranked) name
-          ∙ ap (value_of_definition (eager (forget_all names es))) (entry-forget names es name member))
+        ∙ ap (value_of_definition (eager (forget_all names es))) (entry-forget names es name member))
     kept name h off (inr out) =
         let long : length (forget_all names es) ≡ length es = length-forget names es in
         kept-reset_other names cache name out

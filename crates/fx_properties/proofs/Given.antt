@@ -1,20 +1,19 @@
 -- Names that are given values.
-use Rattle.std.proofs.Common.{◌≡◌, ◌≢◌, ℕ, zero, suc, ◌+◌, ◌<◌, ◌≤◌, Bool, true, false, cond, not, ◌&&◌, ◌||◌, List, [], ◌∷◌, ◌++◌, length, map, filter, get_or, set, arith, refl, sym, ◌∙◌, ap, subst, inl, inr, ◌⊎◌}
+use Rattle.std.proofs.Common.{◌≡◌, ◌≢◌, ℕ, suc, ◌<◌, Bool, true, false, cond, not, List, [], ◌∷◌, ◌++◌, length, map, filter, set, arith, refl, sym, ◌∙◌, ap, subst, inl, inr, ◌⊎◌}
 use Rattle.std.specs.List.{Contains, AllPairs}
-use Rattle.std.proofs.lemmas.Bool.{cases_Bool, cases_lt, cases_eq, both_ways, not_from_false}
+use Rattle.std.proofs.lemmas.Bool.{cases_Bool, both_ways, not_from_false}
 use Rattle.std.proofs.lemmas.List.{length-set, append-nil, map-append}
 use Rattle.std.proofs.lemmas.List.Elements.{filter-append}
 use Rattle.fx_base.specs.declared.keys.Name.{Name}
 use Rattle.fx_base.specs.declared.values.Value.{Value}
 use Rattle.fx_properties.specs.declared.entries.Entry.{Entry}
-use Rattle.fx_properties.specs.declared.entries.Definition.{Definition}
-use Rattle.fx_properties.specs.declared.entries.Definition.TheVariants.{Base, Bound, Forgotten}
+use Rattle.fx_properties.specs.declared.entries.Definition.TheVariants.{Base}
 use Rattle.fx_properties.specs.Equality.{same_value}
-use Rattle.fx_properties.specs.Uses.{nothing, entry_of, operands_in, uses, bound_in, unknown_in, Ranked}
+use Rattle.fx_properties.specs.Uses.{entry_of, operands_in, uses, bound_in, unknown_in, Ranked}
 use Rattle.fx_properties.specs.Eager.{value_of_definition, eager}
 use Rattle.fx_properties.specs.Unread.{leads_to_any, after_marking}
 use Rattle.fx_properties.specs.Marking.{IsClosedBut}
-use Rattle.fx_properties.specs.Users.{Row, users_of, Mirrors}
+use Rattle.fx_properties.specs.Users.{Row, Mirrors}
 use Rattle.fx_properties.specs.Changes.{given, with_values, changed}
 use Rattle.fx_properties.specs.Sound.{IsSettled}
 use Rattle.fx_properties.proofs.Same.{Decides-value}
@@ -57,7 +56,7 @@ entry-given_other sets (pair ∷ pairs) es name out =
     entry-given_other sets pairs (set es pair.0.0 (given sets pair.1 (entry_of es pair.0.0))) name
     (λ c. out (contains_later pair.0.0 (targets pairs) name c))
     ∙ entry-set_other es pair.0.0 name (given sets pair.1 (entry_of es pair.0.0))
-      (λ (e : name ≡ pair.0.0). out (subst (Contains (targets (pair ∷ pairs))) (sym e) (contains_first pair.0.0 (targets pairs))))
+    (λ (e : name ≡ pair.0.0). out (subst (Contains (targets (pair ∷ pairs))) (sym e) (contains_first pair.0.0 (targets pairs))))
 
 pub entry-given : (sets : Bool) (pairs : List (Name × Value)) (es : List Entry) → Distinct pairs
     → ((p : Name × Value) → Contains pairs p → p.0.0 < length es)
@@ -70,14 +69,14 @@ entry-given sets (first ∷ pairs) es distinct within pair c =
           let P : Name × Value → Type 0 = λ p. entry_of (with_values sets (first ∷ pairs) es) p.0.0 ≡ given sets p.1 (entry_of es p.0.0) in
           subst P here
           (entry-given_other sets pairs (set es first.0.0 (given sets first.1 (entry_of es first.0.0))) first.0.0
-            (distinct_first first pairs distinct)
+          (distinct_first first pairs distinct)
           ∙ entry-set_same es first.0.0 (given sets first.1 (entry_of es first.0.0)) (within first (contains_first first pairs)))
       | inr later ↦
           let after : List Entry = set es first.0.0 (given sets first.1 (entry_of es first.0.0)) in
           let long : length after ≡ length es = length-set es first.0.0 (given sets first.1 (entry_of es first.0.0)) in
           let differs : pair.0.0 ≡ first.0.0 → ⊥ =
-            λ e. distinct_first first pairs distinct
-              (subst (Contains (targets pairs)) e (contains_map (λ (p : Name × Value). p.0.0) pairs pair later)) in
+          λ e. distinct_first first pairs distinct
+          (subst (Contains (targets pairs)) e (contains_map (λ (p : Name × Value). p.0.0) pairs pair later)) in
           entry-given sets pairs after (distinct_rest first pairs distinct)
           (λ p d. let was : p.0.0 < length es = within p (contains_later first pairs p d) in omega arith) pair later
           ∙ ap (given sets pair.1) (entry-set_other es first.0.0 pair.0.0 (given sets first.1 (entry_of es first.0.0)) differs)
@@ -158,14 +157,14 @@ settled_given sets pairs es rank ranked distinct plain flags cache s =
               let ok = plain found.0 found.1 in
               let base = base_definition (entry_of es found.0.0.0).definition ok.1 ok.0 in
               let out : Contains (changed pairs es) found.0.0.0 → ⊥ =
-                λ c. both_ways _ off (any-member (with_values sets pairs es) (changed pairs es) name (subst (Contains (changed pairs es)) found.2 c)) in
+              λ c. both_ways _ off (any-member (with_values sets pairs es) (changed pairs es) name (subst (Contains (changed pairs es)) found.2 c)) in
               let was : base.0 ≡ found.0.1 =
-                sym (eager-unfold es rank ranked found.0.0.0 ∙ ap (value_of_definition (eager es)) base.1)
-                ∙ unchanged_value pairs es found.0 found.1 out in
+              sym (eager-unfold es rank ranked found.0.0.0 ∙ ap (value_of_definition (eager es)) base.1)
+              ∙ unchanged_value pairs es found.0 found.1 out in
               let P : ℕ → Type 0 = λ n. (entry_of (with_values sets pairs es) n).definition ≡ (entry_of es n).definition in
               subst P found.2
               (ap (λ (e : Entry). e.definition)
-                (entry-given sets pairs es distinct (λ p c. known_within es p.0.0 (plain p c).0) found.0 found.1)
+              (entry-given sets pairs es distinct (λ p c. known_within es p.0.0 (plain p c).0) found.0 found.1)
               ∙ ap Base (sym was) ∙ sym base.1)
           | inr out ↦ ap (λ (e : Entry). e.definition) (entry-given_other sets pairs es name out)
         ]

@@ -1,9 +1,9 @@
 -- The kind of a value: of an expression over values of its operands' kinds, and of every known name.
-use Rattle.std.proofs.Common.{◌≡◌, ◌≢◌, ℕ, zero, suc, ◌+◌, ◌<◌, ◌≤◌, Bool, true, false, cond, if◌then◌else◌, List, [], ◌∷◌, ◌++◌, length, map, get_or, set, arith, refl, sym, ◌∙◌, ap, subst, inl, inr, ◌⊎◌, Option, Some, None, slice_index_or, pos, ℤ}
+use Rattle.std.proofs.Common.{◌≡◌, ℕ, zero, suc, ◌<◌, Bool, true, false, if◌then◌else◌, List, [], ◌∷◌, map, arith, refl, ◌∙◌, ap, Option, Some, None, slice_index_or, pos, ℤ}
 use Rattle.std.specs.Prelude.{option_and_then, int_div, int_rem}
 use Rattle.std.specs.List.{Contains}
 use Rattle.std.specs.Ordering.{int_eq}
-use Rattle.std.proofs.lemmas.Bool.{cases_Bool, cases_lt, cases_eq, both_ways, true≢false}
+use Rattle.std.proofs.lemmas.Bool.{true≢false}
 use Rattle.fx_base.specs.Printing.{kind_of}
 use Rattle.fx_base.specs.declared.kinds.Kind.{Kind}
 use Rattle.fx_base.specs.declared.kinds.Kind.TheVariants as kind
@@ -15,11 +15,11 @@ use Rattle.fx_expr.specs.declared.tree.UnarySign.TheVariants as unary
 use Rattle.fx_expr.specs.declared.tree.BinarySign.TheVariants as binary
 use Rattle.fx_expr.specs.Tree.{Tree, Leaf, Place, One, Two, tree}
 use Rattle.fx_expr.specs.Typing.{unary_kind, sum_kind, numeric_kind, same_kind, truth_kind, binary_kind, kind_in}
-use Rattle.fx_expr.specs.Meaning.{no_value, near, unary_of, quotient_of, rest_of, over_numbers, numeric, sum_of, binary_of, mean}
+use Rattle.fx_expr.specs.Meaning.{no_value, near, unary_of, over_numbers, numeric, sum_of, binary_of, mean}
 use Rattle.fx_properties.specs.declared.entries.Entry.{Entry}
 use Rattle.fx_properties.specs.declared.entries.Definition.{Definition}
 use Rattle.fx_properties.specs.declared.entries.Definition.TheVariants.{Base, Bound, Forgotten}
-use Rattle.fx_properties.specs.Uses.{nothing, entry_of, operands_in, is_gone, uses, unknown_in, Ranked}
+use Rattle.fx_properties.specs.Uses.{entry_of, operands_in, is_gone, uses, unknown_in, Ranked}
 use Rattle.fx_properties.specs.Eager.{value_of_definition, eager}
 use Rattle.fx_properties.specs.Refusals.{kind_at}
 use Rattle.fx_properties.specs.Sound.{HasKind, AreSound}
@@ -103,7 +103,7 @@ mean_sound (One sign x) values k e =
     unary_sound sign (mean x values) k (ap (unary_kind sign) inner ∙ parts.2)
 mean_sound (Two sign x y) values k e =
     let outer = and_then_parts (kind_in x (map kind_of values))
-      (λ i. option_and_then (λ j. binary_kind sign i j) (kind_in y (map kind_of values))) k e in
+    (λ i. option_and_then (λ j. binary_kind sign i j) (kind_in y (map kind_of values))) k e in
     let parts = and_then_parts (kind_in y (map kind_of values)) (λ j. binary_kind sign outer.0 j) k outer.2 in
     let left : kind_of (mean x values) ≡ outer.0 = mean_sound x values outer.0 outer.1 in
     let right : kind_of (mean y values) ≡ parts.0 = mean_sound y values parts.0 parts.1 in
@@ -132,9 +132,9 @@ eager_sound_below es rank ranked sound zero name below known = absurd (omega ari
 eager_sound_below es rank ranked sound (suc depth) name below known =
     ap kind_of (eager-unfold es rank ranked name)
     ∙ definition_sound es (entry_of es name) (entry_of es name).definition (sound.kinds name) known
-      (λ (o : ℕ) (c : Contains (uses es name) o).
-        let falls : rank o < rank name = ranked.falls name o c in
-        eager_sound_below es rank ranked sound depth o (omega arith) (sound.known name o c))
+    (λ (o : ℕ) (c : Contains (uses es name) o).
+    let falls : rank o < rank name = ranked.falls name o c in
+    eager_sound_below es rank ranked sound depth o (omega arith) (sound.known name o c))
 
 -- the value of a known name has its kind
 pub eager_sound : (es : List Entry) (rank : ℕ → ℕ) → Ranked es rank → AreSound es → (name : ℕ) → unknown_in es name ≡ false

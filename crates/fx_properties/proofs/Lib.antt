@@ -1,5 +1,6 @@
 pub mod Binding
 pub mod Changed
+mod Diamond
 pub mod Edges
 pub mod Flags
 pub mod Forgetting

@@ -1,13 +1,13 @@
 -- One name more is marked, and a list of names.
-use Rattle.std.proofs.Common.{◌≡◌, ◌≢◌, ℕ, zero, suc, ◌+◌, ◌<◌, ◌≤◌, Bool, true, false, cond, List, [], ◌∷◌, ◌++◌, length, get_or, set, arith, refl, sym, ◌∙◌, ap, subst, inl, inr, ◌⊎◌}
+use Rattle.std.proofs.Common.{◌≡◌, ◌≢◌, ℕ, ◌+◌, ◌<◌, ◌≤◌, Bool, true, false, cond, List, [], ◌∷◌, ◌++◌, length, set, arith, refl, sym, ◌∙◌, ap, subst, inl, inr, ◌⊎◌}
 use Rattle.std.specs.List.{Contains}
-use Rattle.std.proofs.lemmas.Bool.{cases_Bool, cases_lt, cases_eq, both_ways, cond-true, cond-false}
+use Rattle.std.proofs.lemmas.Bool.{cases_Bool, cases_lt, cases_eq, both_ways}
 use Rattle.std.proofs.lemmas.List.{get_or-set_same, get_or-set_other, length-set}
 use Rattle.std.proofs.lemmas.List.Elements.{Contains-append_left, Contains-push, Contains-push_cases}
 use Rattle.fx_properties.specs.Unread.{marked, unmarked}
-use Rattle.fx_properties.specs.Marking.{at, Listed, GoesOn, MarksAll}
+use Rattle.fx_properties.specs.Marking.{at, Listed, MarksAll}
 use Rattle.fx_properties.proofs.Members.{none_in_nil}
-use Rattle.fx_properties.proofs.Flags.{marked-set_same, marked-set_other, marked_within, set_marked, unmarked-mark, unmarked_some}
+use Rattle.fx_properties.proofs.Flags.{marked-set_same, marked-set_other, set_marked, unmarked-mark, unmarked_some}
 
 -- nothing is listed yet
 pub listed_start : (flags : List Bool) (work : List ℕ) → Listed flags flags work 0
@@ -29,7 +29,7 @@ listed_more before now work count name l within room off =
     let less : unmarked (set now name true) + 1 ≡ unmarked now = unmarked-mark now name within off in
     let sum : count + unmarked now ≡ unmarked before = l.room in
     let old : (i : ℕ) → i < count → at (set work count name) i ≡ at work i =
-      λ i h. get_or-set_other work count i name 0 (λ (e : i ≡ count). omega arith) in
+    λ i h. get_or-set_other work count i name 0 (λ (e : i ≡ count). omega arith) in
     let here : at (set work count name) count ≡ name = get_or-set_same work count name 0 room in
     record {
       flags = length-set now name true ∙ l.flags;
@@ -86,10 +86,10 @@ listed_more before now work count name l within room off =
         λ e. l.once i j less below (sym (old i (omega arith)) ∙ e ∙ old j below)
     once old here i j less h (inr above) =
         λ e.
-          let last : j ≡ count = omega arith in
-          let low : i < count = omega arith in
-          let same : at work i ≡ name = sym (old i low) ∙ e ∙ ap (at (set work count name)) last ∙ here in
-          both_ways _ off (subst (λ (n : ℕ). marked now n ≡ true) same (l.listed i low).2)
+        let last : j ≡ count = omega arith in
+        let low : i < count = omega arith in
+        let same : at work i ≡ name = sym (old i low) ∙ e ∙ ap (at (set work count name)) last ∙ here in
+        both_ways _ off (subst (λ (n : ℕ). marked now n ≡ true) same (l.listed i low).2)
 
 -- marking a name, by the three equations of the code
 pub listed_mark : (before now : List Bool) (work : List ℕ) (count name : ℕ) → Listed before now work count

@@ -1,17 +1,16 @@
 -- The names that came newly to be unread, sorted: they are those of the definition.
-use Rattle.std.proofs.Common.{◌≡◌, ◌≢◌, ℕ, zero, suc, ◌+◌, ◌<◌, ◌≤◌, Bool, true, false, cond, not, ◌&&◌, ◌||◌, ◌==◌, List, [], ◌∷◌, ◌++◌, length, map, filter, take, get_or, set, arith, refl, sym, ◌∙◌, ap, subst, inl, inr, ◌⊎◌}
-use Rattle.std.specs.List.{Contains, AllPairs, range_with_len, swap}
+use Rattle.std.proofs.Common.{◌≡◌, ℕ, zero, suc, ◌+◌, ◌<◌, ◌≤◌, Bool, true, false, cond, not, ◌&&◌, ◌||◌, ◌==◌, List, [], ◌∷◌, length, filter, take, get_or, set, arith, refl, sym, ◌∙◌, ap, subst, inl, inr, ◌⊎◌}
+use Rattle.std.specs.List.{Contains, range_with_len, swap}
 use Rattle.std.specs.List.Sorted.{IsPermutation, IsNonDecreasing}
-use Rattle.std.proofs.lemmas.Bool.{cases_Bool, cases_lt, cases_eq, cases_order, both_ways, and_parts, and_from, or_cases, or_left, or_right, not-true, not_from_false, cond-true, cond-false, eq-eqb, ne_eqb}
+use Rattle.std.proofs.lemmas.Bool.{cases_Bool, cases_eq, cases_order, and_parts, and_from, or_right, not-true, not_from_false, cond-true, cond-false, eq-eqb, ne_eqb}
 use Rattle.std.proofs.lemmas.List.{get_or-set_same, get_or-set_other, get_or_default, length-set, get_or-take, length-take-le}
 use Rattle.std.proofs.lemmas.List.Edits.{length-swap}
-use Rattle.std.proofs.lemmas.List.Sorted.{IsPermutation-keeps, IsPermutation-sym, Contains-permutation, length_permutation}
+use Rattle.std.proofs.lemmas.List.Sorted.{IsPermutation-keeps, IsPermutation-sym, Contains-permutation}
 use Rattle.fx_properties.specs.declared.entries.Entry.{Entry}
 use Rattle.fx_properties.specs.Unread.{marked, leads_to_any, after_marking, newly_marked}
 use Rattle.fx_properties.specs.Marking.{at, Listed}
 use Rattle.fx_properties.proofs.Members.{none_in_nil, contains_first, contains_later, contains_cases, contains_filter, filter_contains, in_range, below_range}
 use Rattle.fx_properties.proofs.Changed.{marked-marking}
-use Rattle.fx_properties.proofs.Flags.{marked_within}
 
 -- each number is below all later ones
 abbrev pub Rises : List ℕ → Type 0
@@ -49,9 +48,9 @@ same_rising (x ∷ xs) (y ∷ ys) up up' there back =
     let first : x ≡ y = least (contains_cases y ys x (there x (contains_first x xs))) (contains_cases x xs y (back y (contains_first y ys))) in
     ap (λ n. n ∷ xs) first
     ∙ ap (λ (zs : List ℕ). y ∷ zs)
-      (same_rising xs ys (rises_rest x xs up) (rises_rest y ys up')
-        (λ z c. to z c first (contains_cases y ys z (there z (contains_later x xs z c))))
-        (λ z c. from z c first (contains_cases x xs z (back z (contains_later y ys z c)))))
+    (same_rising xs ys (rises_rest x xs up) (rises_rest y ys up')
+    (λ z c. to z c first (contains_cases y ys z (there z (contains_later x xs z c))))
+    (λ z c. from z c first (contains_cases x xs z (back z (contains_later y ys z c)))))
   where
     least : (y ≡ x) ⊎ Contains ys x → (x ≡ y) ⊎ Contains xs y → x ≡ y
     least (inl e) _ = sym e
@@ -111,11 +110,11 @@ pub in_order_is : (test : ℕ → Bool) (n : ℕ) (xs : List ℕ) → Rises xs
 in_order_is test n xs rises sound complete =
     same_rising xs (filter test (range_with_len 0 n)) rises (rises_filter test 0 n)
     (λ x c.
-      let ok = sound x c in
-      contains_filter test (range_with_len 0 n) x (in_range n x ok.0) ok.1)
+    let ok = sound x c in
+    contains_filter test (range_with_len 0 n) x (in_range n x ok.0) ok.1)
     (λ x c.
-      let parts = filter_contains test (range_with_len 0 n) x c in
-      complete x (below_range n x parts.0) parts.1)
+    let parts = filter_contains test (range_with_len 0 n) x c in
+    complete x (below_range n x parts.0) parts.1)
 
 -- no number stands at two places
 abbrev Once : List ℕ → Type 0
@@ -198,8 +197,8 @@ once_swap : (xs : List ℕ) (i j : ℕ) → i < length xs → j < length xs → 
 once_swap xs i j hi hj once a b ha hb e =
     let long : length (swap xs i j) ≡ length xs = length-swap xs i j in
     let same : came i j a ≡ came i j b =
-      once (came i j a) (came i j b) (came_within i j a (length xs) hi hj (omega arith)) (came_within i j b (length xs) hi hj (omega arith))
-      (sym (at-swap xs i j a hi hj) ∙ e ∙ at-swap xs i j b hi hj) in
+    once (came i j a) (came i j b) (came_within i j a (length xs) hi hj (omega arith)) (came_within i j b (length xs) hi hj (omega arith))
+    (sym (at-swap xs i j a hi hj) ∙ e ∙ at-swap xs i j b hi hj) in
     sym (came_twice i j a) ∙ ap (came i j) same ∙ came_twice i j b
 
 -- sorted, numbers that differ rise

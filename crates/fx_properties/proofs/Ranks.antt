@@ -1,9 +1,9 @@
 -- Ranks, made small again, and ranks after an entry is written.
-use Rattle.std.proofs.Common.{◌≡◌, ℕ, zero, suc, ◌+◌, ◌<◌, ◌≤◌, ltb, Bool, true, false, cond, not, List, [], ◌∷◌, ◌++◌, length, get_or, set, arith, refl, sym, ◌∙◌, ap, subst, inl, inr, ◌⊎◌}
+use Rattle.std.proofs.Common.{◌≡◌, ℕ, ◌+◌, ◌<◌, ◌≤◌, ltb, true, false, cond, List, [], ◌∷◌, ◌++◌, length, set, arith, refl, ◌∙◌, ap, subst, inl, inr, ◌⊎◌}
 use Rattle.std.specs.List.{Contains, range_with_len}
-use Rattle.std.proofs.lemmas.Bool.{cases_Bool, cases_lt, cases_eq, both_ways, ltb-true, lt-ltb, le-ltb, cond-true, cond-false}
+use Rattle.std.proofs.lemmas.Bool.{cases_Bool, cases_lt, cases_eq, ltb-true, lt-ltb, le-ltb, cond-true, cond-false}
 use Rattle.std.proofs.lemmas.List.FromFn.{length-range_with_len}
-use Rattle.std.proofs.lemmas.List.{get_or_past, get_or-set_same, get_or-set_other, length-set, length_push, get_or_push, get_or_append_left}
+use Rattle.std.proofs.lemmas.List.{get_or-set_same, get_or-set_other, length-set, length_push, get_or_push, get_or_append_left}
 use Rattle.fx_properties.specs.declared.entries.Entry.{Entry}
 use Rattle.fx_properties.specs.Unread.{tally}
 use Rattle.fx_properties.specs.Uses.{nothing, entry_of, operands_in, uses, leads, Ranked}
@@ -25,8 +25,8 @@ place-small : (rank : ℕ → ℕ) (n name : ℕ) → name < n → place rank n 
 unfolding place
 place-small rank n name within =
     let less : place rank n name < tally (λ (o : ℕ). true) (range_with_len 0 n) =
-      tally_less (λ (o : ℕ). ltb (rank o) (rank name)) (λ (o : ℕ). true) (range_with_len 0 n) name
-      (λ o _ _. refl) (in_range n name within) (le-ltb (rank name) (rank name) (omega arith)) refl in
+    tally_less (λ (o : ℕ). ltb (rank o) (rank name)) (λ (o : ℕ). true) (range_with_len 0 n) name
+    (λ o _ _. refl) (in_range n name within) (le-ltb (rank name) (rank name) (omega arith)) refl in
     let most : tally (λ (o : ℕ). true) (range_with_len 0 n) ≤ length (range_with_len 0 n) = tally_most (λ (o : ℕ). true) (range_with_len 0 n) in
     let long : length (range_with_len 0 n) ≡ n = length-range_with_len 0 n in
     omega arith
@@ -36,12 +36,14 @@ pub ranked_from : (es : List Entry) (rank : ℕ → ℕ)
     → ((from to : ℕ) → Contains (uses es from) to → rank to < rank from)
     → ((from to : ℕ) → Contains (uses es from) to → to < length es)
     → (small : ℕ → ℕ) × Ranked es small
-ranked_from es rank falls within =
-    (place rank (length es), record {
-      falls = λ from to c. place-falls rank (length es) from to (within from to c) (falls from to c);
-      within = within;
-      small = λ name h. place-small rank (length es) name h;
-    })
+ranked_from es rank falls within = (
+  place rank (length es),
+  record {
+    falls = λ from to c. place-falls rank (length es) from to (within from to c) (falls from to c);
+    within = within;
+    small = λ name h. place-small rank (length es) name h;
+  },
+)
 
 -- no new uses
 pub ranked_fewer : (es fs : List Entry) (rank : ℕ → ℕ) → Ranked es rank → length fs ≡ length es
@@ -128,7 +130,7 @@ ranked_bound es rank ranked name entry free =
           | inl holds ↦
               let low : raised es name rank to ≡ length es + rank to = raised-leads es name rank to holds in
               let high : raised es name rank from ≡ length es + rank from =
-                raised-leads es name rank from (leads-first es rank ranked from to name old.1 holds) in
+              raised-leads es name rank from (leads-first es rank ranked from to name old.1 holds) in
               omega arith
           | inr fails ↦
               let low : raised es name rank to ≡ rank to = raised-free es name rank to fails in
@@ -175,9 +177,9 @@ ranked_declared es rank ranked entry none =
     ranked_from (es ++ entry ∷ []) rank
     (λ from to c. ranked.falls from to (uses-declared es entry none from to c))
     (λ from to c.
-      let old : to < length es = ranked.within from to (uses-declared es entry none from to c) in
-      let long : length (es ++ entry ∷ []) ≡ length es + 1 = length_push es entry in
-      omega arith)
+    let old : to < length es = ranked.within from to (uses-declared es entry none from to c) in
+    let long : length (es ++ entry ∷ []) ≡ length es + 1 = length_push es entry in
+    omega arith)
 
 pub ranked_empty : (rank : ℕ → ℕ) → Ranked [] rank
 ranked_empty rank = record {

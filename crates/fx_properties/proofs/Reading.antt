@@ -1,7 +1,7 @@
 -- A read: one value is kept, what a stack of names meets, and what the read has cost.
-use Rattle.std.proofs.Common.{◌≡◌, ◌≢◌, ℕ, zero, suc, ◌+◌, ◌*◌, ◌-◌, ◌<◌, ◌≤◌, Bool, true, false, cond, not, ◌&&◌, ◌||◌, List, [], ◌∷◌, ◌++◌, length, map, get_or, set, arith, refl, sym, ◌∙◌, ap, subst, inl, inr, ◌⊎◌}
+use Rattle.std.proofs.Common.{◌≡◌, ℕ, zero, suc, ◌+◌, ◌*◌, ◌-◌, ◌<◌, ◌≤◌, Bool, true, false, cond, not, ◌&&◌, List, [], ◌∷◌, length, get_or, set, arith, refl, sym, ◌∙◌, ap, subst, inl, inr, ◌⊎◌}
 use Rattle.std.specs.List.{Contains, range_with_len}
-use Rattle.std.proofs.lemmas.Bool.{cases_Bool, cases_lt, cases_eq, both_ways, and_parts, and_from, false_from_ne_true, not_from_false, not-true, cond-true, cond-false, true≢false}
+use Rattle.std.proofs.lemmas.Bool.{cases_Bool, cases_lt, cases_eq, both_ways, and_parts, and_from, false_from_ne_true, not_from_false, not-true}
 use Rattle.std.proofs.lemmas.List.{get_or-set_same, get_or-set_other, length-set}
 use Rattle.fx_base.specs.declared.values.Value.{Value}
 use Rattle.fx_expr.specs.Meaning.{no_value}
@@ -11,8 +11,8 @@ use Rattle.fx_properties.specs.Eager.{value_of_definition, eager}
 use Rattle.fx_properties.specs.Unread.{marked, tally, unmarked, bound_unread, evaluations, after_reading, IsClosed, IsPartRead}
 use Rattle.fx_properties.specs.Marking.{at}
 use Rattle.fx_properties.specs.Sound.{IsSettled}
-use Rattle.fx_properties.proofs.Members.{tally_same, in_range, contains_first, contains_later, contains_cases, none_in_nil}
-use Rattle.fx_properties.proofs.Walks.{leads-refl, leads-last, leads-down, user_within}
+use Rattle.fx_properties.proofs.Members.{contains_first, contains_later}
+use Rattle.fx_properties.proofs.Walks.{leads-refl, leads-last, leads-down}
 use Rattle.fx_properties.proofs.Values.{value_same, eager-unfold}
 use Rattle.fx_properties.proofs.Flags.{marked-set_same, marked-set_other, marked_within, flags_by, same_test, unmarked-clear, unmarked_most}
 
@@ -101,7 +101,7 @@ bound_unread-clear es flags name within on =
     past p q from (suc n) below same =
         let first : p from ≡ q from = same from (λ (e : from ≡ name). omega arith) in
         let rest : tally p (range_with_len (from + 1) n) ≡ tally q (range_with_len (from + 1) n) =
-          past p q (from + 1) n (omega arith) same in
+        past p q (from + 1) n (omega arith) same in
         rw first (omega arith)
 
     one_less : (p q : ℕ → Bool) (from n : ℕ) → from ≤ name → name < from + n → ((k : ℕ) → (k ≡ name → ⊥) → p k ≡ q k)
@@ -112,14 +112,14 @@ bound_unread-clear es flags name within on =
         elim (cases_eq from name) [
           | inl here ↦
               let rest : tally p (range_with_len (from + 1) n) ≡ tally q (range_with_len (from + 1) n) =
-                past p q (from + 1) n (omega arith) same in
+              past p q (from + 1) n (omega arith) same in
               let first : p from ≡ false = ap p here ∙ gone in
               let second : q from ≡ bound_in es name = ap q here ∙ was in
               rw (first, second) (omega arith)
           | inr differs ↦
               let first : p from ≡ q from = same from differs in
               let rest : tally p (range_with_len (from + 1) n) + cond {A = ℕ} (bound_in es name) 1 0 ≡ tally q (range_with_len (from + 1) n) =
-                one_less p q (from + 1) n (omega arith) (omega arith) same gone was in
+              one_less p q (from + 1) n (omega arith) (omega arith) same gone was in
               rw first (omega arith)
         ]
 
@@ -239,14 +239,14 @@ settles_start es rank ranked name flags cache stack cost s long on =
       part = part_none es name flags;
       long = length-set stack 0 name ∙ long;
       each = λ i h.
-        let P : ℕ → Type 0 = λ n. (n < length es) × (marked flags n ≡ true) × (leads es name n ≡ true) in
-        let e : i ≡ 0 = omega arith in
-        let inside : name < length es = omega arith in
-        subst P (sym (ap (at (set stack 0 name)) e ∙ here)) (inside, on, leads-refl es name);
+          let P : ℕ → Type 0 = λ n. (n < length es) × (marked flags n ≡ true) × (leads es name n ≡ true) in
+          let e : i ≡ 0 = omega arith in
+          let inside : name < length es = omega arith in
+          subst P (sym (ap (at (set stack 0 name)) e ∙ here)) (inside, on, leads-refl es name);
       low = λ i h.
-        let e : i ≡ 0 = omega arith in
-        let P : ℕ → Type 0 = λ n. rank n + i < length es in
-        subst P (sym (ap (at (set stack 0 name)) e ∙ here)) (omega arith);
+          let e : i ≡ 0 = omega arith in
+          let P : ℕ → Type 0 = λ n. rank n + i < length es in
+          subst P (sym (ap (at (set stack 0 name)) e ∙ here)) (omega arith);
       falls = λ i j less h. absurd (omega arith);
       bottom = λ _. here;
       over = λ h. absurd (omega arith);
@@ -265,7 +265,7 @@ settles_push es rank ranked name before now cache stack count cost cost' s o c o
     let long : length stack ≡ length es = s.long in
     let here : at (set stack (suc count) o) (suc count) ≡ o = get_or-set_same stack (suc count) o 0 (omega arith) in
     let old : (i : ℕ) → i < suc count → at (set stack (suc count) o) i ≡ at stack i =
-      λ i h. get_or-set_other stack (suc count) i o 0 (λ (e : i ≡ suc count). omega arith) in
+    λ i h. get_or-set_other stack (suc count) i o 0 (λ (e : i ≡ suc count). omega arith) in
     let led : leads es name o ≡ true = leads-last es rank ranked name (at stack count) o top.2 c in
     record {
       settled = s.settled;
@@ -335,18 +335,21 @@ pub settles_pop : (es : List Entry) (rank : ℕ → ℕ) → Ranked es rank → 
 settles_pop es rank ranked name before now cache stack count cost cost' s value cost'' free same paid =
     let top = s.each count (omega arith) in
     let less : bound_unread es (set now (at stack count) false) + cond {A = ℕ} (bound_in es (at stack count)) 1 0 ≡ bound_unread es now =
-      bound_unread-clear es now (at stack count) top.0 top.1 in
+    bound_unread-clear es now (at stack count) top.0 top.1 in
     let sum : cost' + bound_unread es now ≡ cost + bound_unread es before = s.sum in
     record {
       settled = settled_more es now cache s.settled (at stack count) value free same;
       part = part_more es name before now (at stack count) s.part top.2;
       long = s.long;
       each = λ i h.
-        let was = s.each i (omega arith) in
-        let fall : rank (at stack count) < rank (at stack i) = s.falls i count h (omega arith) in
-        (was.0, marked-set_other now (at stack count) (at stack i) false
-          (λ (e : at stack i ≡ at stack count). let r : rank (at stack i) ≡ rank (at stack count) = ap rank e in omega arith)
-          ∙ was.1, was.2);
+          let was = s.each i (omega arith) in
+          let fall : rank (at stack count) < rank (at stack i) = s.falls i count h (omega arith) in (
+            was.0,
+            marked-set_other now (at stack count) (at stack i) false
+                (λ (e : at stack i ≡ at stack count). let r : rank (at stack i) ≡ rank (at stack count) = ap rank e in omega arith)
+                ∙ was.1,
+            was.2,
+          );
       low = λ i h. s.low i (omega arith);
       falls = λ i j first second. s.falls i j first (omega arith);
       bottom = λ h. s.bottom (omega arith);

@@ -1,8 +1,8 @@
 -- What is known where a call isn't refused, and tests in the order of the definition.
-use Rattle.std.proofs.Common.{◌≡◌, ◌≢◌, ℕ, zero, suc, ◌+◌, ◌<◌, ◌≤◌, ltb, Bool, true, false, cond, not, ◌||◌, List, [], ◌∷◌, ◌++◌, length, map, get_or, set, replicate, arith, refl, sym, ◌∙◌, ap, subst, inl, inr, ◌⊎◌, Option, Some, None}
+use Rattle.std.proofs.Common.{◌≡◌, ℕ, zero, suc, ◌<◌, ◌≤◌, Bool, true, false, cond, not, ◌||◌, List, [], ◌∷◌, map, replicate, refl, sym, ◌∙◌, ap, subst, inl, inr, ◌⊎◌, Option, Some, None}
 use Rattle.std.specs.List.{Contains}
-use Rattle.std.proofs.lemmas.Bool.{cases_Bool, cases_lt, cases_eq, both_ways, ltb-true, ltb-false, not-false, cond-true, cond-false, false≢true, true≢false}
-use Rattle.std.proofs.lemmas.List.{length-replicate, get_or-replicate, get_or_past}
+use Rattle.std.proofs.lemmas.Bool.{cases_Bool, both_ways, ltb-false, not-false, false≢true}
+use Rattle.std.proofs.lemmas.List.{length-replicate}
 use Rattle.fx_base.specs.Printing.{kind_of}
 use Rattle.fx_base.specs.declared.keys.Name.{Name}
 use Rattle.fx_base.specs.declared.kinds.Kind.{Kind}
@@ -12,14 +12,14 @@ use Rattle.fx_expr.specs.Tree.{tree}
 use Rattle.fx_expr.specs.Typing.{kind_in}
 use Rattle.fx_properties.specs.declared.entries.Entry.{Entry}
 use Rattle.fx_properties.specs.declared.errors.GraphError.{GraphError}
-use Rattle.fx_properties.specs.declared.errors.GraphError.TheVariants.{Unknown, ReadOnly, WrongKind, Bound, Cycle, Full, InUse, Memory}
+use Rattle.fx_properties.specs.declared.errors.GraphError.TheVariants.{Unknown, ReadOnly, WrongKind, Bound, Cycle}
 use Rattle.fx_properties.specs.Changes.{with_binding}
 use Rattle.fx_properties.specs.Equality.{same_kind}
 use Rattle.fx_properties.specs.Marking.{IsClosedBut}
 use Rattle.fx_properties.specs.Numbers.{numbers}
 use Rattle.fx_properties.specs.Refusals.{or_else, refused_first, unknown_name, read_only_in, kind_at, pair_names, wrong_kind, set_refusal, publish_refusal, bind_refusal, is_of, fits, operand_count}
 use Rattle.fx_properties.specs.Unread.{marked, leads_to_any, after_marking}
-use Rattle.fx_properties.specs.Uses.{uses, bound_in, unknown_in, leads}
+use Rattle.fx_properties.specs.Uses.{bound_in, unknown_in, leads}
 use Rattle.fx_properties.proofs.Same.{Decides-kind}
 use Rattle.fx_properties.proofs.Members.{none_in_nil, contains_first, contains_later, contains_cases, contains_map, map_contains}
 use Rattle.fx_properties.proofs.Walks.{any-one}
@@ -57,7 +57,7 @@ refused_same error test other [] same = refl
 refused_same error test other (x ∷ xs) same =
     ap (λ (b : Bool). cond b (Some (error x)) (refused_first error test xs)) (same x (contains_first x xs))
     ∙ ap (λ (o : Option GraphError). cond (other x) (Some (error x)) o)
-      (refused_same error test other xs (λ z c. same z (contains_later x xs z c)))
+    (refused_same error test other xs (λ z c. same z (contains_later x xs z c)))
 
 -- a test of the names of pairs, over the pairs
 pub refused_map : {X Y : Type 0} (error : Y → GraphError) (test : Y → Bool) (f : X → Y) (xs : List X)
@@ -92,7 +92,7 @@ settable pairs es e pair c =
       known = refused_none Unknown (λ (name : Name). unknown_in es name.0) (pair_names pairs) first.0 pair.0 there;
       writable = refused_none ReadOnly (λ (name : Name). read_only_in es name.0) (pair_names pairs) second.0 pair.0 there;
       kind = kinds_agree _ _
-        (refused_none (λ (p : Name × Value). WrongKind p.0) (λ (p : Name × Value). not (same_kind (kind_of p.1) (kind_at es p.0.0)))
+          (refused_none (λ (p : Name × Value). WrongKind p.0) (λ (p : Name × Value). not (same_kind (kind_of p.1) (kind_at es p.0.0)))
           pairs third.0 pair c);
       free = refused_none Bound (λ (name : Name). bound_in es name.0) (pair_names pairs) third.1 pair.0 there;
     }
@@ -102,12 +102,13 @@ pub publishable : (pairs : List (Name × Value)) (es : List Entry) → publish_r
     → (pair : Name × Value) → Contains pairs pair → (unknown_in es pair.0.0 ≡ false) × (kind_of pair.1 ≡ kind_at es pair.0.0)
 unfolding publish_refusal
 publishable pairs es e pair c =
-    let first = or_else_none (unknown_name es (pair_names pairs)) _ e in
-    (refused_none Unknown (λ (name : Name). unknown_in es name.0) (pair_names pairs) first.0 pair.0
-      (contains_map (λ (p : Name × Value). p.0) pairs pair c),
+    let first = or_else_none (unknown_name es (pair_names pairs)) _ e in (
+      refused_none Unknown (λ (name : Name). unknown_in es name.0) (pair_names pairs) first.0 pair.0
+          (contains_map (λ (p : Name × Value). p.0) pairs pair c),
       kinds_agree _ _
-      (refused_none (λ (p : Name × Value). WrongKind p.0) (λ (p : Name × Value). not (same_kind (kind_of p.1) (kind_at es p.0.0)))
-        pairs first.1 pair c))
+          (refused_none (λ (p : Name × Value). WrongKind p.0) (λ (p : Name × Value). not (same_kind (kind_of p.1) (kind_at es p.0.0)))
+          pairs first.1 pair c),
+    )
 
 -- what is known of a binding that may be made
 pub record Bindable (entries : List Entry) (name : ℕ) (expr : Expr) (operands : List ℕ) : Type 0 where
@@ -137,7 +138,7 @@ bindable name expr operands es e =
     record {
       known = refused_none Unknown (λ (n : Name). unknown_in es n.0) (name ∷ operands) first.0 name (contains_first name operands);
       operands_known = λ o c. of_name (λ n. unknown_in es n)
-        (λ n d. refused_none Unknown (λ (m : Name). unknown_in es m.0) (name ∷ operands) first.0 n (contains_later name operands n d)) o c;
+          (λ n d. refused_none Unknown (λ (m : Name). unknown_in es m.0) (name ∷ operands) first.0 n (contains_later name operands n d)) o c;
       writable = some_is _ _ second.0;
       kind = of_kind _ _ (none_is _ _ third.0);
       free = λ o c. of_name (λ n. leads es n name.0) (refused_none Cycle (λ (m : Name). leads es m.0 name.0) operands fourth.0) o c;

@@ -1,18 +1,17 @@
 -- The test of two values decides their equality.
-use Rattle.std.proofs.Common.{◌≡◌, ℕ, Bool, true, false, ◌&&◌, ap, ◌∙◌, refl}
+use Rattle.std.proofs.Common.{◌≡◌, ℕ, Bool, true, false, ap, ◌∙◌, refl}
 use Rattle.std.specs.Bool.{Decides, beq}
 use Rattle.fx_base.proofs.GeometryLemmas.{Decides-sides}
-use Rattle.std.specs.Cmp.Lexicographic.{pointwise, bytes_decides}
+use Rattle.std.specs.Cmp.Lexicographic.{bytes_decides}
 use Rattle.std.proofs.lemmas.Bool.Decides.{Decides-int_eq, Decides-eqb, Decides-and, Decides-like}
 use Rattle.fx_base.specs.declared.color.Color.{Color as Paint}
-use Rattle.fx_base.specs.declared.geometry.Sides.{Sides as Insets}
 use Rattle.fx_base.specs.declared.kinds.Family.{Family}
 use Rattle.fx_base.specs.declared.kinds.Family.TheVariants as family
 use Rattle.fx_base.specs.declared.kinds.Kind.{Kind}
 use Rattle.fx_base.specs.declared.kinds.Kind.TheVariants as kind
 use Rattle.fx_base.specs.declared.values.Value.{Value}
 use Rattle.fx_base.specs.declared.values.Value.TheVariants.{Int, Bool as Truth, Text, Choice, Color, Sides}
-use Rattle.fx_properties.specs.Equality.{same_family, same_kind, same_color, same_sides, same_value}
+use Rattle.fx_properties.specs.Equality.{same_family, same_kind, same_color, same_value}
 
 yes : {A : Type 0} {x : A} → Decides true (x ≡ x)
 yes = (λ _. refl, λ _. refl)

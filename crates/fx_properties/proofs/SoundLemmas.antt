@@ -1,11 +1,10 @@
 -- Each change keeps entries sound: values have their kinds, operands are known, and no read-only name is bound.
-use Rattle.std.proofs.Common.{◌≡◌, ◌≢◌, ℕ, zero, suc, ◌+◌, ◌<◌, ◌≤◌, Bool, true, false, cond, List, [], ◌∷◌, ◌++◌, length, map, get_or, set, arith, refl, sym, ◌∙◌, ap, subst, inl, inr, ◌⊎◌, Option, Some, None}
+use Rattle.std.proofs.Common.{◌≡◌, ℕ, ◌+◌, ◌<◌, ◌≤◌, Bool, true, false, List, [], ◌∷◌, ◌++◌, length, map, set, arith, refl, sym, ◌∙◌, ap, subst, inl, inr, ◌⊎◌, Some}
 use Rattle.std.specs.List.{Contains}
-use Rattle.std.proofs.lemmas.Bool.{cases_Bool, cases_lt, cases_eq, both_ways, true≢false}
-use Rattle.std.proofs.lemmas.List.{get_or_past, length-set, length_push, get_or_push, get_or_append_left}
+use Rattle.std.proofs.lemmas.Bool.{cases_lt, cases_eq, both_ways}
+use Rattle.std.proofs.lemmas.List.{get_or_past, length_push, get_or_push}
 use Rattle.fx_base.specs.Printing.{kind_of}
 use Rattle.fx_base.specs.declared.keys.Name.{Name}
-use Rattle.fx_base.specs.declared.kinds.Kind.{Kind}
 use Rattle.fx_base.specs.declared.values.Value.{Value}
 use Rattle.fx_expr.specs.declared.tree.Expr.{Expr}
 use Rattle.fx_expr.specs.Tree.{tree, is_within}
@@ -14,13 +13,12 @@ use Rattle.fx_properties.specs.declared.entries.Entry.{Entry}
 use Rattle.fx_properties.specs.declared.entries.Definition.{Definition}
 use Rattle.fx_properties.specs.declared.entries.Definition.TheVariants.{Base, Bound, Forgotten}
 use Rattle.fx_properties.specs.Uses.{nothing, entry_of, operands_in, is_binding, is_gone, uses, bound_in, unknown_in, Ranked}
-use Rattle.fx_properties.specs.Eager.{eager}
-use Rattle.fx_properties.specs.Changes.{given, with_values, bound_to, with_binding, forgotten, forget_all}
+use Rattle.fx_properties.specs.Changes.{given, with_values, bound_to, with_binding, forget_all}
 use Rattle.fx_properties.specs.Refusals.{kind_at, read_only_in, IsFree}
 use Rattle.fx_properties.specs.Sound.{HasKind, AreSound}
 use Rattle.fx_properties.proofs.Members.{none_in_nil, map_same, map_contains, cases_contains}
 use Rattle.fx_properties.proofs.Ranks.{entry-set_same, entry-set_other, uses-declared, uses-set_cases}
-use Rattle.fx_properties.proofs.Changed.{known_within, entry-declared, user_bound}
+use Rattle.fx_properties.proofs.Changed.{known_within, entry-declared}
 use Rattle.fx_properties.proofs.Given.{targets, Distinct, entry-given, entry-given_other, uses-given}
 use Rattle.fx_properties.proofs.Binding.{kept_entry}
 use Rattle.fx_properties.proofs.Forgetting.{entry-forget, entry-forget_other, entry-forget_same, uses-forget}
@@ -46,8 +44,8 @@ pub sound_declared : (es : List Entry) (rank : ℕ → ℕ) → Ranked es rank �
 sound_declared es rank ranked sound entry value base fits = record {
   kinds = λ name. kinds name (cases_lt name (length es));
   known = λ user used c.
-    let old : Contains (uses es user) used = uses-declared es entry none user used c in
-    ap (λ (e : Entry). is_gone e.definition) (entry-declared es entry used (ranked.within user used old)) ∙ sound.known user used old;
+      let old : Contains (uses es user) used = uses-declared es entry none user used c in
+      ap (λ (e : Entry). is_gone e.definition) (entry-declared es entry used (ranked.within user used old)) ∙ sound.known user used old;
   free = λ name only. free name only (cases_lt name (length es));
 }
   where
@@ -72,7 +70,7 @@ sound_declared es rank ranked sound entry value base fits = record {
         let P : Entry → Type 0 = λ e. HasKind (es ++ entry ∷ []) e e.definition in
         subst P (sym (entry-declared es entry name low))
         (kind_moved es (es ++ entry ∷ []) (entry_of es name) (entry_of es name) (entry_of es name).definition refl
-          (old_kinds name) (sound.kinds name))
+        (old_kinds name) (sound.kinds name))
     kinds name (inr past) =
         let P : Entry → Type 0 = λ e. HasKind (es ++ entry ∷ []) e e.definition in
         let Q : Definition → Type 0 = λ d. HasKind (es ++ entry ∷ []) entry d in
@@ -102,7 +100,7 @@ kind-given sets pairs es distinct known name =
           let P : ℕ → Type 0 = λ n. kind_at (with_values sets pairs es) n ≡ kind_at es n in
           subst P found.2
           (ap (λ (e : Entry). e.kind)
-            (entry-given sets pairs es distinct (λ p c. known_within es p.0.0 (known p c)) found.0 found.1))
+          (entry-given sets pairs es distinct (λ p c. known_within es p.0.0 (known p c)) found.0 found.1))
       | inr out ↦ ap (λ (e : Entry). e.kind) (entry-given_other sets pairs es name out)
     ]
 
@@ -120,10 +118,11 @@ sound_given sets pairs es sound distinct fits = record {
     here name member =
         let found = map_contains (λ (p : Name × Value). p.0.0) pairs name member in
         let P : ℕ → Type 0 = λ n. (kind_of found.0.1 ≡ kind_at es n)
-          × (entry_of (with_values sets pairs es) n ≡ given sets found.0.1 (entry_of es n)) in
-        let both = subst P found.2
-          ((fits found.0 found.1).1,
-            entry-given sets pairs es distinct (λ p c. known_within es p.0.0 (fits p c).0) found.0 found.1) in
+        × (entry_of (with_values sets pairs es) n ≡ given sets found.0.1 (entry_of es n)) in
+        let both = subst P found.2 (
+          (fits found.0 found.1).1,
+          entry-given sets pairs es distinct (λ p c. known_within es p.0.0 (fits p c).0) found.0 found.1,
+        ) in
         (found.0, both.0, both.1)
 
     kinds : (name : ℕ) → Contains (targets pairs) name ⊎ (Contains (targets pairs) name → ⊥)

@@ -1,14 +1,14 @@
 -- Marks spread to users, one listed name after another; at the end the flags are those of the definition.
-use Rattle.std.proofs.Common.{◌≡◌, ◌≢◌, ℕ, zero, suc, ◌+◌, ◌<◌, ◌≤◌, Bool, true, false, cond, ◌||◌, List, [], ◌∷◌, ◌++◌, length, map, get_or, set, take, arith, refl, sym, ◌∙◌, ap, subst, inl, inr, ◌⊎◌}
-use Rattle.std.specs.List.{Contains, range_with_len}
-use Rattle.std.proofs.lemmas.Bool.{cases_Bool, cases_lt, cases_eq, both_ways, or_cases, or_left, or_right, false_from_ne_true}
+use Rattle.std.proofs.Common.{◌≡◌, ℕ, ◌+◌, ◌<◌, ◌≤◌, Bool, true, false, ◌||◌, List, length, arith, sym, ◌∙◌, ap, subst, inl, inr, ◌⊎◌}
+use Rattle.std.specs.List.{Contains}
+use Rattle.std.proofs.lemmas.Bool.{cases_Bool, cases_lt, cases_eq, or_cases, or_left, or_right}
 use Rattle.fx_properties.specs.declared.entries.Entry.{Entry}
-use Rattle.fx_properties.specs.Uses.{uses, leads, Ranked}
-use Rattle.fx_properties.specs.Unread.{marked, unmarked, leads_to_any, after_marking, IsClosed}
-use Rattle.fx_properties.specs.Marking.{at, Listed, GoesOn, MarksAll, IsClosedBut, IsPending}
+use Rattle.fx_properties.specs.Uses.{uses, Ranked}
+use Rattle.fx_properties.specs.Unread.{marked, leads_to_any, after_marking, IsClosed}
+use Rattle.fx_properties.specs.Marking.{at, Listed, MarksAll, IsClosedBut, IsPending}
 use Rattle.fx_properties.specs.Users.{Row, users_of, Mirrors}
 use Rattle.fx_properties.proofs.Walks.{leads-up, any-member, any-first, any-to}
-use Rattle.fx_properties.proofs.Flags.{flags_by, marked_within, same_test}
+use Rattle.fx_properties.proofs.Flags.{flags_by, same_test}
 
 -- `names` were marked in `began`, which gave `flags`, and the first `done` of the work list have been gone through
 pub record Spreads (entries : List Entry) (names : List ℕ) (began flags : List Bool) (work : List ℕ) (done end : ℕ) : Type 0 where

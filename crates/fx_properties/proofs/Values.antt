@@ -1,5 +1,5 @@
 -- Eager values: their unfolding, and two stores that agree on the names that a value needs.
-use Rattle.std.proofs.Common.{◌≡◌, ℕ, zero, suc, ◌+◌, ◌<◌, ◌≤◌, Bool, true, false, List, [], ◌∷◌, ◌++◌, length, map, get_or, set, arith, refl, sym, ◌∙◌, ap, subst, inl, inr, ◌⊎◌}
+use Rattle.std.proofs.Common.{◌≡◌, ℕ, zero, suc, ◌<◌, ◌≤◌, List, length, arith, refl, sym, ◌∙◌, ap, inl, inr}
 use Rattle.std.specs.List.{Contains}
 use Rattle.std.proofs.lemmas.Bool.{cases_lt}
 use Rattle.std.proofs.lemmas.List.{get_or_past}
@@ -34,8 +34,8 @@ value_at_depths es rank ranked (suc d) zero name _ below = absurd (omega arith)
 value_at_depths es rank ranked (suc d) (suc e) name first second =
     value_same (value_in d es) (value_in e es) (entry_of es name).definition
     (λ (o : ℕ) (c : Contains (uses es name) o).
-      let falls : rank o < rank name = ranked.falls name o c in
-      value_at_depths es rank ranked d e o (omega arith) (omega arith))
+    let falls : rank o < rank name = ranked.falls name o c in
+    value_at_depths es rank ranked d e o (omega arith) (omega arith))
 
 pub eager-unfold : (es : List Entry) (rank : ℕ → ℕ) → Ranked es rank → (name : ℕ)
     → eager es name ≡ value_of_definition (eager es) (entry_of es name).definition

@@ -1,12 +1,12 @@
 -- Walks of uses, and what follows for names that lead to others. Above this file nothing looks into `leads`.
-use Rattle.std.proofs.Common.{◌≡◌, ℕ, zero, suc, ◌+◌, ◌<◌, ◌≤◌, Bool, true, false, cond, not, ◌||◌, ◌==◌, List, [], ◌∷◌, length, get_or, arith, refl, sym, ◌∙◌, ap, subst, inl, inr, ◌⊎◌}
-use Rattle.std.specs.List.{Contains, list_any}
-use Rattle.std.proofs.lemmas.Bool.{cases_Bool, cases_lt, false≢true, both_ways, eqb-true, eq-eqb, or_cases, or_left, or_right, false_from_ne_true}
+use Rattle.std.proofs.Common.{◌≡◌, ℕ, zero, suc, ◌+◌, ◌<◌, ◌≤◌, Bool, true, false, ◌||◌, ◌==◌, List, [], ◌∷◌, length, arith, refl, sym, ap, subst, inl, inr, ◌⊎◌}
+use Rattle.std.specs.List.{Contains}
+use Rattle.std.proofs.lemmas.Bool.{cases_lt, false≢true, eqb-true, eq-eqb, or_cases, or_left, or_right, false_from_ne_true}
 use Rattle.std.proofs.lemmas.List.{get_or_past}
 use Rattle.fx_properties.specs.declared.entries.Entry.{Entry}
-use Rattle.fx_properties.specs.Uses.{nothing, entry_of, operands_in, uses, reaches_in, reaches, leads, Ranked}
+use Rattle.fx_properties.specs.Uses.{nothing, operands_in, uses, reaches_in, reaches, leads, Ranked}
 use Rattle.fx_properties.specs.Unread.{leads_to_any}
-use Rattle.fx_properties.proofs.Members.{any_from, any_at, none_in_nil}
+use Rattle.fx_properties.proofs.Members.{any_from, any_at}
 
 -- so many uses lead from the one to the other
 abbrev pub Walk : ℕ → List Entry → ℕ → ℕ → Type 0
@@ -78,9 +78,9 @@ pub acyclic : (es : List Entry) (rank : ℕ → ℕ) → Ranked es rank → (nam
 acyclic es rank ranked name =
     false_from_ne_true (reaches es name name)
     (λ e.
-      let walk = walk_from_reaches (length es) es name name e in
-      let fall : rank name + suc walk.0 ≤ rank name = walk_falls es rank ranked (suc walk.0) name name walk.1 in
-      omega arith)
+    let walk = walk_from_reaches (length es) es name name e in
+    let fall : rank name + suc walk.0 ≤ rank name = walk_falls es rank ranked (suc walk.0) name name walk.1 in
+    omega arith)
 
 pub leads-refl : (es : List Entry) (a : ℕ) → leads es a a ≡ true
 unfolding leads
@@ -140,9 +140,9 @@ pub leads-not_back : (es : List Entry) (rank : ℕ → ℕ) → Ranked es rank �
 leads-not_back es rank ranked a o c =
     false_from_ne_true (leads es o a)
     (λ e.
-      let back : rank a ≤ rank o = leads-falls es rank ranked o a e in
-      let step : rank o < rank a = ranked.falls a o c in
-      omega arith)
+    let back : rank a ≤ rank o = leads-falls es rank ranked o a e in
+    let step : rank o < rank a = ranked.falls a o c in
+    omega arith)
 
 -- it is the name itself, or an operand leads there
 pub leads-cases : (es : List Entry) (rank : ℕ → ℕ) → Ranked es rank → (a b : ℕ) → leads es a b ≡ true

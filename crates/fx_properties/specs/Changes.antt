@@ -1,15 +1,13 @@
 -- What each call makes of the store. Source: JavaFX 21 properties (javafx.beans.property, javafx.beans.binding).
-use Rattle.std.specs.Prelude.{ℕ, ◌≡◌, Bool, true, false, cond, not, List, [], ◌∷◌, ◌++◌, length, map, filter, slice_index_or, slice_set}
+use Rattle.std.specs.Prelude.{ℕ, ◌≡◌, Bool, true, false, cond, not, List, [], ◌∷◌, ◌++◌, map, filter, slice_set}
 use Rattle.fx_base.specs.declared.keys.Name.{Name}
 use Rattle.fx_base.specs.declared.kinds.Kind.{Kind}
 use Rattle.fx_base.specs.declared.values.Value.{Value}
 use Rattle.fx_expr.specs.declared.tree.Expr.{Expr}
 use Rattle.fx_properties.specs.declared.entries.Entry.{Entry}
-use Rattle.fx_properties.specs.declared.entries.Origin.{Origin}
 use Rattle.fx_properties.specs.declared.entries.Origin.TheVariants as origin
 use Rattle.fx_properties.specs.declared.entries.Definition.TheVariants.{Base, Bound, Forgotten}
 use Rattle.fx_properties.specs.Equality.{same_value}
-use Rattle.fx_properties.specs.Numbers.{numbers}
 use Rattle.fx_properties.specs.Uses.{entry_of, bound_in}
 use Rattle.fx_properties.specs.Eager.{eager}
 use Rattle.fx_properties.specs.Unread.{after_marking, newly_marked, after_reading, IsPartRead}

@@ -1,5 +1,5 @@
 -- What is true of every store of properties.
-use Rattle.std.specs.Prelude.{ℕ, ◌≡◌, ◌<◌, Bool, true, false, List, [], length, map, slice_index_or, Option, Some, Contains}
+use Rattle.std.specs.Prelude.{ℕ, ◌≡◌, ◌<◌, Bool, true, false, List, length, map, slice_index_or, Some, Contains}
 use Rattle.fx_base.specs.Printing.{kind_of}
 use Rattle.fx_base.specs.declared.values.Value.{Value}
 use Rattle.fx_expr.specs.Tree.{tree, is_within}
@@ -11,7 +11,7 @@ use Rattle.fx_properties.specs.declared.entries.Definition.TheVariants.{Base, Bo
 use Rattle.fx_properties.specs.Eager.{eager}
 use Rattle.fx_properties.specs.Refusals.{kind_at, read_only_in}
 use Rattle.fx_properties.specs.Unread.{marked, IsClosed}
-use Rattle.fx_properties.specs.Uses.{entry_of, uses, bound_in, unknown_in, Ranked, reaches}
+use Rattle.fx_properties.specs.Uses.{entry_of, uses, bound_in, unknown_in, reaches}
 
 -- the definition gives a value of the entry's kind: a value of this kind, or an expression of it over its operands
 abbrev pub HasKind : List Entry → Entry → Definition → Type 0

@@ -1,5 +1,5 @@
 -- Which properties read which: a bound name uses its operands.
-use Rattle.std.specs.Prelude.{ℕ, zero, suc, ◌+◌, ◌<◌, ◌==◌, Bool, true, false, ◌||◌, List, [], ◌∷◌, length, slice_index_or, Contains}
+use Rattle.std.specs.Prelude.{ℕ, zero, suc, ◌<◌, ◌==◌, Bool, true, false, ◌||◌, List, [], length, slice_index_or, Contains}
 use Rattle.std.specs.List.{list_any}
 use Rattle.fx_base.specs.declared.kinds.Kind.TheVariants as kind
 use Rattle.fx_properties.specs.declared.entries.Entry.{Entry}

@@ -55,8 +55,8 @@ impl Operands {
     pub fn copy(&self, alloc: Global) -> Result<Operands, AllocError>
         ensures { IfOk result (λ copy. copy ≡ self.now) }
     {
-        let names = Vec::from_slice(alloc, self.names.as_slice())?;
-        Ok(Operands { names })
+        let names = Vec::from_slice(alloc, self.as_slice())?;
+        Ok(Operands::from_vec(names))
     }
 }
 

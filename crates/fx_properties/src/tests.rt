@@ -1,0 +1,44 @@
+//! Calls of the entries' types on their happy paths.
+use super::*;
+use fx_base::{Color, Family, Name, Sides, Text, Value};
+use std::test::Fail;
+
+#[test]
+fn keeps_operands_in_order(rt: HostRuntime) -> Result<(), Fail> {
+    let alloc = rt.alloc();
+    let names = Vec::from_slice(alloc, &[Name(3), Name(1), Name(3), Name(2)])?;
+    let copy = Operands::from_vec(names).copy(alloc)?;
+    assert_eq!(rt; copy.as_slice(), &[Name(3), Name(1), Name(3), Name(2)]);
+    Ok(())
+}
+
+#[test]
+fn tells_values_apart(rt: HostRuntime) -> Result<(), Fail> {
+    let alloc = rt.alloc();
+    let text = Text::from_str(alloc, "1")?;
+    let other = Text::from_str(alloc, "2")?;
+    let red = Color {
+        r: 255,
+        g: 0,
+        b: 0,
+        a: 255,
+    };
+    let insets = Sides {
+        top: 1,
+        right: 2,
+        bottom: 3,
+        left: 4,
+    };
+    assert!(rt; are_same(&Value::Int(1), &Value::Int(1)));
+    assert!(rt; !are_same(&Value::Int(1), &Value::Bool(true)));
+    assert!(rt; !are_same(&Value::Text(text), &Value::Text(other)));
+    assert!(rt;
+        !are_same(
+            &Value::Choice(Family::HPos, 0),
+            &Value::Choice(Family::VPos, 0)
+        )
+    );
+    assert!(rt; are_same(&Value::Color(red), &Value::Color(red)));
+    assert!(rt; are_same(&Value::Sides(insets), &Value::Sides(insets)));
+    Ok(())
+}

@@ -6,9 +6,10 @@ use std::test::Fail;
 #[test]
 fn keeps_operands_in_order(rt: HostRuntime) -> Result<(), Fail> {
     let alloc = rt.alloc();
-    let names = Vec::from_slice(alloc, &[Name(3), Name(1), Name(3), Name(2)])?;
-    let copy = Operands::from_vec(names).copy(alloc)?;
-    assert_eq!(rt; copy.as_slice(), &[Name(3), Name(1), Name(3), Name(2)]);
+    let names = [Name(3), Name(1), Name(3), Name(2)];
+    let operands = Operands::from_vec(Vec::from_slice(alloc, &names)?);
+    let copy = operands.copy(alloc)?;
+    assert!(rt; copy.as_slice() == names.as_slice());
     Ok(())
 }
 

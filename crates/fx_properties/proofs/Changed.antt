@@ -109,9 +109,6 @@ settled_changed es fs rank ranked names flags cache s long same closed = record 
 pub entry-declared : (es : List Entry) (entry : Entry) (name : ℕ) → name < length es → entry_of (es ++ entry ∷ []) name ≡ entry_of es name
 entry-declared es entry name h = get_or_append_left es (entry ∷ []) nothing name h
 
-pub entry-declared_last : (es : List Entry) (entry : Entry) → entry_of (es ++ entry ∷ []) (length es) ≡ entry
-entry-declared_last es entry = get_or_push es entry nothing (length es) refl
-
 pub eager-declared : (es : List Entry) (rank after : ℕ → ℕ) → Ranked es rank → (entry : Entry) → Ranked (es ++ entry ∷ []) after
     → operands_in entry.definition ≡ [] → (name : ℕ) → name < length es → eager (es ++ entry ∷ []) name ≡ eager es name
 eager-declared es rank after ranked entry later none name h =

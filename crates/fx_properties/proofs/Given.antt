@@ -12,7 +12,6 @@ use Rattle.fx_properties.specs.Equality.{same_value}
 use Rattle.fx_properties.specs.Uses.{entry_of, operands_in, uses, bound_in, unknown_in, Ranked}
 use Rattle.fx_properties.specs.Eager.{value_of_definition, eager}
 use Rattle.fx_properties.specs.Unread.{leads_to_any, after_marking}
-use Rattle.fx_properties.specs.Marking.{IsClosedBut}
 use Rattle.fx_properties.specs.Users.{Row, Mirrors}
 use Rattle.fx_properties.specs.Changes.{given, with_values, changed}
 use Rattle.fx_properties.specs.Sound.{IsSettled}
@@ -168,10 +167,6 @@ settled_given sets pairs es rank ranked distinct plain flags cache s =
               ∙ ap Base (sym was) ∙ sym base.1)
           | inr out ↦ ap (λ (e : Entry). e.definition) (entry-given_other sets pairs es name out)
         ]
-
-pub closed_given : (sets : Bool) (pairs : List (Name × Value)) (es : List Entry) (flags : List Bool) (cache : List Value) → IsSettled es flags cache
-    → IsClosedBut (with_values sets pairs es) flags (changed pairs es)
-closed_given sets pairs es flags cache s user name c on = inl (s.closed user name (uses-given sets pairs es user name c) on)
 
 abbrev differs : List Entry → Name × Value → Bool
 differs es p = not (same_value (eager es p.0.0) p.1)

@@ -8,7 +8,6 @@ pub mod Given
 pub mod KindLemmas
 pub mod MarkSteps
 pub mod Members
-pub mod Order
 pub mod Ranks
 pub mod Reading
 pub mod Refusing

@@ -91,18 +91,6 @@ listed_more before now work count name l within room off =
         let same : at work i ≡ name = sym (old i low) ∙ e ∙ ap (at (set work count name)) last ∙ here in
         both_ways _ off (subst (λ (n : ℕ). marked now n ≡ true) same (l.listed i low).2)
 
--- marking a name, by the three equations of the code
-pub listed_mark : (before now : List Bool) (work : List ℕ) (count name : ℕ) → Listed before now work count
-    → name < length now → count + unmarked now ≤ length work
-    → Listed before (set now name true) (cond (marked now name) work (set work count name)) (cond (marked now name) count (count + 1))
-listed_mark before now work count name l within room =
-    elim (cases_Bool (marked now name)) [
-      | inl on ↦ rw (on, set_marked now name on) l
-      | inr off ↦
-          let some : 0 < unmarked now = unmarked_some now name within off in
-          rw off (listed_more before now work count name l within (omega arith) off)
-    ]
-
 pub marks_none : (flags : List Bool) (work : List ℕ) (count : ℕ) → MarksAll [] flags work count flags work count
 marks_none flags work count = record {
   flags = refl;

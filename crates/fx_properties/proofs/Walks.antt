@@ -1,5 +1,5 @@
 -- Walks of uses, and what follows for names that lead to others. Above this file nothing looks into `leads`.
-use Rattle.std.proofs.Common.{◌≡◌, ℕ, zero, suc, ◌+◌, ◌<◌, ◌≤◌, Bool, true, false, ◌||◌, ◌==◌, List, [], ◌∷◌, length, arith, refl, sym, ap, subst, inl, inr, ◌⊎◌}
+use Rattle.std.proofs.Common.{◌≡◌, ℕ, zero, suc, ◌+◌, ◌<◌, ◌≤◌, Bool, true, false, ◌||◌, ◌==◌, List, [], ◌∷◌, length, arith, refl, sym, ap, subst, inl, inr}
 use Rattle.std.specs.List.{Contains}
 use Rattle.std.proofs.lemmas.Bool.{cases_lt, false≢true, eqb-true, eq-eqb, or_cases, or_left, or_right, false_from_ne_true}
 use Rattle.std.proofs.lemmas.List.{get_or_past}
@@ -134,26 +134,6 @@ leads-falls es rank ranked a b e =
     let walk = walk_from_leads es a b e in
     let fall : rank b + walk.0 ≤ rank a = walk_falls es rank ranked walk.0 a b walk.1 in
     omega arith
-
--- an operand doesn't lead back to its user
-pub leads-not_back : (es : List Entry) (rank : ℕ → ℕ) → Ranked es rank → (a o : ℕ) → Contains (uses es a) o → leads es o a ≡ false
-leads-not_back es rank ranked a o c =
-    false_from_ne_true (leads es o a)
-    (λ e.
-    let back : rank a ≤ rank o = leads-falls es rank ranked o a e in
-    let step : rank o < rank a = ranked.falls a o c in
-    omega arith)
-
--- it is the name itself, or an operand leads there
-pub leads-cases : (es : List Entry) (rank : ℕ → ℕ) → Ranked es rank → (a b : ℕ) → leads es a b ≡ true
-    → (a ≡ b) ⊎ ((o : ℕ) × Contains (uses es a) o × (leads es o b ≡ true))
-leads-cases es rank ranked a b e =
-    let walk = walk_from_leads es a b e in
-    by_length walk.0 walk.1
-  where
-    by_length : (n : ℕ) → Walk n es a b → (a ≡ b) ⊎ ((o : ℕ) × Contains (uses es a) o × (leads es o b ≡ true))
-    by_length zero w = inl w
-    by_length (suc n) w = inr (w.0, w.1, leads_from_walk es rank ranked n w.0 b w.2)
 
 pub any-member : (es : List Entry) (names : List ℕ) (name : ℕ) → Contains names name → leads_to_any es names name ≡ true
 unfolding leads_to_any

@@ -1,12 +1,9 @@
 -- When each call is refused, and with which error. The errors are tested in their order, each over all names.
-use Rattle.std.specs.Prelude.{ℕ, ◌≡◌, ◌+◌, ◌⊎◌, nat_lt, Bool, true, false, cond, not, List, [], ◌∷◌, length, map, Option, Some, None, Result, Ok, Err, Contains}
-use Rattle.std.specs.Bool.{OnTrue, OnFalse}
-use Rattle.std.specs.List.{list_any}
+use Rattle.std.specs.Prelude.{ℕ, ◌≡◌, ◌+◌, ◌⊎◌, nat_lt, Bool, false, cond, not, List, [], ◌∷◌, length, map, Option, Some, None, Result, Ok, Err, Contains}
 use Rattle.fx_base.specs.Printing.{kind_of}
 use Rattle.fx_base.specs.declared.keys.Name.{Name}
 use Rattle.fx_base.specs.declared.kinds.Kind.{Kind}
 use Rattle.fx_base.specs.declared.values.Value.{Value}
-use Rattle.fx_base.specs.declared.values.Value.TheVariants.{Text}
 use Rattle.fx_expr.specs.declared.tree.Expr.{Expr}
 use Rattle.fx_expr.specs.Tree.{tree}
 use Rattle.fx_expr.specs.Typing.{kind_in}
@@ -32,19 +29,6 @@ IsAnswer None (Err error) = error ≡ Memory
 IsAnswer (Some refusal) (Ok value) = ⊥
 IsAnswer (Some refusal) (Err error) = (error ≡ refusal) ⊎ (error ≡ Memory)
 
--- a text takes memory to be kept, and no other value does
-abbrev pub is_text : Value → Bool
-is_text (Text t) = true
-is_text _ = false
-
-abbrev pub takes_memory : List (Name × Value) → Bool
-takes_memory pairs = list_any (λ (pair : Name × Value). is_text pair.1) pairs
-
--- of a call that gives these values: memory may be wanting where one is a text
-abbrev pub IsGroupAnswer : {T : Type 0} → List (Name × Value) → Option GraphError → Result T GraphError → Type 0
-IsGroupAnswer pairs refusal result =
-    OnTrue (takes_memory pairs) (IsAnswer refusal result) × OnFalse (takes_memory pairs) (IsFirmAnswer refusal result)
-
 -- the first refusal, and else the second
 abbrev pub or_else : Option GraphError → Option GraphError → Option GraphError
 or_else None others = others
@@ -64,10 +48,11 @@ read_only_in entries name = (entry_of entries name).read_only
 abbrev pub kind_at : List Entry → ℕ → Kind
 kind_at entries name = (entry_of entries name).kind
 
--- the names of pairs of a name and a value, and those that get a value of another kind
+-- the names of pairs of a name and a value
 abbrev pub pair_names : List (Name × Value) → List Name
 pair_names pairs = map (λ (pair : Name × Value). pair.0) pairs
 
+-- a name is to have a value of another kind than its own
 abbrev pub wrong_kind : List Entry → List (Name × Value) → Option GraphError
 wrong_kind entries pairs =
     refused_first (λ (pair : Name × Value). WrongKind pair.0)

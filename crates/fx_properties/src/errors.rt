@@ -31,6 +31,7 @@ pub enum GraphError {
     /// A property that isn't forgotten with the others is bound to one of them.
     #[error("the property reads one that is to go")]
     InUse(Name),
+    /// There was no memory for what the call needs.
     #[error("out of memory")]
     Memory,
 }

@@ -1,0 +1,126 @@
+-- Values that are given to names one by one.
+use Rattle.std.proofs.Common.{◌≡◌, ◌≢◌, ◌<◌, ◌≤◌, ◌+◌, ◌⊎◌, ℕ, Bool, true, false, cond, not, List, [], ◌∷◌, ◌++◌, length, get_or, set, take, drop, map, filter, All, AllPairs, Contains, refl, sym, ap, subst, ◌∙◌, inl, inr, arith}
+use Rattle.std.proofs.lemmas.List.{get_or_read, get_or-set_same, get_or-set_other, at_drop_more, take_more, map-append}
+use Rattle.std.proofs.lemmas.List.Elements.{filter-append, Contains-append_left, Contains-append_right, Contains-append_cases}
+use Rattle.std.proofs.lemmas.Bool.{cases_lt, cases_Bool, cases_eq}
+use Rattle.fx_base.specs.declared.keys.Name.{Name}
+use Rattle.fx_base.specs.declared.values.Value.{Value}
+use Rattle.fx_expr.specs.Meaning.{no_value}
+use Rattle.fx_properties.specs.declared.entries.Entry.{Entry}
+use Rattle.fx_properties.specs.Numbers.{name_of}
+use Rattle.fx_properties.specs.Uses.{nothing, entry_of, Ranked}
+use Rattle.fx_properties.specs.Equality.{same_value}
+use Rattle.fx_properties.specs.Eager.{value_of_definition, eager}
+use Rattle.fx_properties.specs.Unread.{marked, unmarked}
+use Rattle.fx_properties.specs.Marking.{MarksAll, at}
+use Rattle.fx_properties.specs.Changes.{given, with_values, changed}
+use Rattle.fx_properties.proofs.MarkSteps.{marks_none, marks_more}
+use Rattle.fx_properties.proofs.Values.{eager-unfold}
+use Rattle.fx_graph.specs.Given.{ArePrepared}
+
+-- an item that was read by its place has what all have
+pub at_item : {X : Type 0} (P : X → Type 0) (xs : List X) (k : ℕ) (x : X) → k < length xs → x ≡ get_or xs k x → All P xs → P x
+at_item P xs k x h e all = subst P (sym e) (all k x h)
+
+module _ (pairs : List (Name × Value)) (k : ℕ) (pair : Name × Value) (h : k < length pairs) (is : pair ≡ get_or pairs k pair) where
+  -- the prepared value of the next pair
+  pub prepared_at : (fresh : List Value) → ArePrepared k (length pairs) fresh pairs → get_or fresh pair.0.0 no_value ≡ pair.1
+  prepared_at fresh before =
+      subst (λ (p : Name × Value). get_or fresh p.0.0 no_value ≡ p.1) (sym is) (before k pair (omega arith) h)
+
+  pub given_more : (sets : Bool) (es : List Entry)
+      → with_values sets (drop (k + 1) pairs) (set es pair.0.0 (given sets pair.1 (entry_of es pair.0.0))) ≡ with_values sets (drop k pairs) es
+  given_more sets es =
+      sym (subst (λ (p : Name × Value). with_values sets (drop k pairs) es ≡ with_values sets (p ∷ drop (k + 1) pairs) es) (sym is)
+      (at_drop_more (λ (ps : List (Name × Value)). with_values sets ps es) pairs k pair h))
+
+  pub changed_more : (es : List Entry) → changed (take (k + 1) pairs) es ≡ changed (take k pairs) es ++ changed (pair ∷ []) es
+  changed_more es =
+      let p : Name × Value → Bool = λ q. not (same_value (eager es q.0.0) q.1) in
+      let f : Name × Value → ℕ = λ q. q.0.0 in
+      ap (λ (ps : List (Name × Value)). changed ps es) (take_more pairs k pair h)
+      ∙ subst (λ (q : Name × Value). changed (take k pairs ++ q ∷ []) es ≡ changed (take k pairs) es ++ changed (pair ∷ []) es) is
+      (ap (map f) (filter-append p (take k pairs) (pair ∷ [])) ∙ map-append f (filter p (take k pairs)) (filter p (pair ∷ [])))
+
+module _ (pairs : List (Name × Value)) (distinct : AllPairs (λ (one other : Name × Value). one.0 ≢ other.0) pairs) (k : ℕ) (pair : Name × Value) (h : k < length pairs) (is : pair ≡ get_or pairs k pair) where
+  apart : (i : ℕ) (d : Name × Value) → i < length pairs → i ≢ k → (get_or pairs i d).0.0 ≢ pair.0.0
+  apart i d low other e =
+      let here : pair ≡ get_or pairs k d = get_or_read pairs k pair h is d in
+      let same : (get_or pairs i d).0 ≡ (get_or pairs k d).0 = ap name_of e ∙ ap (λ (p : Name × Value). p.0) here in
+      elim (cases_lt i k) [
+        | inl q ↦ distinct i k d q h same
+        | inr q ↦ let r : k < i = omega arith in distinct k i d r low (sym same)
+      ]
+
+  pub prepared_more : (fresh : List Value) (value : Value) → pair.0.0 < length fresh → value ≡ pair.1 → ArePrepared 0 k fresh pairs
+      → ArePrepared 0 (k + 1) (set fresh pair.0.0 value) pairs
+  prepared_more fresh value within same before i d low high =
+      elim (cases_eq i k) [
+        | inl e ↦
+            let here : pair ≡ get_or pairs i d = get_or_read pairs k pair h is d ∙ ap (λ n. get_or pairs n d) (sym e) in
+            subst (λ (p : Name × Value). get_or (set fresh pair.0.0 value) p.0.0 no_value ≡ p.1) here
+            (get_or-set_same fresh pair.0.0 value no_value within ∙ same)
+        | inr e ↦
+            let there : i < length pairs = omega arith in
+            let below : i < k = omega (arith, e) in
+            get_or-set_other fresh pair.0.0 (get_or pairs i d).0.0 value no_value (apart i d there e) ∙ before i d low below
+      ]
+
+  pub prepared_less : (fresh : List Value) (value : Value) → ArePrepared k (length pairs) fresh pairs
+      → ArePrepared (k + 1) (length pairs) (set fresh pair.0.0 value) pairs
+  prepared_less fresh value before i d low high =
+      let e : i ≢ k = omega arith in
+      get_or-set_other fresh pair.0.0 (get_or pairs i d).0.0 value no_value (apart i d high e) ∙ before i d (omega arith) high
+
+-- whether the one pair is a change
+pub changed-one : (es : List Entry) (rank : ℕ → ℕ) → Ranked es rank → (pair : Name × Value)
+    → (b : Bool) → b ≡ same_value (value_of_definition (eager es) (entry_of es pair.0.0).definition) pair.1 → changed (pair ∷ []) es ≡ cond b [] (pair.0.0 ∷ [])
+changed-one es rank ranked pair b e =
+    let test : same_value (eager es pair.0.0) pair.1 ≡ b =
+    ap (λ (v : Value). same_value v pair.1) (eager-unfold es rank ranked pair.0.0) ∙ sym e in
+    rw test (by_case b)
+  where
+    by_case : (b : Bool) → map (λ (q : Name × Value). q.0.0) (cond (not b) (pair ∷ []) []) ≡ cond b [] (pair.0.0 ∷ [])
+    by_case true = refl
+    by_case false = refl
+
+-- names that are marked after others
+pub marks_both : (xs ys : List ℕ) (f : List Bool) (w : List ℕ) (c : ℕ) (f1 : List Bool) (w1 : List ℕ) (c1 : ℕ) (f2 : List Bool) (w2 : List ℕ) (c2 : ℕ)
+    → MarksAll xs f w c f1 w1 c1 → MarksAll ys f1 w1 c1 f2 w2 c2 → MarksAll (xs ++ ys) f w c f2 w2 c2
+marks_both xs ys f w c f1 w1 c1 f2 w2 c2 m n =
+    record {
+      flags = n.flags ∙ m.flags;
+      places = n.places ∙ m.places;
+      room = n.room ∙ m.room;
+      more = omega (arith, m.more, n.more);
+      kept = λ name on. n.kept name (m.kept name on);
+      each = λ name i.
+          elim (Contains-append_cases xs ys name i) [ inl x ↦ n.kept name (m.each name x) | inr y ↦ n.each name y ];
+      only = λ name on.
+          elim (n.only name on) [
+            | inl was ↦
+                elim (m.only name was) [ inl first ↦ inl first | inr x ↦ inr (Contains-append_left xs ys name x) ]
+            | inr y ↦ inr (Contains-append_right xs ys name y)
+          ];
+      front = λ i h. n.front i (omega (arith, m.more)) ∙ m.front i h;
+      fresh = λ i low high.
+          elim (cases_lt i c1) [
+            | inl q ↦ subst (Contains (xs ++ ys)) (sym (n.front i q)) (Contains-append_left xs ys (at w1 i) (m.fresh i low q))
+            | inr q ↦ Contains-append_right xs ys (at w2 i) (n.fresh i q high)
+          ];
+      found = λ name off on.
+          elim (cases_Bool (marked f1 name)) [
+            | inl q ↦
+                let p = m.found name off q in
+                (p.0, p.1, omega (arith, p.2, n.more), n.front p.0 p.2 ∙ p.3)
+            | inr q ↦
+                let p = n.found name q on in
+                (p.0, omega (arith, p.1, m.more), p.2, p.3)
+          ];
+      goes_on = λ before l. n.goes_on before (m.goes_on before l);
+    }
+
+-- the first name that is marked
+pub mark_first : (f : List Bool) (w : List ℕ) (name : ℕ) (f' : List Bool) (w' : List ℕ) (c : ℕ) → name < length f → 0 + unmarked f ≤ length w
+    → f' ≡ set f name true → w' ≡ cond (marked f name) w (set w 0 name) → c ≡ cond (marked f name) 0 (0 + 1) → MarksAll (name ∷ []) f w 0 f' w' c
+mark_first f w name f' w' c within room flags work count = rw (flags, work, count) (marks_more [] f w 0 f w 0 name (marks_none f w 0) within room)

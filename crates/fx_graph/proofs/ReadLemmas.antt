@@ -1,0 +1,195 @@
+-- Rows that were read by their place, and turns of a read.
+use Rattle.std.proofs.Common.{◌≡◌, ◌<◌, ◌≤◌, ◌+◌, ◌-◌, ℕ, zero, suc, Bool, true, false, cond, List, [], ◌∷◌, ◌++◌, length, get_or, set, map, take, All, Contains, slice_index, refl, sym, ap, subst, ◌∙◌, inl, inr, arith}
+use Rattle.std.proofs.lemmas.List.{get_or_read, map-append, take_more}
+use Rattle.std.proofs.lemmas.List.Elements.{Contains-get_or, Contains-push_cases}
+use Rattle.fx_base.specs.declared.keys.Name.{Name}
+use Rattle.fx_base.specs.declared.values.Value.{Value}
+use Rattle.fx_properties.specs.declared.entries.Entry.{Entry}
+use Rattle.fx_properties.specs.declared.entries.Definition.{Definition}
+use Rattle.fx_properties.specs.declared.entries.Definition.TheVariants.{Base, Bound, Forgotten}
+use Rattle.fx_properties.specs.Numbers.{numbers, name_of}
+use Rattle.fx_properties.specs.Uses.{Ranked, nothing, entry_of, operands_in, uses, bound_in}
+use Rattle.fx_properties.specs.Sound.{AreSound, HasKind}
+use Rattle.fx_properties.specs.Eager.{eager}
+use Rattle.fx_properties.specs.Unread.{marked, unmarked, after_reading, bound_unread, evaluations, IsPartRead}
+use Rattle.fx_properties.specs.Marking.{at, IsClosedBut, MarksAll}
+use Rattle.fx_properties.specs.Users.{Row, no_row, users_of, Mirrors}
+use Rattle.fx_properties.proofs.Members.{contains_map}
+use Rattle.fx_graph.specs.Asked.{IsEvaluable, kept_value}
+use Rattle.fx_properties.proofs.Flags.{unmarked_most}
+use Rattle.fx_properties.proofs.Spreading.{Spreads}
+use Rattle.fx_properties.proofs.Walks.{user_within}
+use Rattle.fx_properties.proofs.Reading.{Settles, settles_push, settles_pop, settles_room, settles_end, measure, measure-pop, part_more, read_cost, bound_unread-clear}
+
+-- a row that was read by its place, and the list that it lends
+pub row_read : (rows : List Row) (i : ℕ) (row : Row) → i < length rows → row ≡ get_or rows i row → (items : List ℕ) → items ≡ row.items → items ≡ users_of rows i
+row_read rows i row h e items f = f ∙ ap (λ (r : Row). r.items) (get_or_read rows i row h e no_row)
+
+-- who uses a name is one of the names
+pub rows_within : (es : List Entry) (rows : List Row) (rank : ℕ → ℕ) → Ranked es rank → Mirrors es rows → (name : ℕ) → All (λ user. user < length es) (users_of rows name)
+rows_within es rows rank ranked m name =
+    λ k d h. user_within es _ name (m.using _ name (Contains-get_or (users_of rows name) k d h))
+
+-- one name more of a list, by its number
+pub numbers_more : (names : List Name) (i : ℕ) (d : Name) → i < length names → numbers (take (i + 1) names) ≡ numbers (take i names) ++ (get_or names i d).0 ∷ []
+numbers_more names i d h =
+    ap numbers (take_more names i d h) ∙ map-append (λ (name : Name). name.0) (take i names) (get_or names i d ∷ [])
+
+-- a name of a list is one of its numbers
+pub number_at : (names : List Name) (i : ℕ) (d : Name) → i < length names → Contains (numbers names) (get_or names i d).0
+number_at names i d h = contains_map (λ (name : Name). name.0) names (get_or names i d) (Contains-get_or names i d h)
+
+pub off_more : (flags : List Bool) (names : List Name) (i : ℕ) (d : Name) → i < length names → ((o : ℕ) → Contains (numbers (take i names)) o → marked flags o ≡ false)
+    → marked flags (get_or names i d).0 ≡ false → (o : ℕ) → Contains (numbers (take (i + 1) names)) o → marked flags o ≡ false
+off_more flags names i d h before here o c =
+    elim (Contains-push_cases (numbers (take i names)) (get_or names i d).0 o (subst (λ (xs : List ℕ). Contains xs o) (numbers_more names i d h) c)) [
+      | inl old ↦ before o old
+      | inr same ↦ subst (λ k. marked flags k ≡ false) same here
+    ]
+
+-- an operand goes on the stack
+pub push : (es : List Entry) (rank : ℕ → ℕ) → Ranked es rank → (name : ℕ) (before now : List Bool) (cache : List Value)
+    (stack : List ℕ) (count cost cost' : ℕ) → Settles es rank name before now cache stack count cost cost' → 0 < count
+    → (o : ℕ) → Contains (uses es (at stack (count - 1))) o → marked now o ≡ true
+    → Settles es rank name before now cache (set stack count o) (count + 1) cost cost'
+push es rank ranked name before now cache stack zero cost cost' s some o c on = absurd (omega arith)
+push es rank ranked name before now cache stack (suc count) cost cost' s some o c on =
+    let top : suc count - 1 ≡ count = omega arith in
+    let more : suc (suc count) ≡ suc count + 1 = omega arith in
+    subst (λ n. Settles es rank name before now cache (set stack (suc count) o) n cost cost') more
+    (settles_push es rank ranked name before now cache stack count cost cost' s o (subst (λ n. Contains (uses es (at stack n)) o) top c) on)
+
+-- the top is read
+pub pop : (es : List Entry) (rank : ℕ → ℕ) → Ranked es rank → (name : ℕ) (before now : List Bool) (cache : List Value)
+    (stack : List ℕ) (count cost cost' : ℕ) → Settles es rank name before now cache stack count cost cost' → 0 < count
+    → (top : ℕ) → at stack (count - 1) ≡ top
+    → (value : Value) (cost'' : ℕ) → ((o : ℕ) → Contains (uses es top) o → marked now o ≡ false)
+    → value ≡ eager es top → cost'' ≡ cost' + cond (bound_in es top) 1 0
+    → Settles es rank name before (set now top false) (set cache top value) stack (count - 1) cost cost''
+pop es rank ranked name before now cache stack zero cost cost' s some top here value cost'' free same paid = absurd (omega arith)
+pop es rank ranked name before now cache stack (suc count) cost cost' s some top here value cost'' free same paid =
+    let less : count ≡ suc count - 1 = omega arith in
+    let there : at stack count ≡ top = ap (at stack) less ∙ here in
+    subst (λ n. Settles es rank name before (set now top false) (set cache top value) stack n cost cost'') less
+    (subst (λ t. Settles es rank name before (set now t false) (set cache t value) stack count cost cost'') there
+    (settles_pop es rank ranked name before now cache stack count cost cost' s value cost''
+    (λ o c. free o (subst (λ t. Contains (uses es t) o) there c))
+    (same ∙ ap (eager es) (sym there))
+    (paid ∙ ap (λ t. cost' + cond {A = ℕ} (bound_in es t) 1 0) (sym there))))
+
+-- where the next evaluation fails, it too was one of those that the read may take
+pub cost_failed : (es : List Entry) (rank : ℕ → ℕ) (name : ℕ) (before now : List Bool) (cache : List Value)
+    (stack : List ℕ) (count cost cost' cost'' top : ℕ) → Settles es rank name before now cache stack count cost cost' → 0 < count
+    → at stack (count - 1) ≡ top → cost'' ≤ cost' + cond (bound_in es top) 1 0
+    → cost'' ≤ cost + evaluations es name before
+cost_failed es rank name before now cache stack count cost cost' cost'' top s some here paid =
+    let last : count - 1 < count = omega arith in
+    let each = s.each (count - 1) last in
+    let inside : top < length es = subst (λ t. t < length es) here each.0 in
+    let on : marked now top ≡ true = subst (λ t. marked now t ≡ true) here each.1 in
+    let led = subst (λ t. IsPartRead es name before (set now t false)) here (part_more es name before now (at stack (count - 1)) s.part each.2) in
+    omega (arith, read_cost es name before (set now top false) led, bound_unread-clear es now top inside on, s.sum)
+
+pub cost_ended : (es : List Entry) (rank : ℕ → ℕ) (name : ℕ) (before now : List Bool) (cache : List Value)
+    (stack : List ℕ) (count cost cost' : ℕ) → Settles es rank name before now cache stack count cost cost'
+    → cost' ≤ cost + evaluations es name before
+cost_ended es rank name before now cache stack count cost cost' s = omega (arith, read_cost es name before now s.part, s.sum)
+
+-- The turns of marking upwards, wherever it began: the list has room, and the listed are places of rows.
+pub record GoesUp (es : List Entry) (size : ℕ) (start : List Bool) (first : List ℕ) (count : ℕ) (unread : List Bool) (work : List ℕ) (done end : ℕ) : Type 0 where
+  pub few : end ≤ length work
+  pub within : (i : ℕ) → i < end → slice_index work i < size
+  pub room : end + unmarked unread ≤ length work
+  pub spreads : (names w : List ℕ) (was : List Bool) → IsClosedBut es was names → MarksAll names was w 0 start first count
+      → Spreads es names was unread work done end
+
+pub goes_up : (es : List Entry) (size : ℕ) (start : List Bool) (first : List ℕ) (count : ℕ) (unread : List Bool) (work : List ℕ) (done end : ℕ)
+    → (names w : List ℕ) (was : List Bool) → IsClosedBut es was names → MarksAll names was w 0 start first count
+    → length was ≡ size → length work ≡ size
+    → ((names w : List ℕ) (was : List Bool) → IsClosedBut es was names → MarksAll names was w 0 start first count → Spreads es names was unread work done end)
+    → GoesUp es size start first count unread work done end
+goes_up es size start first count unread work done end names w was closed marks long places all =
+    let s = all names w was closed marks in
+    let most : unmarked was ≤ length was = unmarked_most was in
+    let sum : end + unmarked unread ≡ unmarked was = s.listed.room in
+    record {
+      few = omega arith;
+      within = λ i h. let here : slice_index work i < length was = (s.listed.listed i h).0 in omega arith;
+      room = omega arith;
+      spreads = all;
+    }
+
+-- The turns of a read: the stack's places are names, and there is room for them.
+pub record Reads (es : List Entry) (name : ℕ) (before now : List Bool) (cache : List Value) (stack : List ℕ) (count cost cost' : ℕ) : Type 0 where
+  pub long : length stack ≡ length es
+  pub few : count ≤ length stack
+  pub within : (i : ℕ) → i < count → slice_index stack i < length es
+  pub settles : (rank : ℕ → ℕ) → Ranked es rank → Settles es rank name before now cache stack count cost cost'
+
+pub reads_from : (es : List Entry) (name : ℕ) (before now : List Bool) (cache : List Value) (stack : List ℕ) (count cost cost' : ℕ)
+    (rank : ℕ → ℕ) → Ranked es rank → ((rank : ℕ → ℕ) → Ranked es rank → Settles es rank name before now cache stack count cost cost')
+    → Reads es name before now cache stack count cost cost'
+reads_from es name before now cache stack count cost cost' rank ranked all =
+    let s = all rank ranked in
+    record {
+      long = s.long;
+      few = few_from count s;
+      within = λ i h. (s.each i h).0;
+      settles = all;
+    }
+  where
+    few_from : (n : ℕ) → Settles es rank name before now cache stack n cost cost' → n ≤ length stack
+    few_from zero s = omega arith
+    few_from (suc n) s =
+        let room : rank (at stack n) + n < length es = s.low n (omega arith) in
+        let long : length stack ≡ length es = s.long in
+        omega arith
+
+-- there is room for one more on the stack
+pub room_above : (es : List Entry) (rank : ℕ → ℕ) → Ranked es rank → (name : ℕ) (before now : List Bool) (cache : List Value)
+    (stack : List ℕ) (count cost cost' : ℕ) → Settles es rank name before now cache stack count cost cost' → 0 < count
+    → (o : ℕ) → Contains (uses es (at stack (count - 1))) o → count < length stack
+room_above es rank ranked name before now cache stack zero cost cost' s some o c = absurd (omega arith)
+room_above es rank ranked name before now cache stack (suc count) cost cost' s some o c =
+    let top : suc count - 1 ≡ count = omega arith in
+    settles_room es rank ranked name before now cache stack count cost cost' s o (subst (λ n. Contains (uses es (at stack n)) o) top c)
+
+-- an entry that was read by its place
+pub entry_read : (es : List Entry) (i : ℕ) (entry : Entry) → i < length es → entry ≡ get_or es i entry → entry ≡ entry_of es i
+entry_read es i entry h e = get_or_read es i entry h e nothing
+
+-- the expression of a sound store can be evaluated over what is kept
+pub evaluable : (es : List Entry) (rank : ℕ → ℕ) → Ranked es rank → AreSound es → (cache : List Value) → length cache ≡ length es → (name : ℕ)
+    → IsEvaluable (length cache) (entry_of es name).definition
+evaluable es rank ranked sound cache long name =
+    by_case (entry_of es name).definition (sound.kinds name) (λ o c. subst (λ n. o < n) (sym long) (ranked.within name o c))
+  where
+    by_case : (d : Definition) → HasKind es (entry_of es name) d → ((o : ℕ) → Contains (operands_in d) o → o < length cache) → IsEvaluable (length cache) d
+    by_case (Base value) has within = tt
+    by_case (Bound expr operands) has within = (within, has.1)
+    by_case Forgotten has within = tt
+
+-- the measure falls where the top is read
+pub pop_smaller : (es : List Entry) (rank : ℕ → ℕ) (name : ℕ) (before now : List Bool) (cache : List Value)
+    (stack : List ℕ) (count cost cost' : ℕ) → Settles es rank name before now cache stack count cost cost' → 0 < count
+    → measure (set now (at stack (count - 1)) false) (count - 1) < measure now count
+pop_smaller es rank name before now cache stack zero cost cost' s some = absurd (omega arith)
+pop_smaller es rank name before now cache stack (suc count) cost cost' s some =
+    let less : count ≡ suc count - 1 = omega arith in
+    let more : count + 1 ≡ suc count = omega arith in
+    subst (λ n. measure (set now (at stack n) false) n < measure now (suc count)) less
+    (subst (λ n. measure (set now (at stack count) false) count < measure now n) more
+    (measure-pop now (at stack count) count (s.each count (omega arith)).1))
+
+pub ended : (es : List Entry) (rank : ℕ → ℕ) (name : ℕ) (before now : List Bool) (cache : List Value)
+    (stack : List ℕ) (count cost cost' : ℕ) → Settles es rank name before now cache stack count cost cost' → count ≡ 0
+    → now ≡ after_reading es name before
+ended es rank name before now cache stack count cost cost' s none =
+    settles_end es rank name before now cache stack cost cost' (subst (λ n. Settles es rank name before now cache stack n cost cost') none s)
+
+-- one value more was copied
+pub kept_more : (cache : List Value) (names : List Name) (i : ℕ) → i < length names → (values : List Value) (value : Value) → values ≡ map (kept_value cache) (numbers (take i names))
+    → value ≡ kept_value cache (get_or names i (name_of 0)).0 → (new : List Value) → new ≡ values ++ value ∷ []
+    → new ≡ map (kept_value cache) (numbers (take (i + 1) names))
+kept_more cache names i h values value so_far same new pushed =
+    rw (pushed, so_far, same, numbers_more names i (name_of 0) h, map-append (kept_value cache) (numbers (take i names)) ((get_or names i (name_of 0)).0 ∷ [])) refl

@@ -1,0 +1,224 @@
+-- What the graph keeps, at each of its calls.
+use Rattle.std.proofs.Common.{◌≡◌, ◌<◌, ◌≤◌, ◌+◌, ℕ, Bool, true, false, List, [], ◌∷◌, ◌++◌, set, length, ◌≢◌, AllPairs, Contains, refl, sym, ap, subst, ◌∙◌, arith}
+use Rattle.std.proofs.lemmas.List.{length_push, length-set}
+use Rattle.std.proofs.lemmas.List.Elements.{All-contains}
+use Rattle.fx_base.specs.Printing.{kind_of}
+use Rattle.fx_base.specs.declared.keys.Name.{Name}
+use Rattle.fx_base.specs.declared.values.Value.{Value}
+use Rattle.fx_properties.specs.declared.entries.Entry.{Entry}
+use Rattle.fx_expr.specs.declared.tree.Expr.{Expr}
+use Rattle.fx_expr.specs.Tree.{tree, is_within}
+use Rattle.fx_expr.specs.Meaning.{no_value}
+use Rattle.fx_properties.specs.declared.entries.Definition.TheVariants.{Base}
+use Rattle.fx_properties.specs.Uses.{operands_in, entry_of, uses, unknown_in, Ranked}
+use Rattle.fx_properties.specs.Sound.{IsSettled}
+use Rattle.fx_properties.specs.Users.{Row, Mirrors}
+use Rattle.fx_properties.specs.Refusals.{operand_count, IsFree}
+use Rattle.fx_properties.specs.Unread.{after_marking}
+use Rattle.fx_properties.specs.Changes.{with_values, changed, with_binding, bound_to, forget_all, clear_all}
+use Rattle.fx_properties.proofs.Members.{none_in_nil}
+use Rattle.fx_properties.proofs.Ranks.{ranked_empty, ranked_declared, ranked_bound, ranked_plain}
+use Rattle.fx_properties.proofs.Changed.{settled_declared, known_within}
+use Rattle.fx_properties.proofs.Edges.{mirrors_declared}
+use Rattle.fx_properties.proofs.Binding.{operand_count-declared, operand_count-set, settled_bound, kept_entry}
+use Rattle.fx_properties.proofs.Refusing.{Bindable}
+use Rattle.fx_properties.proofs.Forgetting.{length-forget, ranked_forget, settled_forget, reset_all, reset-none, reset-more}
+use Rattle.fx_properties.proofs.SoundLemmas.{sound_empty, sound_declared, sound_given, sound_bound, sound_unbound, sound_forget}
+use Rattle.fx_properties.proofs.Given.{length-given, ranked_given, mirrors_given, settled_given}
+use Rattle.fx_graph.specs.Forgotten.{reset}
+use Rattle.fx_graph.specs.Given.{IsBase, AreBase}
+use Rattle.fx_graph.specs.Store.{IsStore}
+use Rattle.fx_graph.proofs.AllowedLemmas.{count_given}
+
+-- a binding that isn't refused closes no cycle
+pub bound_ranks : (es : List Entry) (rank : ℕ → ℕ) → Ranked es rank → (name : ℕ) (expr : Expr) (names : List ℕ) → Bindable es name expr names
+    → (after : ℕ → ℕ) × Ranked (with_binding name expr names es) after
+bound_ranks es rank ranked name expr names b =
+    ranked_bound es rank ranked name (bound_to expr names (entry_of es name)) (λ o c. (known_within es o (b.operands_known o c), b.free o c))
+
+reset_same : (names : List ℕ) (cache : List Value) → reset_all names cache ≡ reset names cache
+reset_same [] cache = reset-none cache
+reset_same (name ∷ names) cache = reset-more name names cache ∙ reset_same names (set cache name no_value)
+
+pub store_empty : IsStore [] [] [] [] [] 0 [] [] [] 0
+unfolding operand_count
+store_empty =
+    record {
+      ranks = (λ n. n, ranked_empty (λ n. n));
+      sound = sound_empty;
+      settled = record { flags = refl; values = refl; closed = λ user name c. absurd (none_in_nil name c); kept = λ name h. absurd (omega arith) };
+      mirrors = record { rows = refl; listed = λ user name c. absurd (none_in_nil name c); using = λ user name c. absurd (none_in_nil user c) };
+      before_length = refl;
+      newly_length = refl;
+      newly_few = omega arith;
+      fresh_length = refl;
+      work_length = refl;
+      few = omega arith;
+      counted = refl;
+      operands_few = omega arith;
+    }
+
+pub store_declared : (es : List Entry) (users : List Row) (unread before : List Bool) (newly : List Name) (n : ℕ) (cache fresh : List Value) (work : List ℕ) (operands : ℕ)
+    (entry : Entry) (row : Row) (name : Name) (value kept spare : Value) (place : ℕ) → IsStore es users unread before newly n cache fresh work operands
+    → length es < 4000000 → entry.definition ≡ Base value → kind_of value ≡ entry.kind → row.items ≡ [] → kept ≡ value
+    → IsStore (es ++ entry ∷ []) (users ++ row ∷ []) (unread ++ false ∷ []) (before ++ false ∷ []) (newly ++ name ∷ []) n (cache ++ kept ∷ []) (fresh ++ spare ∷ []) (work ++ place ∷ []) operands
+store_declared es users unread before newly n cache fresh work operands entry row name value kept spare place s room base kind empty same =
+    let none : operands_in entry.definition ≡ [] = ap operands_in base in
+    let after = ranked_declared es s.ranks.0 s.ranks.1 entry none in
+    let long : length (es ++ entry ∷ []) ≡ length es + 1 = length_push es entry in
+    record {
+      ranks = after;
+      sound = sound_declared es s.ranks.0 s.ranks.1 s.sound entry value base kind;
+      settled = subst (λ (v : Value). IsSettled (es ++ entry ∷ []) (unread ++ false ∷ []) (cache ++ v ∷ [])) (sym same)
+          (settled_declared es s.ranks.0 after.0 s.ranks.1 entry value after.1 base unread cache s.settled);
+      mirrors = mirrors_declared es users entry row s.mirrors none empty s.ranks.1.within;
+      before_length = omega (arith, length_push before false, s.before_length);
+      newly_length = omega (arith, length_push newly name, s.newly_length);
+      newly_few = omega (arith, s.newly_few);
+      fresh_length = omega (arith, length_push fresh spare, s.fresh_length);
+      work_length = omega (arith, length_push work place, s.work_length);
+      few = omega arith;
+      counted = s.counted ∙ sym (operand_count-declared es entry none);
+      operands_few = s.operands_few;
+    }
+
+-- the lists that no contract sees may hold anything
+pub store_kept : (es : List Entry) (users : List Row) (unread before : List Bool) (newly : List Name) (n : ℕ) (cache fresh : List Value) (work : List ℕ) (operands : ℕ)
+    (before' : List Bool) (fresh' : List Value) (work' : List ℕ) → IsStore es users unread before newly n cache fresh work operands
+    → length before' ≡ length es → length fresh' ≡ length es → length work' ≡ length es
+    → IsStore es users unread before' newly n cache fresh' work' operands
+store_kept es users unread before newly n cache fresh work operands before' fresh' work' s b f w =
+    record {
+      ranks = s.ranks;
+      sound = s.sound;
+      settled = s.settled;
+      mirrors = s.mirrors;
+      before_length = b;
+      newly_length = s.newly_length;
+      newly_few = s.newly_few;
+      fresh_length = f;
+      work_length = w;
+      few = s.few;
+      counted = s.counted;
+      operands_few = s.operands_few;
+    }
+
+-- some names were read
+pub store_read : (es : List Entry) (users : List Row) (unread before : List Bool) (newly : List Name) (n : ℕ) (cache fresh : List Value) (work : List ℕ) (operands : ℕ)
+    (unread' : List Bool) (cache' : List Value) (work' : List ℕ) → IsStore es users unread before newly n cache fresh work operands
+    → IsSettled es unread' cache' → length work' ≡ length es
+    → IsStore es users unread' before newly n cache' fresh work' operands
+store_read es users unread before newly n cache fresh work operands unread' cache' work' s t w =
+    record {
+      ranks = s.ranks;
+      sound = s.sound;
+      settled = t;
+      mirrors = s.mirrors;
+      before_length = s.before_length;
+      newly_length = s.newly_length;
+      newly_few = s.newly_few;
+      fresh_length = s.fresh_length;
+      work_length = w;
+      few = s.few;
+      counted = s.counted;
+      operands_few = s.operands_few;
+    }
+
+-- names were given values
+pub store_given : (es : List Entry) (users : List Row) (unread before : List Bool) (newly : List Name) (n : ℕ) (cache fresh : List Value) (work : List ℕ) (operands : ℕ)
+    (sets : Bool) (pairs : List (Name × Value)) (before' : List Bool) (newly' : List Name) (n' : ℕ) (fresh' : List Value) (work' : List ℕ)
+    → IsStore es users unread before newly n cache fresh work operands
+    → AllPairs (λ (one other : Name × Value). one.0 ≢ other.0) pairs → AreBase es pairs
+    → length before' ≡ length es → length newly' ≡ length es → n' ≤ length es → length fresh' ≡ length es → length work' ≡ length es
+    → IsStore (with_values sets pairs es) users (after_marking (with_values sets pairs es) (changed pairs es) unread) before' newly' n' cache fresh' work' operands
+store_given es users unread before newly n cache fresh work operands sets pairs before' newly' n' fresh' work' s distinct all b w m f k =
+    let base : (p : Name × Value) → Contains pairs p → IsBase es p = λ p c. All-contains (IsBase es) pairs p all c in
+    let long : length (with_values sets pairs es) ≡ length es = length-given sets pairs es in
+    record {
+      ranks = (s.ranks.0, ranked_given sets pairs es s.ranks.0 s.ranks.1);
+      sound = sound_given sets pairs es s.sound distinct (λ p c. ((base p c).0, (base p c).2));
+      settled = settled_given sets pairs es s.ranks.0 s.ranks.1 distinct (λ p c. ((base p c).0, (base p c).1)) unread cache s.settled;
+      mirrors = mirrors_given sets pairs es users s.mirrors (λ p c. (base p c).1);
+      before_length = b ∙ sym long;
+      newly_length = w ∙ sym long;
+      newly_few = omega arith;
+      fresh_length = f ∙ sym long;
+      work_length = k ∙ sym long;
+      few = omega (arith, s.few);
+      counted = s.counted ∙ sym (count_given sets pairs es base);
+      operands_few = s.operands_few;
+    }
+
+-- a name was bound
+pub store_bound : (es : List Entry) (users : List Row) (unread before : List Bool) (newly : List Name) (n : ℕ) (cache fresh : List Value) (work : List ℕ) (operands : ℕ)
+    (name : ℕ) (expr : Expr) (names : List ℕ) (users' : List Row) (before' : List Bool) (newly' : List Name) (n' : ℕ) (work' : List ℕ) (operands' : ℕ)
+    → IsStore es users unread before newly n cache fresh work operands
+    → Bindable es name expr names → is_within (tree expr) (length names) ≡ true → Mirrors (with_binding name expr names es) users'
+    → operands' ≡ operand_count (with_binding name expr names es) → operands' ≤ 1000000
+    → length before' ≡ length es → length newly' ≡ length es → n' ≤ length es → length work' ≡ length es
+    → IsStore (with_binding name expr names es) users' (after_marking (with_binding name expr names es) (name ∷ []) unread) before' newly' n' cache fresh work' operands'
+store_bound es users unread before newly n cache fresh work operands name expr names users' before' newly' n' work' operands' s b places mirrors count few w l m k =
+    let ranks = bound_ranks es s.ranks.0 s.ranks.1 name expr names b in
+    let long : length (with_binding name expr names es) ≡ length es = length-set es name (bound_to expr names (entry_of es name)) in
+    record {
+      ranks = ranks;
+      sound = sound_bound es s.sound name expr names b.known b.writable b.kind places b.operands_known;
+      settled = settled_bound es ranks.0 name (bound_to expr names (entry_of es name)) ranks.1 unread cache s.settled;
+      mirrors = mirrors;
+      before_length = w ∙ sym long;
+      newly_length = l ∙ sym long;
+      newly_few = omega arith;
+      fresh_length = s.fresh_length ∙ sym long;
+      work_length = k ∙ sym long;
+      few = omega (arith, s.few);
+      counted = count;
+      operands_few = few;
+    }
+
+-- a name keeps its value for its own
+pub store_unbound : (es : List Entry) (users : List Row) (unread before : List Bool) (newly : List Name) (n : ℕ) (cache fresh : List Value) (work : List ℕ) (operands : ℕ)
+    (name : ℕ) (users' : List Row) (unread' : List Bool) (cache' : List Value) (work' : List ℕ) (operands' : ℕ)
+    → IsStore es users unread before newly n cache fresh work operands → unknown_in es name ≡ false
+    → Mirrors (set es name (kept_entry es name)) users' → IsSettled (set es name (kept_entry es name)) unread' cache'
+    → operands' + length (uses es name) ≡ operands → length work' ≡ length es
+    → IsStore (set es name (kept_entry es name)) users' unread' before newly n cache' fresh work' operands'
+store_unbound es users unread before newly n cache fresh work operands name users' unread' cache' work' operands' s known mirrors settled count k =
+    let long : length (set es name (kept_entry es name)) ≡ length es = length-set es name (kept_entry es name) in
+    record {
+      ranks = (s.ranks.0, ranked_plain es s.ranks.0 s.ranks.1 name (kept_entry es name) refl);
+      sound = sound_unbound es s.ranks.0 s.ranks.1 s.sound name known;
+      settled = settled;
+      mirrors = mirrors;
+      before_length = s.before_length ∙ sym long;
+      newly_length = s.newly_length ∙ sym long;
+      newly_few = omega (arith, s.newly_few);
+      fresh_length = s.fresh_length ∙ sym long;
+      work_length = k ∙ sym long;
+      few = omega (arith, s.few);
+      counted = omega (arith, s.counted, operand_count-set es name (kept_entry es name) (known_within es name known));
+      operands_few = omega (arith, s.operands_few);
+    }
+
+-- names were forgotten
+pub store_forgotten : (es : List Entry) (users : List Row) (unread before : List Bool) (newly : List Name) (n : ℕ) (cache fresh : List Value) (work : List ℕ) (operands : ℕ)
+    (names : List ℕ) (users' : List Row) (operands' : ℕ)
+    → IsStore es users unread before newly n cache fresh work operands → IsFree names es
+    → Mirrors (forget_all names es) users' → operands' ≡ operand_count (forget_all names es) → operands' ≤ operands
+    → IsStore (forget_all names es) users' (clear_all names unread) before newly n (reset names cache) fresh work operands'
+store_forgotten es users unread before newly n cache fresh work operands names users' operands' s free mirrors count less =
+    let long : length (forget_all names es) ≡ length es = length-forget names es in
+    record {
+      ranks = (s.ranks.0, ranked_forget names es s.ranks.0 s.ranks.1);
+      sound = sound_forget names es s.sound free;
+      settled = subst (λ (c : List Value). IsSettled (forget_all names es) (clear_all names unread) c) (reset_same names cache)
+          (settled_forget names es s.ranks.0 s.ranks.1 free unread cache s.settled);
+      mirrors = mirrors;
+      before_length = s.before_length ∙ sym long;
+      newly_length = s.newly_length ∙ sym long;
+      newly_few = omega (arith, s.newly_few);
+      fresh_length = s.fresh_length ∙ sym long;
+      work_length = s.work_length ∙ sym long;
+      few = omega (arith, s.few);
+      counted = count;
+      operands_few = omega (arith, s.operands_few);
+    }

@@ -1,0 +1,11 @@
+use Rattle.std.proofs.Common.{◌≡◌, drop}
+use Rattle.fx_base.specs.declared.keys.Name.{Name}
+use Rattle.fx_properties.specs.declared.errors.GraphError.TheVariants.{Bound}
+use Rattle.fx_properties.specs.Uses.{bound_in}
+use Rattle.fx_properties.specs.Refusals.{refused_first, pair_names}
+use Rattle.fx_graph.proofs.refusals.bound_pair.Given as goal
+
+abbrev pub invariant-loop-pair : goal.invariant-loop-pair
+invariant-loop-pair l =
+    refused_first Bound (λ (name : Name). bound_in l.entries name.0) (pair_names (drop l.pair-index l.pairs))
+    ≡ refused_first Bound (λ (name : Name). bound_in l.entries name.0) (pair_names l.pairs)

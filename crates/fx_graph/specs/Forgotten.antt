@@ -1,0 +1,20 @@
+-- What is asked before names are forgotten, and what is left of their values.
+use Rattle.std.specs.Prelude.{ℕ, List, [], ◌∷◌, Option, Some, None, Contains, slice_set}
+use Rattle.fx_base.specs.declared.values.Value.{Value}
+use Rattle.fx_expr.specs.Meaning.{no_value}
+use Rattle.fx_properties.specs.Users.{Row, users_of}
+
+-- a user in the row that isn't among the names, if there is one
+abbrev pub IsOutside : List ℕ → List ℕ → Option ℕ → Type 0
+IsOutside names row None = (user : ℕ) → Contains row user → Contains names user
+IsOutside names row (Some user) = Contains row user × (Contains names user → ⊥)
+
+-- the same over the rows of all the names
+abbrev pub IsSomeOutside : List ℕ → List Row → Option ℕ → Type 0
+IsSomeOutside names users None = (name user : ℕ) → Contains names name → Contains (users_of users name) user → Contains names user
+IsSomeOutside names users (Some user) =
+    (Contains names user → ⊥) × ((name : ℕ) × Contains names name × Contains (users_of users name) user)
+
+abbrev pub reset : List ℕ → List Value → List Value
+reset [] cache = cache
+reset (name ∷ names) cache = reset names (slice_set cache name no_value)

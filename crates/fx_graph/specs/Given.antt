@@ -1,0 +1,39 @@
+-- Pairs of a name and a value that it is given.
+use Rattle.std.specs.Prelude.{ℕ, ◌≡◌, ◌≤◌, ◌<◌, Bool, true, false, List, length, slice_index_or, All}
+use Rattle.fx_base.specs.Printing.{kind_of}
+use Rattle.fx_base.specs.declared.keys.Name.{Name}
+use Rattle.fx_base.specs.declared.values.Value.{Value}
+use Rattle.fx_base.specs.declared.values.Value.TheVariants.{Int, Bool as Truth, Text, Choice, Color, Sides}
+use Rattle.fx_expr.specs.Meaning.{no_value}
+use Rattle.fx_properties.specs.declared.entries.Entry.{Entry}
+use Rattle.fx_properties.specs.Uses.{bound_in, unknown_in}
+use Rattle.fx_properties.specs.Refusals.{kind_at, read_only_in}
+
+-- all values but texts are copied without memory
+abbrev pub is_plain : Value → Bool
+is_plain (Int n) = true
+is_plain (Truth b) = true
+is_plain (Text t) = false
+is_plain (Choice family place) = true
+is_plain (Color color) = true
+is_plain (Sides sides) = true
+
+abbrev pub ArePlain : List (Name × Value) → Type 0
+ArePlain pairs = All (λ (pair : Name × Value). is_plain pair.1 ≡ true) pairs
+
+-- the name is known and has a value of its own, of this kind
+abbrev pub IsBase : List Entry → Name × Value → Type 0
+IsBase entries pair = (unknown_in entries pair.0.0 ≡ false) × (bound_in entries pair.0.0 ≡ false) × (kind_of pair.1 ≡ kind_at entries pair.0.0)
+
+abbrev pub AreBase : List Entry → List (Name × Value) → Type 0
+AreBase entries pairs = All (IsBase entries) pairs
+
+-- the names of the pairs are read-only, or unknown
+abbrev pub AreReadOnly : List Entry → List (Name × Value) → Type 0
+AreReadOnly entries pairs = All (λ (pair : Name × Value). unknown_in entries pair.0.0 ≡ false → read_only_in entries pair.0.0 ≡ true) pairs
+
+-- the values of these pairs stand at the places of their names
+abbrev pub ArePrepared : ℕ → ℕ → List Value → List (Name × Value) → Type 0
+ArePrepared low high fresh pairs =
+    (i : ℕ) (d : Name × Value) → low ≤ i → i < high
+    → slice_index_or fresh (slice_index_or pairs i d).0.0 no_value ≡ (slice_index_or pairs i d).1

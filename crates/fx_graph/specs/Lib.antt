@@ -1,0 +1,4 @@
+pub mod Asked
+pub mod Forgotten
+pub mod Given
+pub mod Store

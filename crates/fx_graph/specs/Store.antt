@@ -1,0 +1,42 @@
+-- What the graph keeps, and what of it contracts see.
+use Rattle.std.specs.Prelude.{ℕ, ◌≡◌, ◌≤◌, Bool, true, false, List, length, take, slice_index_or, Option, None, Some}
+use Rattle.fx_base.specs.declared.keys.Name.{Name}
+use Rattle.fx_base.specs.declared.values.Value.{Value}
+use Rattle.fx_properties.specs.declared.entries.Entry.{Entry}
+use Rattle.fx_properties.specs.declared.entries.Origin.{Origin}
+use Rattle.fx_properties.specs.Numbers.{numbers}
+use Rattle.fx_properties.specs.Uses.{Ranked, entry_of, unknown_in}
+use Rattle.fx_properties.specs.Sound.{AreSound, IsSettled}
+use Rattle.fx_properties.specs.Users.{Row, no_row, Mirrors}
+use Rattle.fx_properties.specs.Refusals.{operand_count}
+use Rattle.fx_properties.specs.Changes.{State}
+
+abbrev pub state_of : List Entry → List Bool → List Name → ℕ → State
+state_of entries unread newly count = record { entries = entries; unread = unread; newly = numbers (take count newly) }
+
+-- of a known name where its definition came from
+abbrev pub origin_if : Bool → Origin → Option Origin
+origin_if true origin = None
+origin_if false origin = Some origin
+
+abbrev pub origin_in : List Entry → ℕ → Option Origin
+origin_in entries name = origin_if (unknown_in entries name) (entry_of entries name).origin
+
+-- The entries rank along uses and are sound, each has its flag, its kept value and a row of just those that use it, and
+-- the other lists have a place for each.
+pub record IsStore (entries : List Entry) (users : List Row) (unread before : List Bool) (newly : List Name) (newly_count : ℕ) (cache fresh : List Value) (work : List ℕ) (operands : ℕ) : Type 0 where
+  pub ranks : (rank : ℕ → ℕ) × Ranked entries rank
+  pub sound : AreSound entries
+  pub settled : IsSettled entries unread cache
+  pub mirrors : Mirrors entries users
+  pub before_length : length before ≡ length entries
+  pub newly_length : length newly ≡ length entries
+  pub newly_few : newly_count ≤ length entries
+  pub fresh_length : length fresh ≡ length entries
+  pub work_length : length work ≡ length entries
+  pub few : length entries ≤ 4000000
+  pub counted : operands ≡ operand_count entries
+  pub operands_few : operands ≤ 1000000
+
+abbrev pub row_of : List Row → ℕ → Row
+row_of users name = slice_index_or users name no_row

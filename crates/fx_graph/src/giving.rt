@@ -1,0 +1,251 @@
+//! Values given to names, set by code or published by the player: all are copied before the first is given, so that
+//! wanting memory changes nothing. The names whose value is another one are marked, and all that reads them.
+ghost use Rattle.std.specs.Prelude.{ℕ, List, ◌≡◌, ◌≤◌, ◌<◌, ◌+◌, cond, true, false, All, AllPairs, ◌≢◌, [], ◌∷◌, length, take, slice_set, slice_index_or, IfOk, OnOk, OnErr, IsOk};
+ghost use Rattle.fx_base.specs.declared.keys.Name.{Name as Named};
+ghost use Rattle.fx_base.specs.declared.values.Value.{Value as Content};
+ghost use Rattle.fx_expr.specs.Meaning.{no_value};
+ghost use Rattle.fx_properties.specs.declared.entries.Origin.{Origin as Source};
+ghost use Rattle.fx_properties.specs.declared.entries.Origin.TheVariants as source;
+ghost use Rattle.fx_properties.specs.Numbers.{numbers};
+ghost use Rattle.fx_properties.specs.Uses.{Ranked, entry_of, is_binding, bound_in, unknown_in};
+ghost use Rattle.fx_properties.specs.Equality.{same_value};
+ghost use Rattle.fx_properties.specs.Eager.{value_of_definition, eager};
+ghost use Rattle.fx_properties.specs.Unread.{unmarked, after_marking, newly_marked, IsClosed};
+ghost use Rattle.fx_properties.specs.Marking.{MarksAll};
+ghost use Rattle.fx_properties.specs.Users.{Mirrors};
+ghost use Rattle.fx_properties.specs.Changes.{given, with_values, changed};
+ghost use Rattle.fx_graph.specs.Given.{is_plain, ArePlain, AreBase, ArePrepared};
+
+use crate::marking::{finish, mark_one};
+use crate::users::Users;
+use fx_base::{Name, Value};
+use fx_properties::{Definition, Entry, Origin, are_same};
+use std::alloc::{AllocError, Global};
+use std::mem;
+
+/// A copy, which takes memory for a text alone.
+fn copied(alloc: Global, value: &Value) -> Result<Value, AllocError>
+    ensures value { IfOk result (λ copy. copy ≡ value.now) }
+    ensures firm { is_plain value.now ≡ true → IsOk result }
+{
+    match value {
+        Value::Int(number) => Ok(Value::Int(*number)),
+        Value::Bool(truth) => Ok(Value::Bool(*truth)),
+        Value::Text(text) => Ok(Value::Text(text.copy(alloc)?)),
+        Value::Choice(family, place) => Ok(Value::Choice(*family, *place)),
+        Value::Color(color) => Ok(Value::Color(*color)),
+        Value::Sides(sides) => Ok(Value::Sides(*sides)),
+    }
+}
+
+fn put(fresh: &mut [Value], place: usize, value: Value)
+    requires { place < length fresh.old }
+    ensures { fresh.new ≡ slice_set fresh.old place value }
+{
+    fresh[place] = value;
+}
+
+/// Copies the values to the places of their names.
+fn prepare(alloc: Global, fresh: &mut [Value], pairs: &[(Name, Value)]) -> Result<(), AllocError>
+    requires known { All (λ (pair : Named × Content). pair.0.0 < length fresh.old) pairs.now }
+    requires distinct { AllPairs (λ (one other : Named × Content). one.0 ≢ other.0) pairs.now }
+    ensures places { length fresh.new ≡ length fresh.old }
+    ensures ok { OnOk result (ArePrepared 0 (length pairs.now) fresh.new pairs.now) }
+    ensures firm { ArePlain pairs.now → IsOk result }
+{
+    for pair in pairs {
+        let value = copied(alloc, &pair.1)?;
+        put(fresh, pair.0.0 as usize, value);
+    }
+    Ok(())
+}
+
+fn origin_after(sets: bool, origin: Origin) -> Origin
+    ensures { result ≡ cond sets source.Code origin }
+{
+    if sets { Origin::Code } else { origin }
+}
+
+/// Gives the name this value.
+pub fn write_value(entries: &mut [Entry], place: usize, value: Value, sets: bool)
+    requires { place < length entries.old }
+    ensures { entries.new ≡ slice_set entries.old place (given sets value (entry_of entries.old place)) }
+{
+    let entry = &entries[place];
+    let kind = entry.kind;
+    let read_only = entry.read_only;
+    let origin = origin_after(sets, entry.origin);
+    entries[place] = Entry {
+        kind,
+        read_only,
+        origin,
+        definition: Definition::Base(value),
+    };
+}
+
+/// Gives the name the value that was prepared.
+fn give_one(entries: &mut [Entry], fresh: &mut [Value], place: usize, sets: bool)
+    requires known { place < length entries.old }
+    requires prepared { place < length fresh.old }
+    ensures entries { entries.new ≡ slice_set entries.old place (given sets (slice_index_or fresh.old place no_value) (entry_of entries.old place)) }
+    ensures fresh { fresh.new ≡ slice_set fresh.old place no_value }
+{
+    let value = mem::replace(&mut fresh[place], Value::Bool(false));
+    write_value(entries, place, value, sets);
+}
+
+fn give(entries: &mut [Entry], fresh: &mut [Value], pairs: &[(Name, Value)], sets: bool)
+    requires places { length fresh.old ≡ length entries.old }
+    requires known { All (λ (pair : Named × Content). pair.0.0 < length entries.old) pairs.now }
+    requires distinct { AllPairs (λ (one other : Named × Content). one.0 ≢ other.0) pairs.now }
+    requires prepared { ArePrepared 0 (length pairs.now) fresh.old pairs.now }
+    ensures entries { entries.new ≡ with_values sets pairs.now entries.old }
+    ensures places { length fresh.new ≡ length fresh.old }
+{
+    for pair in pairs {
+        give_one(entries, fresh, pair.0.0 as usize, sets);
+    }
+}
+
+/// Whether what isn't a binding gives this value.
+fn gives(definition: &Definition, value: &Value) -> bool
+    ensures { (f : ℕ → Content) → is_binding definition.now ≡ false → result ≡ same_value (value_of_definition f definition.now) value.now }
+{
+    match definition {
+        Definition::Base(held) => are_same(held, value),
+        Definition::Bound(_, _) => false,
+        Definition::Forgotten => are_same(&Value::Bool(false), value),
+    }
+}
+
+/// Whether the name, which isn't bound, has this value.
+fn has_value(entries: &[Entry], name: Name, value: &Value) -> bool
+    requires { bound_in entries.now name.0 ≡ false }
+    ensures { (f : ℕ → Content) → result ≡ same_value (value_of_definition f (entry_of entries.now name.0).definition) value.now }
+{
+    match entries.get(name.0 as usize) {
+        None => are_same(&Value::Bool(false), value),
+        Some(entry) => gives(&entry.definition, value),
+    }
+}
+
+/// Marks the name where its value is another one.
+fn mark_pair(
+    entries: &[Entry],
+    pair: &(Name, Value),
+    unread: &mut [bool],
+    work: &mut [usize],
+    count: usize,
+) -> usize
+    requires ranks { (rank : ℕ → ℕ) × Ranked entries.now rank }
+    requires known { pair.now.0.0 < length entries.now }
+    requires base { bound_in entries.now pair.now.0.0 ≡ false }
+    requires flags { length unread.old ≡ length entries.now }
+    requires room { count + unmarked unread.old ≤ length work.old }
+    ensures { MarksAll (changed (pair.now ∷ []) entries.now) unread.old work.old count unread.new work.new result }
+{
+    let same = has_value(entries, pair.0, &pair.1);
+    if same {
+        return count;
+    }
+    mark_one(unread, work, count, pair.0.0 as usize)
+}
+
+fn mark_changed(
+    entries: &[Entry],
+    pairs: &[(Name, Value)],
+    unread: &mut [bool],
+    work: &mut [usize],
+) -> usize
+    requires ranks { (rank : ℕ → ℕ) × Ranked entries.now rank }
+    requires base { AreBase entries.now pairs.now }
+    requires flags { length unread.old ≡ length entries.now }
+    requires places { length work.old ≡ length entries.now }
+    ensures { MarksAll (changed pairs.now entries.now) unread.old work.old 0 unread.new work.new result }
+{
+    let mut end = 0;
+    for pair in pairs {
+        end = mark_pair(entries, pair, unread, work, end);
+    }
+    end
+}
+
+/// Gives names the values that were prepared and marks what changed, and counts the names that became unread.
+fn apply_values(
+    entries: &mut [Entry],
+    users: &[Users],
+    pairs: &[(Name, Value)],
+    sets: bool,
+    was: &mut [bool],
+    unread: &mut [bool],
+    fresh: &mut [Value],
+    work: &mut [usize],
+    newly: &mut [Name],
+) -> usize
+    requires ranks { (rank : ℕ → ℕ) × Ranked entries.old rank }
+    requires mirrors { Mirrors entries.old users.now }
+    requires closed { IsClosed entries.old unread.old }
+    requires base { AreBase entries.old pairs.now }
+    requires distinct { AllPairs (λ (one other : Named × Content). one.0 ≢ other.0) pairs.now }
+    requires prepared { ArePrepared 0 (length pairs.now) fresh.old pairs.now }
+    requires flags { length unread.old ≡ length entries.old }
+    requires was { length was.old ≡ length entries.old }
+    requires places { length fresh.old ≡ length entries.old }
+    requires work { length work.old ≡ length entries.old }
+    requires newly { length newly.old ≡ length entries.old }
+    requires few { length entries.old ≤ 4000000 }
+    ensures was { length was.new ≡ length entries.old }
+    ensures places { length fresh.new ≡ length entries.old }
+    ensures work { length work.new ≡ length entries.old }
+    ensures newly { length newly.new ≡ length entries.old }
+    ensures count { result ≤ length entries.old }
+    ensures entries { entries.new ≡ with_values sets pairs.now entries.old }
+    ensures unread { unread.new ≡ after_marking (with_values sets pairs.now entries.old) (changed pairs.now entries.old) unread.old }
+    ensures names { numbers (take result newly.new) ≡ newly_marked (with_values sets pairs.now entries.old) (changed pairs.now entries.old) unread.old }
+{
+    was.copy_from_slice(unread);
+    let count = mark_changed(entries, pairs, unread, work);
+    give(entries, fresh, pairs, sets);
+    finish(entries, users, was, unread, work, newly, count)
+}
+
+/// Gives names their values and marks what changed, and counts the names that became unread.
+pub fn change_values(
+    alloc: Global,
+    entries: &mut [Entry],
+    users: &[Users],
+    pairs: &[(Name, Value)],
+    sets: bool,
+    was: &mut [bool],
+    unread: &mut [bool],
+    fresh: &mut [Value],
+    work: &mut [usize],
+    newly: &mut [Name],
+) -> Result<usize, AllocError>
+    requires ranks { (rank : ℕ → ℕ) × Ranked entries.old rank }
+    requires mirrors { Mirrors entries.old users.now }
+    requires closed { IsClosed entries.old unread.old }
+    requires flags { length unread.old ≡ length entries.old }
+    requires base { AreBase entries.old pairs.now }
+    requires distinct { AllPairs (λ (one other : Named × Content). one.0 ≢ other.0) pairs.now }
+    requires was { length was.old ≡ length entries.old }
+    requires places { length fresh.old ≡ length entries.old }
+    requires work { length work.old ≡ length entries.old }
+    requires newly { length newly.old ≡ length entries.old }
+    requires few { length entries.old ≤ 4000000 }
+    ensures was { length was.new ≡ length entries.old }
+    ensures places { length fresh.new ≡ length entries.old }
+    ensures work { length work.new ≡ length entries.old }
+    ensures newly { length newly.new ≡ length entries.old }
+    ensures count { IfOk result (λ count. count ≤ length entries.old) }
+    ensures entries { OnOk result (entries.new ≡ with_values sets pairs.now entries.old) }
+    ensures unread { OnOk result (unread.new ≡ after_marking (with_values sets pairs.now entries.old) (changed pairs.now entries.old) unread.old) }
+    ensures names { IfOk result (λ count. numbers (take count newly.new) ≡ newly_marked (with_values sets pairs.now entries.old) (changed pairs.now entries.old) unread.old) }
+    ensures kept_entries { OnErr result (entries.new ≡ entries.old) }
+    ensures kept_unread { OnErr result (unread.new ≡ unread.old) }
+    ensures kept_newly { OnErr result (newly.new ≡ newly.old) }
+    ensures firm { ArePlain pairs.now → IsOk result }
+{
+    prepare(alloc, fresh, pairs)?;
+    Ok(apply_values(entries, users, pairs, sets, was, unread, fresh, work, newly))
+}

@@ -1,0 +1,279 @@
+//! The lazy graph of properties and bindings (JavaFX `javafx.beans.property` and `javafx.beans.binding`): a change marks at
+//! once all that reads what changed, and nothing is evaluated before it is read. The store of listeners stands on it.
+#![tactic(auto)]
+
+mod asking;
+mod giving;
+mod marking;
+mod newly;
+mod reading;
+mod refusals;
+mod room;
+mod users;
+
+ghost use Rattle.std.specs.Prelude.{◌≡◌, ◌≢◌, AllPairs, IsOk, true, ◌+◌, ◌≤◌, ◌<◌, length, IfOk, IfErr, OnOk, OnErr, false};
+ghost use Rattle.fx_base.specs.declared.keys.Name.{Name as Named};
+ghost use Rattle.fx_base.specs.declared.values.Value.{Value as Content};
+ghost use Rattle.fx_base.specs.Printing.{kind_of};
+ghost use Rattle.fx_properties.specs.Numbers.{numbers};
+ghost use Rattle.fx_properties.specs.Uses.{bound_in};
+ghost use Rattle.fx_properties.specs.Unread.{marked, IsClosed, bound_unread, evaluations};
+ghost use Rattle.fx_properties.specs.Eager.{eager};
+ghost use Rattle.fx_properties.specs.Sound.{IsAcyclic};
+ghost use Rattle.fx_properties.specs.Changes.{empty, after_declare, after_read, after_values, IsReadInPart};
+ghost use Rattle.fx_properties.specs.Refusals.{IsAnswer, IsFirmAnswer, declare_refusal, unknown_refusal, set_refusal, publish_refusal};
+ghost use Rattle.fx_graph.specs.Given.{ArePlain, AreBase, AreReadOnly};
+ghost use Rattle.fx_graph.specs.Store.{origin_in};
+
+use fx_base::{Kind, Ledgers, Name, Value, Work};
+use fx_properties::{Definition, Entry, GraphError, Origin};
+use std::alloc::{AllocError, Global};
+use std::marker::Model;
+use users::Users;
+
+/// The most names that are ever declared.
+pub const MOST_NAMES: usize = 4_000_000;
+
+/// Properties under names that are given once, each with its definition, a flag that says whether it is unread, and the
+/// value that it had when it was read. Contracts see the entries, the flags, and the names that became unread in the last
+/// change. The lists of the fields have a place for each name that was ever declared.
+#[derive(Drop)]
+pub struct Graph {
+    entries: Vec<Entry>,
+    users: Vec<Users>,
+    unread: Vec<bool>,
+    /// The flags before the last change.
+    before: Vec<bool>,
+    newly: Vec<Name>,
+    newly_count: usize,
+    cache: Vec<Value>,
+    /// Room for the values of a change, so that they are all there before the first is given.
+    fresh: Vec<Value>,
+    /// Room for places that are still to be looked at.
+    work: Vec<usize>,
+    operand_count: usize,
+}
+
+impl Model for Graph {
+    ghost use Rattle.fx_properties.specs.Changes.{State};
+    ghost use Rattle.fx_expr.specs.contracts.tree.Expr as e;
+    ghost use Rattle.std.specs.Coded.{codes};
+
+    ghost Value = { State };
+
+    ghost coded = { Prim.hlevel (codes, e.the_row.coded) };
+
+    ghost use Rattle.fx_graph.specs.Store.{IsStore, state_of};
+
+    ghost view = { λ graph. state_of graph.entries.items graph.unread.items graph.newly.items graph.newly_count };
+
+    ghost invariant = { λ graph. IsStore graph.entries.items graph.users.items graph.unread.items graph.before.items graph.newly.items graph.newly_count graph.cache.items graph.fresh.items graph.work.items graph.operand_count };
+}
+
+impl Graph {
+    /// No property was declared.
+    pub fn new(alloc: Global) -> Graph
+        ensures { result ≡ empty }
+    {
+        Graph {
+            entries: Vec::new(alloc),
+            users: Vec::new(alloc),
+            unread: Vec::new(alloc),
+            before: Vec::new(alloc),
+            newly: Vec::new(alloc),
+            newly_count: 0,
+            cache: Vec::new(alloc),
+            fresh: Vec::new(alloc),
+            work: Vec::new(alloc),
+            operand_count: 0,
+        }
+    }
+
+    /// A further property with this value. It isn't unread.
+    pub fn declare(
+        &mut self,
+        alloc: Global,
+        kind: Kind,
+        read_only: bool,
+        value: Value,
+    ) -> Result<Name, GraphError>
+        requires { kind_of value ≡ kind }
+        ensures answer { IsAnswer (declare_refusal self.old.entries) result }
+        ensures name { IfOk result (λ name. name.0 ≡ length self.old.entries) }
+        ensures ok { OnOk result (self.new ≡ after_declare kind read_only value self.old) }
+        ensures err { OnErr result (self.new ≡ self.old) }
+    {
+        let place = self.entries.len();
+        if place >= MOST_NAMES {
+            return Err(GraphError::Full);
+        }
+        let kept = value.copy(alloc)?;
+        room::reserve_two(&mut self.entries, &mut self.users)?;
+        room::reserve_three(&mut self.unread, &mut self.before, &mut self.newly)?;
+        room::reserve_three(&mut self.cache, &mut self.fresh, &mut self.work)?;
+        let entry = Entry {
+            kind,
+            read_only,
+            origin: Origin::Initial,
+            definition: Definition::Base(value),
+        };
+        room::push_two(&mut self.entries, entry, &mut self.users, Users::new(alloc));
+        room::push_three(
+            &mut self.unread,
+            false,
+            &mut self.before,
+            false,
+            &mut self.newly,
+            Name(0),
+        );
+        room::push_three(
+            &mut self.cache,
+            kept,
+            &mut self.fresh,
+            Value::Bool(false),
+            &mut self.work,
+            0,
+        );
+        Ok(Name(place as u32))
+    }
+
+    /// Sets properties by code, all or none, so that those that are joined never differ. Values other than texts take no
+    /// memory.
+    pub fn set_group(&mut self, alloc: Global, pairs: &[(Name, Value)]) -> Result<(), GraphError>
+        requires { AllPairs (λ (one other : Named × Content). one.0 ≢ other.0) pairs.now }
+        ensures answer { IsAnswer (set_refusal pairs.now self.old.entries) result }
+        ensures firm { ArePlain pairs.now → IsFirmAnswer (set_refusal pairs.now self.old.entries) result }
+        ensures ok { OnOk result (self.new ≡ after_values true pairs.now self.old) }
+        ensures err { OnErr result (self.new ≡ self.old) }
+    {
+        if let Some(refusal) = refusals::of_set(self.entries.as_slice(), pairs) {
+            return Err(refusal);
+        }
+        self.change(alloc, pairs, true)?;
+        Ok(())
+    }
+
+    /// Why these may not be set, if they may not.
+    pub fn refuses_set(&self, pairs: &[(Name, Value)]) -> Option<GraphError>
+        ensures { result ≡ set_refusal pairs.now self.now.entries }
+    {
+        refusals::of_set(self.entries.as_slice(), pairs)
+    }
+
+    /// Gives read-only properties values, all or none. Their origins stay.
+    pub fn publish(&mut self, alloc: Global, pairs: &[(Name, Value)]) -> Result<(), GraphError>
+        requires distinct { AllPairs (λ (one other : Named × Content). one.0 ≢ other.0) pairs.now }
+        requires read_only { AreReadOnly self.old.entries pairs.now }
+        ensures answer { IsAnswer (publish_refusal pairs.now self.old.entries) result }
+        ensures firm { ArePlain pairs.now → IsFirmAnswer (publish_refusal pairs.now self.old.entries) result }
+        ensures ok { OnOk result (self.new ≡ after_values false pairs.now self.old) }
+        ensures err { OnErr result (self.new ≡ self.old) }
+    {
+        if let Some(refusal) = refusals::of_publish(self.entries.as_slice(), pairs) {
+            return Err(refusal);
+        }
+        self.change(alloc, pairs, false)?;
+        Ok(())
+    }
+
+    fn change(
+        &mut self,
+        alloc: Global,
+        pairs: &[(Name, Value)],
+        sets: bool,
+    ) -> Result<(), AllocError>
+        requires distinct { AllPairs (λ (one other : Named × Content). one.0 ≢ other.0) pairs.now }
+        requires base { AreBase self.old.entries pairs.now }
+        ensures firm { ArePlain pairs.now → IsOk result }
+        ensures ok { OnOk result (self.new ≡ after_values sets pairs.now self.old) }
+        ensures err { OnErr result (self.new ≡ self.old) }
+    {
+        let count = giving::change_values(
+            alloc,
+            self.entries.as_mut_slice(),
+            self.users.as_slice(),
+            pairs,
+            sets,
+            self.before.as_mut_slice(),
+            self.unread.as_mut_slice(),
+            self.fresh.as_mut_slice(),
+            self.work.as_mut_slice(),
+            self.newly.as_mut_slice(),
+        )?;
+        self.newly_count = count;
+        Ok(())
+    }
+
+    /// The value of the property. A bound one is evaluated where it may have changed, after what it reads, each name once.
+    /// Where memory is wanting, some names may have been read.
+    pub fn read<L: Ledgers>(
+        &mut self,
+        alloc: Global,
+        name: Name,
+        work: &mut Work<L>,
+    ) -> Result<Value, GraphError>
+        ensures answer { IsAnswer (unknown_refusal name self.old.entries) result }
+        ensures value { IfOk result (λ value. value ≡ eager self.old.entries name.0) }
+        ensures again { marked self.old.unread name.0 ≡ false → self.new ≡ self.old }
+        ensures ok { OnOk result (self.new ≡ after_read name.0 self.old) }
+        ensures memory { result ≡ Err GraphError.Memory → IsReadInPart name.0 self.old self.new }
+        ensures refused { IfErr result (λ error. error ≢ GraphError.Memory → self.new ≡ self.old) }
+
+        // How often an expression was evaluated: at most once for each bound unread name that this one needs.
+        ensures cost { work.new.evaluated ≤ work.old.evaluated + evaluations self.old.entries name.0 self.old.unread }
+        ensures steps { OnOk result (work.new.evaluated + bound_unread self.old.entries self.new.unread ≡ work.old.evaluated + bound_unread self.old.entries self.old.unread) }
+        ensures others { work.new ≡ record work.old { evaluated = work.new.evaluated } }
+    {
+        if asking::is_unknown(self.entries.as_slice(), name) {
+            return Err(GraphError::Unknown(name));
+        }
+        let value = reading::value_of(
+            alloc,
+            self.entries.as_slice(),
+            self.unread.as_mut_slice(),
+            self.cache.as_mut_slice(),
+            self.work.as_mut_slice(),
+            name.0 as usize,
+            work,
+        )?;
+        Ok(value)
+    }
+
+    /// The names that became unread in the last change, rising.
+    pub fn newly(&self) -> &[Name]
+        ensures { numbers result.now ≡ self.now.newly }
+    {
+        &self.newly.as_slice()[..self.newly_count]
+    }
+
+    /// Whether the property is bound.
+    pub fn is_bound(&self, name: Name) -> bool
+        ensures { result ≡ bound_in self.now.entries name.0 }
+    {
+        asking::is_bound(self.entries.as_slice(), name)
+    }
+
+    /// Whether the property may have changed since it was read.
+    pub fn is_unread(&self, name: Name) -> bool
+        ensures { result ≡ marked self.now.unread name.0 }
+    {
+        asking::is_marked(self.unread.as_slice(), name)
+    }
+
+    /// Where the present definition of a known property came from.
+    pub fn origin(&self, name: Name) -> Option<Origin>
+        ensures { result ≡ origin_in self.now.entries name.0 }
+    {
+        asking::origin_of(self.entries.as_slice(), name)
+    }
+
+    /// What is true at all times: no property reads itself, over however many bindings, and who reads an unread one is
+    /// unread.
+    pub fn laws(&self)
+        ensures acyclic { IsAcyclic self.now.entries }
+        ensures closed { IsClosed self.now.entries self.now.unread }
+        ensures flags { length self.now.unread ≡ length self.now.entries }
+    {
+        let _count = self.operand_count;
+    }
+}

@@ -1,0 +1,219 @@
+//! Reading: a walk downwards over what is unread, with a stack of its own, so that a long chain of bindings takes no
+//! deep recursion. Each value is kept, and counted once.
+ghost use Rattle.std.specs.Prelude.{ℕ, ◌≡◌, ◌≤◌, ◌<◌, ◌+◌, cond, Contains, length, map, slice_set, IfOk, OnOk, true, false};
+ghost use Rattle.fx_properties.specs.Numbers.{numbers};
+ghost use Rattle.fx_properties.specs.Uses.{Ranked, entry_of, uses, bound_in, operands_in, is_binding};
+ghost use Rattle.fx_properties.specs.Eager.{value_of_definition, eager};
+ghost use Rattle.fx_properties.specs.Unread.{marked, after_reading, bound_unread, evaluations, IsPartRead};
+ghost use Rattle.fx_properties.specs.Sound.{AreSound, IsSettled};
+ghost use Rattle.fx_graph.specs.Asked.{IsUnreadAmong, IsEvaluable, kept_value};
+
+use crate::asking::is_marked;
+use fx_base::{Ledgers, Name, Value, Work};
+use fx_expr::eval;
+use fx_properties::{Definition, Entry};
+use std::alloc::{AllocError, Global};
+
+fn first_unread(operands: &[Name], unread: &[bool]) -> Option<usize>
+    ensures { IsUnreadAmong unread.now (numbers operands.now) result }
+{
+    for operand in operands {
+        if is_marked(unread, *operand) {
+            return Some(operand.0 as usize);
+        }
+    }
+    None
+}
+
+/// What is to be read before the value that is so defined.
+fn unread_operand(definition: &Definition, unread: &[bool]) -> Option<usize>
+    ensures { IsUnreadAmong unread.now (operands_in definition.now) result }
+{
+    match definition {
+        Definition::Base(_) => None,
+        Definition::Bound(_, operands) => first_unread(operands.as_slice(), unread),
+        Definition::Forgotten => None,
+    }
+}
+
+/// Copies of what is kept of these names.
+fn kept_values(alloc: Global, operands: &[Name], cache: &[Value]) -> Result<Vec<Value>, AllocError>
+    requires { (name : ℕ) → Contains (numbers operands.now) name → name < length cache.now }
+    ensures { IfOk result (λ values. values.items ≡ map (kept_value cache.now) (numbers operands.now)) }
+{
+    let mut values = Vec::with_capacity(alloc, operands.len())?;
+    for operand in operands {
+        values.push(cache[operand.0 as usize].copy(alloc)?)?;
+    }
+    Ok(values)
+}
+
+/// The value that is so defined, over what is kept of its operands.
+fn evaluate<L: Ledgers>(
+    alloc: Global,
+    definition: &Definition,
+    cache: &[Value],
+    work: &mut Work<L>,
+) -> Result<Value, AllocError>
+    requires { IsEvaluable (length cache.now) definition.now }
+    ensures value { IfOk result (λ value. value ≡ value_of_definition (kept_value cache.now) definition.now) }
+    ensures steps { OnOk result (work.new.evaluated ≡ work.old.evaluated + cond (is_binding definition.now) 1 0) }
+    ensures most { work.new.evaluated ≤ work.old.evaluated + cond (is_binding definition.now) 1 0 }
+    ensures others { work.new ≡ record work.old { evaluated = work.new.evaluated } }
+{
+    match definition {
+        Definition::Base(value) => value.copy(alloc),
+        Definition::Bound(expr, operands) => {
+            let values = kept_values(alloc, operands.as_slice(), cache)?;
+            eval(alloc, expr, values.as_slice(), work)
+        }
+        Definition::Forgotten => Ok(Value::Bool(false)),
+    }
+}
+
+/// What is to be read before this one.
+fn operand_at(entries: &[Entry], place: usize, unread: &[bool]) -> Option<usize>
+    requires { place < length entries.now }
+    ensures { IsUnreadAmong unread.now (uses entries.now place) result }
+{
+    unread_operand(&entries[place].definition, unread)
+}
+
+/// The value of this one, over what is kept of its operands.
+fn evaluate_at<L: Ledgers>(
+    alloc: Global,
+    entries: &[Entry],
+    place: usize,
+    cache: &[Value],
+    work: &mut Work<L>,
+) -> Result<Value, AllocError>
+    requires known { place < length entries.now }
+    requires evaluable { IsEvaluable (length cache.now) (entry_of entries.now place).definition }
+    ensures value { IfOk result (λ value. value ≡ value_of_definition (kept_value cache.now) (entry_of entries.now place).definition) }
+    ensures steps { OnOk result (work.new.evaluated ≡ work.old.evaluated + cond (bound_in entries.now place) 1 0) }
+    ensures most { work.new.evaluated ≤ work.old.evaluated + cond (bound_in entries.now place) 1 0 }
+    ensures others { work.new ≡ record work.old { evaluated = work.new.evaluated } }
+{
+    evaluate(alloc, &entries[place].definition, cache, work)
+}
+
+fn push_place(stack: &mut [usize], count: usize, place: usize)
+    requires { count < length stack.old }
+    ensures { stack.new ≡ slice_set stack.old count place }
+{
+    stack[count] = place;
+}
+
+/// Keeps the value of this one, which is read now.
+fn keep(cache: &mut [Value], unread: &mut [bool], place: usize, value: Value)
+    requires cache { place < length cache.old }
+    requires unread { place < length unread.old }
+    ensures cache { cache.new ≡ slice_set cache.old place value }
+    ensures unread { unread.new ≡ slice_set unread.old place false }
+{
+    cache[place] = value;
+    unread[place] = false;
+}
+
+/// Reads what an unread name needs, and the name.
+fn settle_unread<L: Ledgers>(
+    alloc: Global,
+    entries: &[Entry],
+    unread: &mut [bool],
+    cache: &mut [Value],
+    stack: &mut [usize],
+    name: usize,
+    work: &mut Work<L>,
+) -> Result<(), AllocError>
+    requires ranks { (rank : ℕ → ℕ) × Ranked entries.now rank }
+    requires sound { AreSound entries.now }
+    requires settled { IsSettled entries.now unread.old cache.old }
+    requires room { length stack.old ≡ length entries.now }
+    requires unread { marked unread.old name ≡ true }
+    ensures room { length stack.new ≡ length entries.now }
+    ensures settled { IsSettled entries.now unread.new cache.new }
+    ensures part { IsPartRead entries.now name unread.old unread.new }
+    ensures read { OnOk result (marked unread.new name ≡ false) }
+    ensures ok { OnOk result (unread.new ≡ after_reading entries.now name unread.old) }
+    ensures cost { work.new.evaluated ≤ work.old.evaluated + evaluations entries.now name unread.old }
+    ensures steps { OnOk result (work.new.evaluated + bound_unread entries.now unread.new ≡ work.old.evaluated + bound_unread entries.now unread.old) }
+    ensures others { work.new ≡ record work.old { evaluated = work.new.evaluated } }
+{
+    push_place(stack, 0, name);
+    let mut count = 1;
+    while count > 0 {
+        let top = stack[count - 1];
+        match operand_at(entries, top, unread) {
+            Some(operand) => {
+                push_place(stack, count, operand);
+                count += 1;
+            }
+            None => {
+                let value = evaluate_at(alloc, entries, top, cache, work)?;
+                keep(cache, unread, top, value);
+                count -= 1;
+            }
+        }
+    }
+    Ok(())
+}
+
+/// Reads what the name needs, and the name.
+fn settle<L: Ledgers>(
+    alloc: Global,
+    entries: &[Entry],
+    unread: &mut [bool],
+    cache: &mut [Value],
+    stack: &mut [usize],
+    name: usize,
+    work: &mut Work<L>,
+) -> Result<(), AllocError>
+    requires ranks { (rank : ℕ → ℕ) × Ranked entries.now rank }
+    requires sound { AreSound entries.now }
+    requires settled { IsSettled entries.now unread.old cache.old }
+    requires room { length stack.old ≡ length entries.now }
+    requires known { name < length entries.now }
+    ensures room { length stack.new ≡ length entries.now }
+    ensures settled { IsSettled entries.now unread.new cache.new }
+    ensures part { IsPartRead entries.now name unread.old unread.new }
+    ensures again { marked unread.old name ≡ false → unread.new ≡ unread.old }
+    ensures read { OnOk result (marked unread.new name ≡ false) }
+    ensures ok { OnOk result (unread.new ≡ after_reading entries.now name unread.old) }
+    ensures cost { work.new.evaluated ≤ work.old.evaluated + evaluations entries.now name unread.old }
+    ensures steps { OnOk result (work.new.evaluated + bound_unread entries.now unread.new ≡ work.old.evaluated + bound_unread entries.now unread.old) }
+    ensures others { work.new ≡ record work.old { evaluated = work.new.evaluated } }
+{
+    if !unread[name] {
+        return Ok(());
+    }
+    settle_unread(alloc, entries, unread, cache, stack, name, work)
+}
+
+/// The value of a known name.
+pub fn value_of<L: Ledgers>(
+    alloc: Global,
+    entries: &[Entry],
+    unread: &mut [bool],
+    cache: &mut [Value],
+    stack: &mut [usize],
+    name: usize,
+    work: &mut Work<L>,
+) -> Result<Value, AllocError>
+    requires ranks { (rank : ℕ → ℕ) × Ranked entries.now rank }
+    requires sound { AreSound entries.now }
+    requires settled { IsSettled entries.now unread.old cache.old }
+    requires room { length stack.old ≡ length entries.now }
+    requires known { name < length entries.now }
+    ensures room { length stack.new ≡ length entries.now }
+    ensures settled { IsSettled entries.now unread.new cache.new }
+    ensures part { IsPartRead entries.now name unread.old unread.new }
+    ensures again { marked unread.old name ≡ false → unread.new ≡ unread.old }
+    ensures value { IfOk result (λ value. value ≡ eager entries.now name) }
+    ensures ok { OnOk result (unread.new ≡ after_reading entries.now name unread.old) }
+    ensures cost { work.new.evaluated ≤ work.old.evaluated + evaluations entries.now name unread.old }
+    ensures steps { OnOk result (work.new.evaluated + bound_unread entries.now unread.new ≡ work.old.evaluated + bound_unread entries.now unread.old) }
+    ensures others { work.new ≡ record work.old { evaluated = work.new.evaluated } }
+{
+    settle(alloc, entries, unread, cache, stack, name, work)?;
+    cache[name].copy(alloc)
+}

@@ -1,5 +1,5 @@
 -- Values that are given to names one by one.
-use Rattle.std.proofs.Common.{◌≡◌, ◌≢◌, ◌<◌, ◌≤◌, ◌+◌, ◌⊎◌, ℕ, Bool, true, false, cond, not, List, [], ◌∷◌, ◌++◌, length, get_or, set, take, drop, map, filter, All, AllPairs, Contains, refl, sym, ap, subst, ◌∙◌, inl, inr, arith}
+use Rattle.std.proofs.Common.{◌≡◌, ◌≢◌, ◌<◌, ◌+◌, ℕ, Bool, true, false, cond, not, List, [], ◌∷◌, ◌++◌, length, get_or, set, take, drop, map, filter, All, AllPairs, Contains, refl, sym, ap, subst, ◌∙◌, inl, inr, arith}
 use Rattle.std.proofs.lemmas.List.{get_or_read, get_or-set_same, get_or-set_other, at_drop_more, take_more, map-append}
 use Rattle.std.proofs.lemmas.List.Elements.{filter-append, Contains-append_left, Contains-append_right, Contains-append_cases}
 use Rattle.std.proofs.lemmas.Bool.{cases_lt, cases_Bool, cases_eq}
@@ -8,13 +8,12 @@ use Rattle.fx_base.specs.declared.values.Value.{Value}
 use Rattle.fx_expr.specs.Meaning.{no_value}
 use Rattle.fx_properties.specs.declared.entries.Entry.{Entry}
 use Rattle.fx_properties.specs.Numbers.{name_of}
-use Rattle.fx_properties.specs.Uses.{nothing, entry_of, Ranked}
+use Rattle.fx_properties.specs.Uses.{entry_of, Ranked}
 use Rattle.fx_properties.specs.Equality.{same_value}
 use Rattle.fx_properties.specs.Eager.{value_of_definition, eager}
-use Rattle.fx_properties.specs.Unread.{marked, unmarked}
+use Rattle.fx_properties.specs.Unread.{marked}
 use Rattle.fx_properties.specs.Marking.{MarksAll, at}
 use Rattle.fx_properties.specs.Changes.{given, with_values, changed}
-use Rattle.fx_properties.proofs.MarkSteps.{marks_none, marks_more}
 use Rattle.fx_properties.proofs.Values.{eager-unfold}
 use Rattle.fx_graph.specs.Given.{ArePrepared}
 
@@ -119,8 +118,3 @@ marks_both xs ys f w c f1 w1 c1 f2 w2 c2 m n =
           ];
       goes_on = λ before l. n.goes_on before (m.goes_on before l);
     }
-
--- the first name that is marked
-pub mark_first : (f : List Bool) (w : List ℕ) (name : ℕ) (f' : List Bool) (w' : List ℕ) (c : ℕ) → name < length f → 0 + unmarked f ≤ length w
-    → f' ≡ set f name true → w' ≡ cond (marked f name) w (set w 0 name) → c ≡ cond (marked f name) 0 (0 + 1) → MarksAll (name ∷ []) f w 0 f' w' c
-mark_first f w name f' w' c within room flags work count = rw (flags, work, count) (marks_more [] f w 0 f w 0 name (marks_none f w 0) within room)

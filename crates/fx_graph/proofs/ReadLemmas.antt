@@ -11,7 +11,7 @@ use Rattle.fx_properties.specs.Numbers.{numbers, name_of}
 use Rattle.fx_properties.specs.Uses.{Ranked, nothing, entry_of, operands_in, uses, bound_in}
 use Rattle.fx_properties.specs.Sound.{AreSound, HasKind}
 use Rattle.fx_properties.specs.Eager.{eager}
-use Rattle.fx_properties.specs.Unread.{marked, unmarked, after_reading, bound_unread, evaluations, IsPartRead}
+use Rattle.fx_properties.specs.Unread.{marked, unmarked, after_reading, evaluations, IsPartRead}
 use Rattle.fx_properties.specs.Marking.{at, IsClosedBut, MarksAll}
 use Rattle.fx_properties.specs.Users.{Row, no_row, users_of, Mirrors}
 use Rattle.fx_properties.proofs.Members.{contains_map}

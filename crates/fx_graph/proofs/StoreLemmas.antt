@@ -1,44 +1,28 @@
 -- What the graph keeps, at each of its calls.
-use Rattle.std.proofs.Common.{◌≡◌, ◌<◌, ◌≤◌, ◌+◌, ℕ, Bool, true, false, List, [], ◌∷◌, ◌++◌, set, length, ◌≢◌, AllPairs, Contains, refl, sym, ap, subst, ◌∙◌, arith}
-use Rattle.std.proofs.lemmas.List.{length_push, length-set}
+use Rattle.std.proofs.Common.{◌≡◌, ◌<◌, ◌≤◌, ◌+◌, ℕ, Bool, false, List, [], ◌∷◌, ◌++◌, length, ◌≢◌, AllPairs, Contains, refl, sym, ap, subst, ◌∙◌, arith}
+use Rattle.std.proofs.lemmas.List.{length_push}
 use Rattle.std.proofs.lemmas.List.Elements.{All-contains}
 use Rattle.fx_base.specs.Printing.{kind_of}
 use Rattle.fx_base.specs.declared.keys.Name.{Name}
 use Rattle.fx_base.specs.declared.values.Value.{Value}
 use Rattle.fx_properties.specs.declared.entries.Entry.{Entry}
-use Rattle.fx_expr.specs.declared.tree.Expr.{Expr}
-use Rattle.fx_expr.specs.Tree.{tree, is_within}
-use Rattle.fx_expr.specs.Meaning.{no_value}
 use Rattle.fx_properties.specs.declared.entries.Definition.TheVariants.{Base}
-use Rattle.fx_properties.specs.Uses.{operands_in, entry_of, uses, unknown_in, Ranked}
+use Rattle.fx_properties.specs.Uses.{operands_in}
 use Rattle.fx_properties.specs.Sound.{IsSettled}
-use Rattle.fx_properties.specs.Users.{Row, Mirrors}
-use Rattle.fx_properties.specs.Refusals.{operand_count, IsFree}
+use Rattle.fx_properties.specs.Users.{Row}
+use Rattle.fx_properties.specs.Refusals.{operand_count}
 use Rattle.fx_properties.specs.Unread.{after_marking}
-use Rattle.fx_properties.specs.Changes.{with_values, changed, with_binding, bound_to, forget_all, clear_all}
+use Rattle.fx_properties.specs.Changes.{with_values, changed}
 use Rattle.fx_properties.proofs.Members.{none_in_nil}
-use Rattle.fx_properties.proofs.Ranks.{ranked_empty, ranked_declared, ranked_bound, ranked_plain}
-use Rattle.fx_properties.proofs.Changed.{settled_declared, known_within}
+use Rattle.fx_properties.proofs.Ranks.{ranked_empty, ranked_declared}
+use Rattle.fx_properties.proofs.Changed.{settled_declared}
 use Rattle.fx_properties.proofs.Edges.{mirrors_declared}
-use Rattle.fx_properties.proofs.Binding.{operand_count-declared, operand_count-set, settled_bound, kept_entry}
-use Rattle.fx_properties.proofs.Refusing.{Bindable}
-use Rattle.fx_properties.proofs.Forgetting.{length-forget, ranked_forget, settled_forget, reset_all, reset-none, reset-more}
-use Rattle.fx_properties.proofs.SoundLemmas.{sound_empty, sound_declared, sound_given, sound_bound, sound_unbound, sound_forget}
+use Rattle.fx_properties.proofs.Binding.{operand_count-declared}
+use Rattle.fx_properties.proofs.SoundLemmas.{sound_empty, sound_declared, sound_given}
 use Rattle.fx_properties.proofs.Given.{length-given, ranked_given, mirrors_given, settled_given}
-use Rattle.fx_graph.specs.Forgotten.{reset}
 use Rattle.fx_graph.specs.Given.{IsBase, AreBase}
 use Rattle.fx_graph.specs.Store.{IsStore}
 use Rattle.fx_graph.proofs.AllowedLemmas.{count_given}
-
--- a binding that isn't refused closes no cycle
-pub bound_ranks : (es : List Entry) (rank : ℕ → ℕ) → Ranked es rank → (name : ℕ) (expr : Expr) (names : List ℕ) → Bindable es name expr names
-    → (after : ℕ → ℕ) × Ranked (with_binding name expr names es) after
-bound_ranks es rank ranked name expr names b =
-    ranked_bound es rank ranked name (bound_to expr names (entry_of es name)) (λ o c. (known_within es o (b.operands_known o c), b.free o c))
-
-reset_same : (names : List ℕ) (cache : List Value) → reset_all names cache ≡ reset names cache
-reset_same [] cache = reset-none cache
-reset_same (name ∷ names) cache = reset-more name names cache ∙ reset_same names (set cache name no_value)
 
 pub store_empty : IsStore [] [] [] [] [] 0 [] [] [] 0
 unfolding operand_count
@@ -147,78 +131,4 @@ store_given es users unread before newly n cache fresh work operands sets pairs 
       few = omega (arith, s.few);
       counted = s.counted ∙ sym (count_given sets pairs es base);
       operands_few = s.operands_few;
-    }
-
--- a name was bound
-pub store_bound : (es : List Entry) (users : List Row) (unread before : List Bool) (newly : List Name) (n : ℕ) (cache fresh : List Value) (work : List ℕ) (operands : ℕ)
-    (name : ℕ) (expr : Expr) (names : List ℕ) (users' : List Row) (before' : List Bool) (newly' : List Name) (n' : ℕ) (work' : List ℕ) (operands' : ℕ)
-    → IsStore es users unread before newly n cache fresh work operands
-    → Bindable es name expr names → is_within (tree expr) (length names) ≡ true → Mirrors (with_binding name expr names es) users'
-    → operands' ≡ operand_count (with_binding name expr names es) → operands' ≤ 1000000
-    → length before' ≡ length es → length newly' ≡ length es → n' ≤ length es → length work' ≡ length es
-    → IsStore (with_binding name expr names es) users' (after_marking (with_binding name expr names es) (name ∷ []) unread) before' newly' n' cache fresh work' operands'
-store_bound es users unread before newly n cache fresh work operands name expr names users' before' newly' n' work' operands' s b places mirrors count few w l m k =
-    let ranks = bound_ranks es s.ranks.0 s.ranks.1 name expr names b in
-    let long : length (with_binding name expr names es) ≡ length es = length-set es name (bound_to expr names (entry_of es name)) in
-    record {
-      ranks = ranks;
-      sound = sound_bound es s.sound name expr names b.known b.writable b.kind places b.operands_known;
-      settled = settled_bound es ranks.0 name (bound_to expr names (entry_of es name)) ranks.1 unread cache s.settled;
-      mirrors = mirrors;
-      before_length = w ∙ sym long;
-      newly_length = l ∙ sym long;
-      newly_few = omega arith;
-      fresh_length = s.fresh_length ∙ sym long;
-      work_length = k ∙ sym long;
-      few = omega (arith, s.few);
-      counted = count;
-      operands_few = few;
-    }
-
--- a name keeps its value for its own
-pub store_unbound : (es : List Entry) (users : List Row) (unread before : List Bool) (newly : List Name) (n : ℕ) (cache fresh : List Value) (work : List ℕ) (operands : ℕ)
-    (name : ℕ) (users' : List Row) (unread' : List Bool) (cache' : List Value) (work' : List ℕ) (operands' : ℕ)
-    → IsStore es users unread before newly n cache fresh work operands → unknown_in es name ≡ false
-    → Mirrors (set es name (kept_entry es name)) users' → IsSettled (set es name (kept_entry es name)) unread' cache'
-    → operands' + length (uses es name) ≡ operands → length work' ≡ length es
-    → IsStore (set es name (kept_entry es name)) users' unread' before newly n cache' fresh work' operands'
-store_unbound es users unread before newly n cache fresh work operands name users' unread' cache' work' operands' s known mirrors settled count k =
-    let long : length (set es name (kept_entry es name)) ≡ length es = length-set es name (kept_entry es name) in
-    record {
-      ranks = (s.ranks.0, ranked_plain es s.ranks.0 s.ranks.1 name (kept_entry es name) refl);
-      sound = sound_unbound es s.ranks.0 s.ranks.1 s.sound name known;
-      settled = settled;
-      mirrors = mirrors;
-      before_length = s.before_length ∙ sym long;
-      newly_length = s.newly_length ∙ sym long;
-      newly_few = omega (arith, s.newly_few);
-      fresh_length = s.fresh_length ∙ sym long;
-      work_length = k ∙ sym long;
-      few = omega (arith, s.few);
-      counted = omega (arith, s.counted, operand_count-set es name (kept_entry es name) (known_within es name known));
-      operands_few = omega (arith, s.operands_few);
-    }
-
--- names were forgotten
-pub store_forgotten : (es : List Entry) (users : List Row) (unread before : List Bool) (newly : List Name) (n : ℕ) (cache fresh : List Value) (work : List ℕ) (operands : ℕ)
-    (names : List ℕ) (users' : List Row) (operands' : ℕ)
-    → IsStore es users unread before newly n cache fresh work operands → IsFree names es
-    → Mirrors (forget_all names es) users' → operands' ≡ operand_count (forget_all names es) → operands' ≤ operands
-    → IsStore (forget_all names es) users' (clear_all names unread) before newly n (reset names cache) fresh work operands'
-store_forgotten es users unread before newly n cache fresh work operands names users' operands' s free mirrors count less =
-    let long : length (forget_all names es) ≡ length es = length-forget names es in
-    record {
-      ranks = (s.ranks.0, ranked_forget names es s.ranks.0 s.ranks.1);
-      sound = sound_forget names es s.sound free;
-      settled = subst (λ (c : List Value). IsSettled (forget_all names es) (clear_all names unread) c) (reset_same names cache)
-          (settled_forget names es s.ranks.0 s.ranks.1 free unread cache s.settled);
-      mirrors = mirrors;
-      before_length = s.before_length ∙ sym long;
-      newly_length = s.newly_length ∙ sym long;
-      newly_few = omega (arith, s.newly_few);
-      fresh_length = s.fresh_length ∙ sym long;
-      work_length = s.work_length ∙ sym long;
-      few = omega (arith, s.few);
-      counted = count;
-      operands_few = omega (arith, s.operands_few);
     }

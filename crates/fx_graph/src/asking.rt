@@ -3,11 +3,11 @@
 ghost use Rattle.std.specs.Prelude.{◌≡◌};
 ghost use Rattle.fx_properties.specs.Uses.{is_binding, is_gone, bound_in, unknown_in};
 ghost use Rattle.fx_properties.specs.Unread.{marked};
-ghost use Rattle.fx_properties.specs.Refusals.{read_only_in, unknown_name};
+ghost use Rattle.fx_properties.specs.Refusals.{read_only_in};
 ghost use Rattle.fx_graph.specs.Store.{origin_in, origin_if};
 
 use fx_base::Name;
-use fx_properties::{Definition, Entry, GraphError, Origin};
+use fx_properties::{Definition, Entry, Origin};
 
 fn is_binding(definition: &Definition) -> bool
     ensures { result ≡ is_binding definition.now }
@@ -83,16 +83,4 @@ fn known_origin(entry: &Entry) -> Option<Origin>
         return None;
     }
     Some(entry.origin)
-}
-
-/// The refusal of the first unknown one of these names.
-pub fn unknown_among(entries: &[Entry], names: &[Name]) -> Option<GraphError>
-    ensures { result ≡ unknown_name entries.now names.now }
-{
-    for name in names {
-        if is_unknown(entries, *name) {
-            return Some(GraphError::Unknown(*name));
-        }
-    }
-    None
 }

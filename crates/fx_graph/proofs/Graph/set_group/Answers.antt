@@ -1,4 +1,4 @@
-use Rattle.std.proofs.Common.{◌≡◌, List, Some, None, refl, sym, ap, ◌∙◌, inl}
+use Rattle.std.proofs.Common.{List, refl, sym, ap, ◌∙◌, inl}
 use Rattle.std.proofs.lemmas.Result.{err_from_is_err_and}
 use Rattle.fx_properties.specs.declared.entries.Entry.{Entry}
 use Rattle.fx_properties.specs.Refusals.{set_refusal}

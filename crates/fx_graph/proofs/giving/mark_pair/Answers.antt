@@ -1,4 +1,4 @@
-use Rattle.std.proofs.Common.{◌≡◌, [], ◌∷◌, cond, ◌∙◌, ap, Bool, ℕ, List, ◌<◌, length, arith}
+use Rattle.std.proofs.Common.{◌≡◌, [], ◌∷◌, cond, ◌∙◌, ap, Bool, ◌<◌, length, arith}
 use Rattle.fx_properties.specs.Eager.{eager}
 use Rattle.fx_properties.specs.Changes.{changed}
 use Rattle.fx_properties.proofs.MarkSteps.{marks_none, marks_more}

@@ -1,4 +1,4 @@
-use Rattle.std.proofs.Common.{◌≡◌, ◌∙◌, length, arith}
+use Rattle.std.proofs.Common.{◌∙◌, arith}
 use Rattle.fx_graph.proofs.NewlyLemmas.{newly_listed}
 use Rattle.fx_graph.proofs.marking.finish.Goals as goal
 

@@ -1,4 +1,4 @@
-use Rattle.std.proofs.Common.{◌<◌, ◌≤◌, ◌+◌, ◌&&◌, ℕ, Bool, not, cond, length, arith}
+use Rattle.std.proofs.Common.{◌<◌, ◌&&◌, ℕ, Bool, not, length, arith}
 use Rattle.fx_properties.specs.Unread.{marked}
 use Rattle.fx_graph.proofs.NewlyLemmas.{lists_more, cond_most}
 use Rattle.fx_graph.proofs.newly.list_newly.Goals as goal

@@ -1,9 +1,8 @@
-use Rattle.std.proofs.Common.{◌≡◌, ◌<◌, ◌+◌, ◌-◌, ℕ, length, slice_index, refl, sym, ap, subst, ◌∙◌, arith}
+use Rattle.std.proofs.Common.{◌-◌, slice_index, refl, ap, ◌∙◌, arith}
 use Rattle.std.proofs.lemmas.Result.{err_from_is_err_and}
 use Rattle.fx_base.specs.declared.work.Work.{Work}
-use Rattle.fx_properties.specs.Uses.{Ranked}
 use Rattle.fx_properties.proofs.Flags.{marked_within}
-use Rattle.fx_properties.proofs.Reading.{Settles, settles_start, settles_end, read_value, measure, measure-push, measure-pop}
+use Rattle.fx_properties.proofs.Reading.{settles_start, read_value, measure-push}
 use Rattle.fx_graph.proofs.ReadLemmas.{reads_from, room_above, push, pop, evaluable, cost_failed, cost_ended, pop_smaller, ended}
 use Rattle.fx_graph.proofs.reading.settle_unread.Goals as goal
 

@@ -1,0 +1,10 @@
+pub mod Comments
+pub mod Places
+pub mod Scans
+pub mod Slices
+pub mod Blocks
+pub mod Bodies
+pub mod Turns
+pub mod Shown
+pub mod Answered
+pub mod OneReading

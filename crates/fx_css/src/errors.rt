@@ -1,0 +1,52 @@
+//! Why a sheet isn't read. What is no rule or no declaration is never a reason: it is dropped with a warning.
+//! Readers answer it, and loading names the file.
+ghost use Rattle.std.specs.Prelude.{◌≡◌};
+ghost use Rattle.fx_css.specs.declared.errors.SheetError.TheVariants.{Limit};
+
+use fx_base::Place;
+use std::alloc::{AllocError, AllocFailed};
+use thiserror::Error;
+
+/// Why bytes are no sheet that can be held. Places are line and column, both from 1, counted in characters.
+#[derive(Debug, Drop, Error, PartialEq)]
+pub enum SheetError {
+    /// The bytes aren't UTF-8; so many bytes before the first bad one are.
+    #[error("not UTF-8 behind {0} bytes")]
+    NotUtf8(usize),
+    /// The first rule, selector, compound, layer or declaration past its limit. What is dropped doesn't count.
+    #[error("past a limit at {0}:{1}")]
+    Limit(u32, u32),
+    #[error("out of memory")]
+    Memory,
+}
+
+impl SheetError {
+    /// A part past its limit begins at this place.
+    pub fn past(place: Place) -> SheetError
+        ensures { result ≡ Limit place.line place.column }
+    {
+        SheetError::Limit(place.line, place.column)
+    }
+}
+
+impl From<AllocError> for SheetError {
+    ghost use Rattle.std.specs.Prelude.{◌≡◌};
+    ghost use Rattle.fx_css.specs.declared.errors.SheetError.TheVariants.{Memory};
+
+    ghost from_gives = { λ _ e. e ≡ Memory };
+
+    fn from(_e: AllocError) -> SheetError {
+        SheetError::Memory
+    }
+}
+
+impl<T: Drop> From<AllocFailed<T>> for SheetError {
+    ghost use Rattle.std.specs.Prelude.{◌≡◌};
+    ghost use Rattle.fx_css.specs.declared.errors.SheetError.TheVariants.{Memory};
+
+    ghost from_gives = { λ _ e. e ≡ Memory };
+
+    fn from(_e: AllocFailed<T>) -> SheetError {
+        SheetError::Memory
+    }
+}

@@ -1,0 +1,26 @@
+#!/bin/bash
+# Counts the instructions that the tree of 4,096 nodes takes: for each node that is made, attached and dropped, for each move of a
+# subtree of some 64 nodes, and for each node of a walk in pre-order.
+# It builds crates/tree_bench with `rt run`, and needs valgrind.
+set -euo pipefail
+crate="$(cd "$(dirname "$0")/../crates/tree_bench" && pwd)"
+program="$crate/out/tree_bench"
+(cd "$crate" && rt run -- 1 0 0 >/dev/null 2>&1)
+counts="$(mktemp -d)"
+trap 'rm -r "$counts"' EXIT
+
+# the instructions of the whole program, with so many nodes below the topmost, moves and walks
+instructions() {
+    valgrind --tool=callgrind --callgrind-out-file="$counts/out" "$program" "$1" "$2" "$3" 2>"$counts/log" >/dev/null
+    sed -n 's/^summary: //p' "$counts/out"
+}
+
+one=$(instructions 0 0 0)
+built=$(instructions 4095 0 0)
+moved=$(instructions 4095 10000 0)
+walked=$(instructions 4095 0 10)
+awk -v one="$one" -v built="$built" -v moved="$moved" -v walked="$walked" 'BEGIN {
+    printf "made and dropped %.1f instructions a node\n", (built - one) / 4095
+    printf "moved            %.1f instructions a subtree\n", (moved - built) / 10000
+    printf "walked           %.1f instructions a node\n", (walked - built) / 10 / 4096
+}'

@@ -6,6 +6,7 @@ pub mod LawLemmas
 pub mod ListingLemmas
 pub mod MatchLemmas
 pub mod MemberLemmas
+pub mod MergedLemmas
 pub mod NamedLemmas
 pub mod NotedLemmas
 pub mod OrderLemmas

@@ -1,21 +1,21 @@
--- A hit is noted at the place behind all rules before its own.
-use Rattle.std.proofs.Common.{◌≡◌, ℕ, zero, suc, ◌+◌, Bool, true, false, cond, List, [], ◌∷◌, get_or, set, inl, inr, refl, sym, ◌∙◌, ap, arith}
-use Rattle.std.specs.Prelude.{insert}
-use Rattle.std.specs.List.{prefix_len}
-use Rattle.std.proofs.lemmas.Bool.{cases_Bool, false≢true}
+-- One more hit among the rules that were hit so far, which stand in their order.
+use Rattle.std.proofs.Common.{◌≡◌, ℕ, Bool, true, false, cond, ◌&&◌, ◌||◌, List, [], ◌∷◌, fold, ltb, eqb, refl, ◌∙◌, ap}
 use Rattle.fx_sheet.specs.declared.sheets.Candidate.{Candidate}
-use Rattle.fx_select.specs.Noted.{has_rule, is_before, is_same_rule, noted, raised}
+use Rattle.fx_select.specs.Merged.{is_same_rule, raised}
 
-count : Candidate → List Candidate → ℕ
-count hit xs = prefix_len (λ (one : Candidate). is_before one hit) xs
+-- by sheet, then by rule
+abbrev pub is_before : Candidate → Candidate → Bool
+is_before one other = ltb one.sheet other.sheet || (eqb one.sheet other.sheet && ltb one.rule other.rule)
 
-count-before : (hit one : Candidate) (xs : List Candidate) → is_before one hit ≡ true → count hit (one ∷ xs) ≡ 1 + count hit xs
-unfolding count
-count-before hit one xs test = ap (λ (b : Bool). cond b (1 + prefix_len (λ (c : Candidate). is_before c hit) xs) 0) test
+-- the rule of the hit stands at its place in the order, once, with the greater specificity
+unfoldable pub noted : Candidate → List Candidate → List Candidate
+noted hit [] = hit ∷ []
+noted hit (one ∷ more) =
+    cond (is_before one hit) (one ∷ noted hit more) (cond (is_same_rule one hit) (raised one hit ∷ more) (hit ∷ one ∷ more))
 
-count-behind : (hit one : Candidate) (xs : List Candidate) → is_before one hit ≡ false → count hit (one ∷ xs) ≡ 0
-unfolding count
-count-behind hit one xs test = ap (λ (b : Bool). cond b (1 + prefix_len (λ (c : Candidate). is_before c hit) xs) 0) test
+-- all hits one after another
+abbrev pub note_all : List Candidate → List Candidate
+note_all hits = fold (λ (found : List Candidate) (hit : Candidate). noted hit found) [] hits
 
 pub noted-before : (hit one : Candidate) (xs : List Candidate) → is_before one hit ≡ true → noted hit (one ∷ xs) ≡ one ∷ noted hit xs
 unfolding noted
@@ -39,34 +39,3 @@ noted-other hit one xs test same =
 pub noted-none : (hit : Candidate) → noted hit [] ≡ hit ∷ []
 unfolding noted
 noted-none hit = refl
-
-pub raised-at : (hit : Candidate) (xs : List Candidate) (n : ℕ) (x : Candidate) → n ≡ prefix_len (λ (one : Candidate). is_before one hit) xs
-    → has_rule xs n hit ≡ true → x ≡ get_or xs n x → set xs n (raised x hit) ≡ noted hit xs
-unfolding count
-raised-at hit [] n x place same read = absurd (false≢true same)
-raised-at hit (one ∷ xs) zero x place same read = elim (cases_Bool (is_before one hit)) [
-  | inl test ↦ let count : zero ≡ 1 + prefix_len (λ (c : Candidate). is_before c hit) xs = place ∙ count-before hit one xs test in absurd (omega arith)
-  | inr test ↦ ap (λ (c : Candidate). raised c hit ∷ xs) read ∙ sym (noted-same hit one xs test same)
-]
-raised-at hit (one ∷ xs) (suc m) x place same read = elim (cases_Bool (is_before one hit)) [
-  | inl test ↦
-      let next : suc m ≡ 1 + prefix_len (λ (c : Candidate). is_before c hit) xs = place ∙ count-before hit one xs test in
-      ap (λ (l : List Candidate). one ∷ l) (raised-at hit xs m x (omega arith) same read) ∙ sym (noted-before hit one xs test)
-  | inr test ↦ let none : suc m ≡ 0 = place ∙ count-behind hit one xs test in absurd (omega arith)
-]
-
-pub inserted-at : (hit : Candidate) (xs : List Candidate) (n : ℕ) → n ≡ prefix_len (λ (one : Candidate). is_before one hit) xs
-    → has_rule xs n hit ≡ false → insert xs n hit ≡ noted hit xs
-unfolding count
-inserted-at hit [] zero place other = sym (noted-none hit)
-inserted-at hit [] (suc m) place other = absurd (omega (arith, place))
-inserted-at hit (one ∷ xs) zero place other = elim (cases_Bool (is_before one hit)) [
-  | inl test ↦ let count : zero ≡ 1 + prefix_len (λ (c : Candidate). is_before c hit) xs = place ∙ count-before hit one xs test in absurd (omega arith)
-  | inr test ↦ sym (noted-other hit one xs test other)
-]
-inserted-at hit (one ∷ xs) (suc m) place other = elim (cases_Bool (is_before one hit)) [
-  | inl test ↦
-      let next : suc m ≡ 1 + prefix_len (λ (c : Candidate). is_before c hit) xs = place ∙ count-before hit one xs test in
-      ap (λ (l : List Candidate). one ∷ l) (inserted-at hit xs m (omega arith) other) ∙ sym (noted-before hit one xs test)
-  | inr test ↦ let none : suc m ≡ 0 = place ∙ count-behind hit one xs test in absurd (omega arith)
-]

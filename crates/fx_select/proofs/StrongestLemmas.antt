@@ -6,9 +6,9 @@ use Rattle.std.proofs.lemmas.List.{append-nil, map-append}
 use Rattle.std.proofs.lemmas.List.Elements.{filter-append}
 use Rattle.fx_sheet.specs.declared.sheets.Candidate.{Candidate}
 use Rattle.fx_select.specs.Hits.{candidate}
-use Rattle.fx_select.specs.Noted.{is_before, is_same_rule, noted, note_all, raised}
+use Rattle.fx_select.specs.Merged.{is_same_rule, raised}
 use Rattle.fx_select.specs.Strongest.{RuleAt, greater, greater_of, greatest, is_of_rule, strongest, weights_of}
-use Rattle.fx_select.proofs.NotedLemmas.{noted-before, noted-none, noted-other, noted-same}
+use Rattle.fx_select.proofs.NotedLemmas.{is_before, note_all, noted, noted-before, noted-none, noted-other, noted-same}
 use Rattle.fx_select.proofs.OrderLemmas.{Precedes, before-false, before-itself, before-true, same-before, same-behind, same-itself}
 
 Weight : Type 0
@@ -78,7 +78,7 @@ keep-some : (f : RuleAt → Option Candidate) (rule : RuleAt) (rest : List RuleA
     → filter_map f (rule ∷ rest) ≡ c ∷ filter_map f rest
 keep-some f rule rest c is = rw is refl
 
-agree : (f g : RuleAt → Option Candidate) (rules : List RuleAt) → ((rule : RuleAt) → Among rule rules → f rule ≡ g rule)
+pub agree : (f g : RuleAt → Option Candidate) (rules : List RuleAt) → ((rule : RuleAt) → Among rule rules → f rule ≡ g rule)
     → filter_map f rules ≡ filter_map g rules
 unfolding Among
 agree f g [] same = refl

@@ -4,8 +4,8 @@ pub mod Hits
 pub mod Keys
 pub mod Listing
 pub mod Matching
+pub mod Merged
 pub mod Named
-pub mod Noted
 pub mod Short
 pub mod Specificity
 pub mod Strongest

@@ -15,7 +15,7 @@ ghost use Rattle.fx_select.specs.Listing.{IsListing, Listing, listed, rule_entri
 use crate::hits::push_hits;
 use crate::lists::{NamedLists, SelectorAt};
 use crate::matching::node_at;
-use crate::strongest::strongest;
+use crate::strongest::{sort_hits, strongest};
 use fx_base::Text;
 use fx_kinds::{StyleFacts, name_of};
 use fx_sheet::{Candidate, Compound, Rule, Selector, SheetAt};
@@ -63,7 +63,8 @@ impl RuleIndex {
         requires short { AreShort sheets.now }
         ensures { IfOk result (λ found. found.items ≡ matched_of self.now sheets.now facts.now at) }
     {
-        let hits = self.hits(alloc, sheets, facts, at)?;
+        let mut hits = self.hits(alloc, sheets, facts, at)?;
+        sort_hits(&mut hits)?;
         strongest(alloc, hits.as_slice())
     }
 

@@ -1,57 +1,53 @@
 //! Hits by their rules: each rule once, in order, with the greatest specificity.
 //! The index gives them to the cascade.
-ghost use Rattle.std.specs.Prelude.{◌≡◌, ◌≤◌, ◌<◌, IsTrue, ◌↔◌, IfOk, OnOk, [], length, slice_get, true, fold};
-ghost use Rattle.std.specs.List.{prefix_len};
-ghost use Rattle.fx_select.specs.Noted.{has_rule, is_before, is_same_rule, note_all, noted, raised};
+ghost use Rattle.std.specs.Prelude.{◌≡◌, ◌++◌, ◌∷◌, List as Items, IfOk, OnOk};
+ghost use Rattle.std.specs.List.Sorted.{IsPermutation, IsSortedByKey, IsStableByKey};
+ghost use Rattle.fx_sheet.specs.declared.sheets.Candidate.{Candidate as Hit};
+ghost use Rattle.fx_select.specs.Merged.{compare_places, is_same_rule, merged, merged_of, place_of, raised};
 ghost use Rattle.fx_select.specs.Strongest.{greater, is_weaker};
 
 use fx_sheet::Candidate;
 use std::alloc::{AllocError, Global};
 
-/// The rules of the hits in order of sheet and rule, each once.
-pub fn strongest(alloc: Global, hits: &[Candidate]) -> Result<Vec<Candidate>, AllocError>
-    ensures { IfOk result (λ found. found.items ≡ note_all hits.now) }
+/// Puts the hits in the order of their sheets and rules, those of one rule as they stood.
+pub fn sort_hits(hits: &mut Vec<Candidate>) -> Result<(), AllocError>
+    ensures permutation { IsPermutation hits.old.items hits.new.items }
+    ensures stable { IsStableByKey place_of compare_places hits.old.items hits.new.items }
+    ensures sorted { OnOk result (IsSortedByKey place_of compare_places hits.new.items) }
 {
-    let mut found = Vec::new(alloc);
-    for hit in hits {
-        note(&mut found, *hit)?;
-    }
-    Ok(found)
-}
-
-fn note(found: &mut Vec<Candidate>, hit: Candidate) -> Result<(), AllocError>
-    ensures { OnOk result (found.new.items ≡ noted hit found.old.items) }
-{
-    let place = place_of(found.as_slice(), hit);
-    if has_rule(found.as_slice(), place, hit) {
-        found[place] = raised(found[place], hit);
-        return Ok(());
-    }
-    found.insert(place, hit)?;
+    hits.sort_by_key(|hit| (hit.sheet, hit.rule))?;
     Ok(())
 }
 
-/// The place of the hit's rule: how many rules stand before it.
-fn place_of(found: &[Candidate], hit: Candidate) -> usize
-    ensures place { result ≡ prefix_len (λ one. is_before one hit) found.now }
-    ensures within { result ≤ length found.now }
+/// The hits with those of one rule, which stand behind one another, made one.
+pub fn strongest(alloc: Global, hits: &[Candidate]) -> Result<Vec<Candidate>, AllocError>
+    ensures { IfOk result (λ found. found.items ≡ merged_of hits.now) }
 {
-    found.iter().take_while(|one| is_before(**one, hit)).count()
-}
-
-fn has_rule(found: &[Candidate], place: usize, hit: Candidate) -> bool
-    ensures { result ≡ has_rule found.now place hit }
-{
-    match found.get(place) {
-        Some(one) => is_same_rule(*one, hit),
-        None => false,
+    let mut found = Vec::new(alloc);
+    let Some((first, more)) = hits.split_first() else {
+        return Ok(found);
+    };
+    let mut current = *first;
+    for hit in more {
+        current = merge(&mut found, current, *hit)?;
     }
+    found.push(current)?;
+    Ok(found)
 }
 
-fn is_before(one: Candidate, other: Candidate) -> bool
-    ensures { result ≡ is_before one other }
+/// The current rule raised by a hit of its own; or that of the hit, and the current one is put behind those found.
+fn merge(
+    found: &mut Vec<Candidate>,
+    current: Candidate,
+    hit: Candidate,
+) -> Result<Candidate, AllocError>
+    ensures { IfOk result (λ next. (more : Items Hit) → found.new.items ++ merged next more ≡ found.old.items ++ merged current (hit ∷ more)) }
 {
-    one.sheet < other.sheet || (one.sheet == other.sheet && one.rule < other.rule)
+    if is_same_rule(current, hit) {
+        return Ok(raised(current, hit));
+    }
+    found.push(current)?;
+    Ok(hit)
 }
 
 fn is_same_rule(one: Candidate, other: Candidate) -> bool

@@ -1,7 +1,7 @@
--- the hits so far are noted
-use Rattle.std.proofs.Common.{◌≡◌, take}
-use Rattle.fx_select.specs.Noted.{note_all}
+-- the rest completes what was found so far
+use Rattle.std.proofs.Common.{◌≡◌, ◌++◌, drop}
+use Rattle.fx_select.specs.Merged.{merged, merged_of}
 use Rattle.fx_select.proofs.strongest.strongest.Given as goal
 
 abbrev pub invariant-loop-hit : goal.invariant-loop-hit
-invariant-loop-hit l = l.found.items ≡ note_all (take l.hit-index l.hits)
+invariant-loop-hit l = l.found.items ++ merged l.current (drop l.hit-index l.more) ≡ merged_of l.hits

@@ -1,5 +1,5 @@
-//! Selectors against a tree of six nodes. What is expected comes from the reference player, but for the specificities,
-//! which are counted by hand.
+//! Selectors against trees of nodes. What is expected comes from the reference player, but for the specificities of the tree
+//! of six nodes, which are counted by hand.
 ghost use Rattle.std.specs.Prelude.{IsTrue, ◌≤◌};
 ghost use Rattle.fx_select.specs.Chains.{ParentsStandBefore};
 ghost use Rattle.fx_select.specs.Short.{AreShort, AreShortRules, AreShortSelectors};
@@ -12,6 +12,9 @@ use fx_sheet::{Candidate, Combinator, Compound, Rule, Selector, Sheet, SheetAt, 
 use std::alloc::Global;
 use std::process::Abort;
 use std::test::Fail;
+use trees::TREES;
+
+mod trees;
 
 /// A line a node: the places of its parent, of a sheet that it lists and of its inline sheet, and what it has, as a
 /// compound is written below.
@@ -60,8 +63,8 @@ const SHEETS: &str = ".label/Label,Pane .label/#l1,Label|:hover/.b
 Label
 -";
 
-/// For each node the rules that match it: the places of sheet and rule, and the specificity.
-const MATCHED: &str = "
+/// For each node the rules that match it, `-` for none: the places of sheet and rule, and the specificity.
+const MATCHED: &str = "-
 0 3 0 1 0;
 0 3 0 1 0;
 0 0 0 1 0;0 1 0 1 1;0 2 1 0 0;1 0 0 2 0;3 0 0 0 0;
@@ -141,9 +144,9 @@ fn node(alloc: Global, line: &str) -> Result<StyleFacts, Fail> {
     })
 }
 
-fn nodes(alloc: Global) -> Result<Vec<StyleFacts>, Fail> {
+fn nodes(alloc: Global, text: &str) -> Result<Vec<StyleFacts>, Fail> {
     let mut facts = Vec::new(alloc);
-    for line in NODES.lines() {
+    for line in text.lines() {
         facts.push(node(alloc, line)?)?;
     }
     Ok(facts)
@@ -162,9 +165,9 @@ fn rule(alloc: Global, text: &str) -> Result<Rule, Fail> {
     })
 }
 
-fn sheets(alloc: Global) -> Result<Vec<SheetAt>, Fail> {
+fn sheets(alloc: Global, text: &str) -> Result<Vec<SheetAt>, Fail> {
     let mut all = Vec::new(alloc);
-    for line in SHEETS.lines() {
+    for line in text.lines() {
         let mut rules = Vec::new(alloc);
         for text in line.split('/') {
             rules.push(rule(alloc, text)?)?;
@@ -181,6 +184,9 @@ fn sheets(alloc: Global) -> Result<Vec<SheetAt>, Fail> {
 }
 
 fn shown(alloc: Global, found: &[Candidate]) -> Result<String, Fail> {
+    if found.is_empty() {
+        return Ok(String::from_str(alloc, "-")?);
+    }
     let mut text = String::new(alloc);
     for candidate in found {
         let Candidate {
@@ -270,17 +276,51 @@ fn assert_matches(rt: &impl Abort, selector: &Selector, facts: &[StyleFacts], ex
     }
 }
 
+fn assert_selectors(
+    rt: &impl Abort,
+    alloc: Global,
+    facts: &[StyleFacts],
+    lines: &str,
+) -> Result<(), Fail>
+    requires { ParentsStandBefore facts.now }
+{
+    for line in lines.lines() {
+        let (text, expected) = line.split_once(';').ok_or("nothing expected")?;
+        assert_matches(rt, &selector(alloc, text)?, facts, expected);
+    }
+    Ok(())
+}
+
+fn assert_rules(
+    rt: &impl Abort,
+    alloc: Global,
+    facts: &[StyleFacts],
+    sheets: &[SheetAt],
+    lines: &str,
+) -> Result<(), Fail>
+    requires before { ParentsStandBefore facts.now }
+    requires short { AreShort sheets.now }
+{
+    let index = RuleIndex::build(alloc, sheets)?;
+    for (at, expected) in lines.lines().enumerate() {
+        assert!(rt; at < facts.len());
+        let found = index.matched(alloc, sheets, facts, at)?;
+        assert_eq!(rt;
+            shown(alloc, found.as_slice())?.as_str(),
+            expected,
+            "at {at}"
+        );
+    }
+    Ok(())
+}
+
 #[test]
 fn matches_as_the_reference(rt: HostRuntime) -> Result<(), Fail> {
     let alloc = rt.alloc();
-    let facts = nodes(alloc)?;
+    let facts = nodes(alloc, NODES)?;
     let facts = facts.as_slice();
     assert!(rt; stand_before(facts));
-    for line in SELECTORS.lines() {
-        let (text, expected) = line.split_once(';').ok_or("nothing expected")?;
-        assert_matches(&rt, &selector(alloc, text)?, facts, expected);
-    }
-    Ok(())
+    assert_selectors(&rt, alloc, facts, SELECTORS)
 }
 
 #[test]
@@ -294,22 +334,35 @@ fn counts_parts(rt: HostRuntime) -> Result<(), Fail> {
 #[test]
 fn finds_rules_as_the_reference(rt: HostRuntime) -> Result<(), Fail> {
     let alloc = rt.alloc();
-    let facts = nodes(alloc)?;
+    let facts = nodes(alloc, NODES)?;
     let facts = facts.as_slice();
     assert!(rt; stand_before(facts));
-    let sheets = sheets(alloc)?;
+    let sheets = sheets(alloc, SHEETS)?;
     let sheets = sheets.as_slice();
     assert!(rt; are_short(sheets));
-    let index = RuleIndex::build(alloc, sheets)?;
-    for (at, expected) in MATCHED.lines().enumerate() {
-        assert!(rt; at < facts.len());
-        let found = index.matched(alloc, sheets, facts, at)?;
-        assert_eq!(rt;
-            shown(alloc, found.as_slice())?.as_str(),
-            expected,
-            "at {at}"
-        );
-    }
+    assert_rules(&rt, alloc, facts, sheets, MATCHED)?;
     all_matched();
+    Ok(())
+}
+
+fn assert_tree(rt: &impl Abort, alloc: Global, tree: &str) -> Result<(), Fail> {
+    let (node_lines, rest) = tree.split_once("\n=\n").ok_or("no selectors")?;
+    let (selector_lines, rest) = rest.split_once("\n=\n").ok_or("no sheets")?;
+    let (sheet_lines, rule_lines) = rest.split_once("\n=\n").ok_or("no rules")?;
+    let facts = nodes(alloc, node_lines)?;
+    let facts = facts.as_slice();
+    assert!(rt; stand_before(facts));
+    assert_selectors(rt, alloc, facts, selector_lines)?;
+    let sheets = sheets(alloc, sheet_lines)?;
+    let sheets = sheets.as_slice();
+    assert!(rt; are_short(sheets));
+    assert_rules(rt, alloc, facts, sheets, rule_lines)
+}
+
+#[test]
+fn matches_trees_as_the_reference(rt: HostRuntime) -> Result<(), Fail> {
+    for tree in TREES.split("\n\n") {
+        assert_tree(&rt, rt.alloc(), tree)?;
+    }
     Ok(())
 }

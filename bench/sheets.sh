@@ -1,0 +1,34 @@
+#!/bin/bash
+# Counts the instructions that style sheets take: for each byte of a sheet of 4,096 rules that is read and dropped, and for each
+# search of the rules that match a node of three classes. Each class is named by so many rules, which are the candidates; three
+# of four match. A search grows with the candidates, and not with the rules of the sheet.
+# It builds crates/sheets_bench with `rt run`, and needs valgrind.
+set -euo pipefail
+crate="$(cd "$(dirname "$0")/../crates/sheets_bench" && pwd)"
+program="$crate/out/sheets_bench"
+(cd "$crate" && rt run -- 8 4 1 2 >/dev/null 2>&1)
+counts="$(mktemp -d)"
+trap 'rm -r "$counts"' EXIT
+
+# the instructions of the whole program, with so many rules, rules that share a class, readings and searches
+instructions() {
+    valgrind --tool=callgrind --callgrind-out-file="$counts/out" "$program" "$1" "$2" "$3" "$4" 2>"$counts/log" >"$counts/told"
+    sed -n 's/^summary: //p' "$counts/out"
+}
+
+written=$(instructions 4096 4 0 0)
+read=$(instructions 4096 4 1 0)
+bytes=$(sed 's/ .*//' "$counts/told")
+awk -v written="$written" -v read="$read" -v bytes="$bytes" 'BEGIN {
+    printf "read and dropped %.1f instructions a byte (%d bytes)\n", (read - written) / bytes, bytes
+}'
+
+for sizes in "1024 4" "4096 4" "1024 64" "4096 64" "4096 1024"; do
+    set -- $sizes
+    few=$(instructions "$1" "$2" 0 10)
+    many=$(instructions "$1" "$2" 0 60)
+    awk -v rules="$1" -v sharing="$2" -v few="$few" -v many="$many" 'BEGIN {
+        each = (many - few) / 50
+        printf "searched %4d candidates of %d rules: %.0f instructions, %.0f a candidate\n", 3 * sharing, rules, each, each / 3 / sharing
+    }'
+done

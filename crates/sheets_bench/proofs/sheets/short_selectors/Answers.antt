@@ -1,0 +1,17 @@
+use Rattle.std.proofs.Common.{◌≤◌, refl, sym, subst}
+use Rattle.std.specs.Prelude.{IsTrue}
+use Rattle.std.proofs.lemmas.List.{take_all}
+use Rattle.std.proofs.lemmas.List.Elements.{All-more}
+use Rattle.fx_sheet.specs.declared.selectors.Selector.{Selector}
+use Rattle.fx_select.specs.Specificity.{part_count}
+use Rattle.fx_select.specs.Short.{AreShortSelectors}
+use Rattle.sheets_bench.proofs.sheets.short_selectors.Goals as goal
+
+pub loop-selector-preserved : goal.loop-selector-preserved
+loop-selector-preserved c =
+    let P : Selector → Type 0 = λ one. part_count one ≤ 4194304 in
+    let short : P c.selector-item.result = c.is_short.ensures (subst IsTrue (sym c.if-not-is_short.false) refl) in
+    All-more P c.args.selectors.now c.loop-selector.selector-index c.selector-item.result c.loop-selector-test.true c.loop-selector.invariant (subst P c.selector-item.is short)
+
+pub returns : goal.returns
+returns c = λ _. subst AreShortSelectors (take_all c.loop-selector.selector-index c.args.selectors.now c.loop-selector-test.false) c.loop-selector.invariant

@@ -1,0 +1,90 @@
+//! Writes a sheet of many rules, reads it, makes an index of its rules and asks that for the rules of one node, and prints a
+//! checksum of what was read and found. A script counts its instructions; no other crate stands on this one.
+#![tactic(auto)]
+
+mod nodes;
+mod sheets;
+
+use anyhow::bail;
+use fx_kinds::StyleFacts;
+use fx_select::RuleIndex;
+use fx_sheet::SheetAt;
+use nodes::{nodes, stand_before};
+use sheets::{are_short, read, sheet_text};
+use std::alloc::Global;
+use std::env;
+
+/// How much is done, and of what.
+#[derive(Clone, Copy)]
+struct Work {
+    rules: usize,
+    /// How many rules name the same class.
+    sharing: usize,
+    reads: usize,
+    searches: usize,
+}
+
+fn main(rt: HostRuntime) -> anyhow::Result<()> {
+    let mut words = env::args(&rt)?;
+    let _program = words.next();
+    let (Some(rules), Some(sharing), Some(reads), Some(searches)) = (
+        words.next(),
+        words.next(),
+        words.next(),
+        words.next(),
+    ) else {
+        bail!("usage: sheets_bench RULES SHARING READS SEARCHES");
+    };
+    let work = Work {
+        rules: rules.as_str().parse::<usize>()?,
+        sharing: sharing.as_str().parse::<usize>()?,
+        reads: reads.as_str().parse::<usize>()?,
+        searches: searches.as_str().parse::<usize>()?,
+    };
+    let (bytes, read, found) = run(rt.alloc(), work)?;
+    println!(rt; "{bytes} bytes, {read} declarations read, {found} rules found")?;
+    Ok(())
+}
+
+/// The bytes of the sheet, the declarations that were read and the rules that were found.
+fn run(alloc: Global, work: Work) -> anyhow::Result<(usize, usize, usize)> {
+    let text = sheet_text(alloc, work.rules, work.sharing)?;
+    let mut declarations = 0usize;
+    for _ in 0..work.reads {
+        let sheet = read(alloc, text.as_str())?;
+        for rule in sheet.sheet.rules.as_slice() {
+            declarations = declarations.wrapping_add(rule.declarations.as_slice().len());
+        }
+    }
+    let found = search(alloc, text.as_str(), work.searches)?;
+    Ok((text.len(), declarations, found))
+}
+
+/// How many rules were found in so many searches.
+fn search(alloc: Global, text: &str, searches: usize) -> anyhow::Result<usize> {
+    if searches == 0 {
+        return Ok(0);
+    }
+    let mut sheets = Vec::new(alloc);
+    sheets.push(read(alloc, text)?)?;
+    let facts = nodes(alloc)?;
+    search_in(alloc, sheets.as_slice(), facts.as_slice(), searches)
+}
+
+fn search_in(
+    alloc: Global,
+    sheets: &[SheetAt],
+    facts: &[StyleFacts],
+    searches: usize,
+) -> anyhow::Result<usize> {
+    if !are_short(sheets) || !stand_before(facts) || facts.is_empty() {
+        bail!("the sheet or the nodes are out of bounds");
+    }
+    let index = RuleIndex::build(alloc, sheets)?;
+    let mut found = 0usize;
+    for _ in 0..searches {
+        let matched = index.matched(alloc, sheets, facts, facts.len() - 1)?;
+        found = found.wrapping_add(matched.len());
+    }
+    Ok(found)
+}

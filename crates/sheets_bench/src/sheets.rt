@@ -1,0 +1,104 @@
+//! A sheet of rules of four forms, written and read.
+ghost use Rattle.std.specs.Prelude.{IsTrue, ◌≤◌};
+ghost use Rattle.fx_select.specs.Short.{AreShort, AreShortRules, AreShortSelectors};
+ghost use Rattle.fx_select.specs.Specificity.{part_count};
+
+use anyhow::anyhow;
+use fx_css::read_sheet;
+use fx_sheet::{Rule, Selector, SheetAt, SheetOrigin};
+use std::alloc::{AllocError, Global};
+
+/// The text of so many rules, of which so many name the same class.
+pub fn sheet_text(alloc: Global, rules: usize, sharing: usize) -> Result<String, AllocError> {
+    let mut text = String::new(alloc);
+    for rule in 0..rules {
+        let class = if sharing == 0 { rule } else { rule / sharing };
+        text.push_str(heading(alloc, rule, class)?.as_str())?;
+        text.push_str(body(rule))?;
+    }
+    Ok(text)
+}
+
+/// The selectors of a rule: ids, classes, types and pseudo-classes.
+fn heading(alloc: Global, rule: usize, class: usize) -> Result<String, AllocError> {
+    match rule % 4 {
+        0 => format!(in alloc; ".c{class}.wide, #id{rule}:hover > .label"),
+        1 => format!(in alloc; "Pane > .c{class}"),
+        2 => format!(in alloc; ".root .c{class}, .d{rule} Label:focused"),
+        _ => format!(in alloc; "Button.c{class}, Kind{rule}"),
+    }
+}
+
+/// The declarations of a rule.
+fn body(rule: usize) -> &'static str {
+    match rule % 3 {
+        0 => {
+            " {\n    -fx-background-color: #1040a0, navy;\n    -fx-padding: 1 2 3 4;\n    -fx-spacing: 12;\n}\n"
+        }
+        1 => {
+            " {\n    -fx-text-fill: rgb(10, 20, 30);\n    -fx-font-size: 14;\n    -fx-alignment: center-left;\n}\n"
+        }
+        _ => {
+            " { -fx-pref-width: 120; -fx-border-width: 1, 2 3 4 5; -accent: #fff; visibility: hidden; }\n"
+        }
+    }
+}
+
+pub fn read(alloc: Global, text: &str) -> anyhow::Result<SheetAt> {
+    if text.len() > 4194304 {
+        return Err(anyhow!("the sheet is too long"));
+    }
+    Ok(SheetAt {
+        sheet: read_sheet(alloc, text.as_bytes(), 0)?,
+        origin: SheetOrigin::Scene,
+    })
+}
+
+fn is_short(selector: &Selector) -> bool
+    ensures { IsTrue result → part_count selector.now ≤ 4194304 }
+{
+    let mut count = 0usize;
+    for compound in selector.compounds.as_slice() {
+        let classes = compound.classes.as_slice().len();
+        let ids = compound.ids.as_slice().len();
+        let pseudos = compound.pseudos.as_slice().len();
+        if count > 1000 || classes > 1000 || ids > 1000 || pseudos > 1000 {
+            return false;
+        }
+        count += classes + ids + pseudos + 1;
+    }
+    true
+}
+
+fn short_selectors(selectors: &[Selector]) -> bool
+    ensures { IsTrue result → AreShortSelectors selectors.now }
+{
+    for selector in selectors {
+        if !is_short(selector) {
+            return false;
+        }
+    }
+    true
+}
+
+fn short_rules(rules: &[Rule]) -> bool
+    ensures { IsTrue result → AreShortRules rules.now }
+{
+    for rule in rules {
+        if !short_selectors(rule.selectors.as_slice()) {
+            return false;
+        }
+    }
+    true
+}
+
+pub fn are_short(sheets: &[SheetAt]) -> bool
+    ensures { IsTrue result → AreShort sheets.now }
+{
+    for sheet in sheets {
+        if !short_rules(sheet.sheet.rules.as_slice()) {
+            return false;
+        }
+    }
+    true
+}

@@ -1,6 +1,6 @@
 //! Compounds: a type, classes, ids and pseudo-classes with no white between them (Selectors Level 3).
 //! Selectors are made of them.
-ghost use Rattle.std.specs.Prelude.{◌≡◌, ◌≤◌, IfOk, OnOk, length, true, [], ◌∷◌};
+ghost use Rattle.std.specs.Prelude.{◌≡◌, ◌≤◌, ◌++◌, IfOk, OnOk, length, true, [], ◌∷◌};
 ghost use Rattle.std.specs.List.{prefix_len};
 ghost use Rattle.std.specs.Option.{option_map};
 ghost use Rattle.fx_look.specs.Decimals.{front, behind};
@@ -36,13 +36,24 @@ impl Names {
         ensures { OnOk result (name_lists self.new ≡ with_names (name_lists self.old) ((record { sign = sign; name = name }) ∷ [])) }
     {
         match sign {
-            '.' => self.classes.push(name)?,
-            '#' => self.ids.push(name)?,
-            ':' => self.pseudos.push(name)?,
+            '.' => push_name(&mut self.classes, name)?,
+            '#' => push_name(&mut self.ids, name)?,
+            ':' => push_name(&mut self.pseudos, name)?,
             _ => {}
         }
         Ok(())
     }
+}
+
+/// Puts a name behind the others. The first is given room for itself alone, since few compounds have more.
+fn push_name(names: &mut Vec<Text>, name: Text) -> Result<(), AllocError>
+    ensures { OnOk result (names.new.items ≡ names.old.items ++ name ∷ []) }
+{
+    if names.is_empty() {
+        names.reserve_exact(1)?;
+    }
+    names.push(name)?;
+    Ok(())
 }
 
 /// The compound that the text spells, behind a combinator or none.

@@ -52,7 +52,7 @@ fn read_selector(alloc: Global, text: &[char]) -> Result<Option<Selector>, Alloc
     let Some(first) = read_compound(alloc, None, word(text))? else {
         return Ok(None);
     };
-    let mut compounds = Vec::new(alloc);
+    let mut compounds = Vec::with_capacity(alloc, 1)?;
     compounds.push(first)?;
     let Some(compounds) = read_links(alloc, compounds, behind_word(text))? else {
         return Ok(None);

@@ -97,17 +97,20 @@ fn is_letter(c: char) -> bool
     matches!(c, 'A'..='Z' | 'a'..='z' | '_')
 }
 
+/// The letters that most names are made of are tried first.
 fn is_later(c: char) -> bool
     ensures { result ≡ is_later c }
 {
-    is_letter(c) || matches!(c, '0'..='9' | '-')
+    matches!(c, 'a'..='z') || matches!(c, '-' | 'A'..='Z' | '0'..='9' | '_')
 }
 
 /// The text in UTF-8.
 pub fn text_of(alloc: Global, text: &[char]) -> Result<String, AllocError>
     ensures { IfOk result (λ s. string_bytes s ≡ utf8 text.now) }
 {
-    text.iter().copied().collect(alloc)
+    let mut written = String::with_capacity(alloc, text.len())?;
+    written.extend(text.iter().copied())?;
+    Ok(written)
 }
 
 /// The text as a name, if it is an identifier.

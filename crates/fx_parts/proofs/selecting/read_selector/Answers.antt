@@ -10,10 +10,10 @@ read_links-requires c = stops_at not_gap c.args.text.now c.behind_word.result.no
 pub returns-in_default-2 : goal.returns-in_default-2
 returns-in_default-2 c =
     selector_unread c.args.text.now c.word.result.now c.behind_word.result.now c.in-Some.first _ _ c.word.ensures c.behind_word.ensures (sym c.in-Some.is ∙ c.in_ok-first.ensures)
-    (c.in_ok-push.ensures.items ∙ ap (λ y. y ++ (c.in-Some.first ∷ [])) c.new-compounds.ensures.items) c.in_ok-compounds.ensures (ap (λ o. option_map (λ v. v.items) o) (sym c.in_default-2.is))
+    (c.in_ok-push.ensures.items ∙ ap (λ y. y ++ (c.in-Some.first ∷ [])) c.in_ok-compounds.ensures.items) c.in_ok-compounds-2.ensures (ap (λ o. option_map (λ v. v.items) o) (sym c.in_default-2.is))
 
 pub returns : goal.returns
 returns c =
     rw c.from_vec.ensures
     (selector_read c.args.text.now c.word.result.now c.behind_word.result.now c.in-Some.first _ _ c.word.ensures c.behind_word.ensures (sym c.in-Some.is ∙ c.in_ok-first.ensures)
-    (c.in_ok-push.ensures.items ∙ ap (λ y. y ++ (c.in-Some.first ∷ [])) c.new-compounds.ensures.items) c.in_ok-compounds.ensures c.in-Some-2.compounds.items (ap (λ o. option_map (λ v. v.items) o) (sym c.in-Some-2.is)))
+    (c.in_ok-push.ensures.items ∙ ap (λ y. y ++ (c.in-Some.first ∷ [])) c.in_ok-compounds.ensures.items) c.in_ok-compounds-2.ensures c.in-Some-2.compounds.items (ap (λ o. option_map (λ v. v.items) o) (sym c.in-Some-2.is)))

@@ -28,11 +28,11 @@ pub fn behind<T>(items: &[T], at: usize) -> &[T]
 
 impl Mark {
     /// `;` and `}` end a declaration.
-    #[tactic(auto, unfolding(crate::specs::Pieces::ends_declaration))]
+    #[tactic(auto, unfolding(crate::specs::Pieces::ends_declaration, crate::specs::Characters::is_sign))]
     fn ends_declaration(self) -> bool
         ensures { result ≡ ends_declaration self }
     {
-        self.is_sign(';') || self.is_sign('}')
+        (self.character == ';' || self.character == '}') && self.plain
     }
 }
 

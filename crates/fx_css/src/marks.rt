@@ -1,6 +1,7 @@
 //! Characters of a sheet with their places: a comment is one space, and what is quoted means nothing to the cutting.
 //! The text comes from the bytes of a file or a `style`; rules and declarations are cut from the marks.
-ghost use Rattle.std.specs.Prelude.{◌≡◌, ◌≤◌, ◌<◌, ◌++◌, ◌^◌, [], ◌∷◌, map, length, IfOk, OnOk};
+ghost use Rattle.std.specs.Prelude.{◌≡◌, ◌≤◌, ◌<◌, ◌++◌, ◌^◌, ◌&&◌, not, [], ◌∷◌, map, length, IfOk, OnOk};
+ghost use lib.Dec.{eqb};
 ghost use Rattle.std.specs.Str.{chars};
 ghost use Rattle.fx_css.specs.Characters.{first_place, after, is_quote, is_sign, is_white};
 ghost use Rattle.fx_base.specs.declared.geometry.Place.{Place};
@@ -37,7 +38,7 @@ impl Mark {
     pub fn is_sign(self, character: char) -> bool
         ensures { result ≡ is_sign character self }
     {
-        self.plain && self.character == character
+        self.character == character && self.plain
     }
 
     /// Whether it is white space outside quoted texts.
@@ -86,6 +87,18 @@ impl Mode {
     {
         match self {
             Mode::Plain => plain_step(marks, place, c),
+            _ => self.inner_step(marks, place, c),
+        }
+    }
+
+    /// Takes a character behind a `/`, in a comment or in a quoted text.
+    #[tactic(auto, unfolding(crate::specs::Scanning::marks_at, crate::specs::Scanning::mode_after))]
+    fn inner_step(self, marks: &mut Vec<Mark>, place: Place, c: char) -> Result<Mode, AllocError>
+        ensures mode { IfOk result (λ mode. mode ≡ mode_after self place c) }
+        ensures given { OnOk result (marks.new.items ≡ marks.old.items ++ marks_at self place c) }
+    {
+        match self {
+            Mode::Plain => plain_step(marks, place, c),
             Mode::Slashed(slash) => slashed_step(marks, slash, place, c),
             Mode::Commented => Ok(if c == '*' {
                 Mode::Starred
@@ -115,23 +128,30 @@ fn plain_step(marks: &mut Vec<Mark>, place: Place, c: char) -> Result<Mode, Allo
     ensures mode { IfOk result (λ mode. mode ≡ plain_mode place c) }
     ensures given { OnOk result (marks.new.items ≡ marks.old.items ++ plain_marks place c) }
 {
-    if c == '/' {
-        return Ok(Mode::Slashed(place));
-    }
-    if is_quote(c) {
+    if begins_nothing(c) {
         marks.push(Mark {
             character: c,
             place,
-            plain: false,
+            plain: true,
         })?;
-        return Ok(Mode::Quoted(c));
+        return Ok(Mode::Plain);
+    }
+    if c == '/' {
+        return Ok(Mode::Slashed(place));
     }
     marks.push(Mark {
         character: c,
         place,
-        plain: true,
+        plain: false,
     })?;
-    Ok(Mode::Plain)
+    Ok(Mode::Quoted(c))
+}
+
+/// Is it neither a quote nor a `/`? Most characters stand behind those.
+fn begins_nothing(c: char) -> bool
+    ensures { result ≡ (not (eqb c 47) && not (is_quote c)) }
+{
+    c > '/' || !(c == '/' || is_quote(c))
 }
 
 /// A character behind a `/`: a comment begins with a `*`.
@@ -191,7 +211,7 @@ pub fn marks_of(alloc: Global, text: &str, file: u32) -> Result<Vec<Mark>, Alloc
     requires { length text.now ≤ 4194304 }
     ensures { IfOk result (λ marks. Marked (first_place file) (chars text.now) marks.items) }
 {
-    let mut marks = Vec::new(alloc);
+    let mut marks = Vec::with_capacity(alloc, text.len())?;
     let mut mode = Mode::Plain;
     let mut place = Place {
         file,

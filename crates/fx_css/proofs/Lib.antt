@@ -1,6 +1,7 @@
 pub mod Comments
 pub mod Places
 pub mod Scans
+pub mod RunLemmas
 pub mod Slices
 pub mod Blocks
 pub mod Bodies

@@ -10,14 +10,14 @@ use Rattle.fx_base.specs.declared.geometry.Place.{Place}
 use Rattle.fx_css.specs.Characters.{first_place, after, after_all}
 use Rattle.fx_css.proofs.Comments.{after_all-append}
 
-after_line : (p : Place) (c : ℕ) → (after p c).line ≤ p.line + 1
+pub after_line : (p : Place) (c : ℕ) → (after p c).line ≤ p.line + 1
 after_line p c = cases (eqb c 10)
   where
     cases : (b : Bool) → (if b then (let q : Place = record { file = p.file; line = p.line + 1; column = 1 } in q) else record { file = p.file; line = p.line; column = p.column + 1 }).line ≤ p.line + 1
     cases true = omega arith
     cases false = omega arith
 
-after_column : (p : Place) (c : ℕ) → (after p c).column ≤ p.column + 1
+pub after_column : (p : Place) (c : ℕ) → (after p c).column ≤ p.column + 1
 after_column p c = cases (eqb c 10)
   where
     cases : (b : Bool) → (if b then (let q : Place = record { file = p.file; line = p.line + 1; column = 1 } in q) else record { file = p.file; line = p.line; column = p.column + 1 }).column ≤ p.column + 1

@@ -3,6 +3,7 @@ pub mod Marks
 pub mod Scanning
 pub mod Pieces
 pub mod Rules
+pub mod Runs
 pub mod Cutting
 pub mod Sheets
 pub mod Agent

@@ -10,6 +10,7 @@ mod inline;
 mod laws;
 mod marks;
 mod rules;
+mod runs;
 mod sheets;
 
 pub use agent::agent_sheet;

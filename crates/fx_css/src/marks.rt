@@ -1,13 +1,14 @@
 //! Characters of a sheet with their places: a comment is one space, and what is quoted means nothing to the cutting.
 //! The text comes from the bytes of a file or a `style`; rules and declarations are cut from the marks.
-ghost use Rattle.std.specs.Prelude.{◌≡◌, ◌≤◌, ◌<◌, ◌++◌, ◌^◌, ◌&&◌, not, [], ◌∷◌, map, length, IfOk, OnOk};
-ghost use lib.Dec.{eqb};
+ghost use Rattle.std.specs.Prelude.{◌≡◌, ◌≤◌, ◌<◌, ◌+◌, ◌++◌, ◌^◌, [], ◌∷◌, map, length, IfOk, OnOk};
 ghost use Rattle.std.specs.Str.{chars};
 ghost use Rattle.fx_css.specs.Characters.{first_place, after, is_quote, is_sign, is_white};
 ghost use Rattle.fx_base.specs.declared.geometry.Place.{Place};
 ghost use Rattle.fx_css.specs.Marks.{Marked};
+ghost use Rattle.fx_css.specs.Runs.{TookRun};
 ghost use Rattle.fx_css.specs.Scanning.{plain_marks, plain_mode, star_mode, marks_at, mode_after, marks_left};
 
+use crate::runs::{along, first_character, take_run};
 use fx_base::Place;
 use std::alloc::{AllocError, Global};
 
@@ -87,18 +88,6 @@ impl Mode {
     {
         match self {
             Mode::Plain => plain_step(marks, place, c),
-            _ => self.inner_step(marks, place, c),
-        }
-    }
-
-    /// Takes a character behind a `/`, in a comment or in a quoted text.
-    #[tactic(auto, unfolding(crate::specs::Scanning::marks_at, crate::specs::Scanning::mode_after))]
-    fn inner_step(self, marks: &mut Vec<Mark>, place: Place, c: char) -> Result<Mode, AllocError>
-        ensures mode { IfOk result (λ mode. mode ≡ mode_after self place c) }
-        ensures given { OnOk result (marks.new.items ≡ marks.old.items ++ marks_at self place c) }
-    {
-        match self {
-            Mode::Plain => plain_step(marks, place, c),
             Mode::Slashed(slash) => slashed_step(marks, slash, place, c),
             Mode::Commented => Ok(if c == '*' {
                 Mode::Starred
@@ -122,36 +111,47 @@ impl Mode {
     }
 }
 
+impl Mode {
+    /// Takes the run at the front of a text that begins at that place, if runs stand here: the text behind it.
+    fn take_run<'a>(
+        self,
+        marks: &mut Vec<Mark>,
+        place: Place,
+        text: &'a str,
+    ) -> Result<&'a str, AllocError>
+        requires { place.column + length text.now < 2 ^ 32 }
+        ensures { IfOk result (λ left. TookRun self place marks.old.items marks.new.items text.now left.now) }
+    {
+        match self {
+            Mode::Plain => take_run(marks, place, text),
+            _ => Ok(text),
+        }
+    }
+}
+
 /// A character outside comments and quoted texts.
 #[tactic(auto, unfolding(crate::specs::Scanning::plain_marks, crate::specs::Scanning::plain_mode))]
 fn plain_step(marks: &mut Vec<Mark>, place: Place, c: char) -> Result<Mode, AllocError>
     ensures mode { IfOk result (λ mode. mode ≡ plain_mode place c) }
     ensures given { OnOk result (marks.new.items ≡ marks.old.items ++ plain_marks place c) }
 {
-    if begins_nothing(c) {
+    if c == '/' {
+        return Ok(Mode::Slashed(place));
+    }
+    if is_quote(c) {
         marks.push(Mark {
             character: c,
             place,
-            plain: true,
+            plain: false,
         })?;
-        return Ok(Mode::Plain);
-    }
-    if c == '/' {
-        return Ok(Mode::Slashed(place));
+        return Ok(Mode::Quoted(c));
     }
     marks.push(Mark {
         character: c,
         place,
-        plain: false,
+        plain: true,
     })?;
-    Ok(Mode::Quoted(c))
-}
-
-/// Is it neither a quote nor a `/`? Most characters stand behind those.
-fn begins_nothing(c: char) -> bool
-    ensures { result ≡ (not (eqb c 47) && not (is_quote c)) }
-{
-    c > '/' || !(c == '/' || is_quote(c))
+    Ok(Mode::Plain)
 }
 
 /// A character behind a `/`: a comment begins with a `*`.
@@ -218,9 +218,12 @@ pub fn marks_of(alloc: Global, text: &str, file: u32) -> Result<Vec<Mark>, Alloc
         line: 1,
         column: 1,
     };
-    for c in text.chars() {
+    let mut rest = text;
+    while let Some((c, behind)) = first_character(rest) {
         mode = mode.step(&mut marks, place, c)?;
         place = after(place, c);
+        rest = mode.take_run(&mut marks, place, behind)?;
+        place = along(place, behind.len() - rest.len());
     }
     leave(&mut marks, mode)?;
     Ok(marks)

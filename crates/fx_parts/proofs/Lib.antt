@@ -1,3 +1,4 @@
+pub mod AsciiLemmas
 pub mod TrimLemmas
 pub mod IdentLemmas
 pub mod LayerLemmas

@@ -5,3 +5,5 @@ pub mod Declaring
 pub mod Limits
 pub mod Parts
 pub mod Drafts
+pub mod Shorts
+pub mod Written

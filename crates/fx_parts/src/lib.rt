@@ -8,8 +8,10 @@ mod laws;
 mod layers;
 mod limits;
 mod selecting;
+mod shorts;
 mod texts;
 mod values;
+mod written;
 
 pub use declaring::read_declaration;
 use fx_base::List;

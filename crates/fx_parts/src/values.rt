@@ -4,7 +4,6 @@ ghost use Rattle.std.specs.Prelude.{◌≡◌, IfOk, map};
 ghost use Rattle.std.specs.List.{position};
 ghost use Rattle.std.specs.Option.{option_map};
 ghost use Rattle.std.specs.Str.{bytes_eq};
-ghost use Rattle.std.specs.String.{string_bytes};
 ghost use Rattle.fx_base.specs.declared.kinds.Family.TheVariants.{Pos as PosFamily};
 ghost use Rattle.fx_base.specs.declared.values.Value.TheVariants as value;
 ghost use Rattle.fx_look.specs.Colors.{color_at};
@@ -16,7 +15,8 @@ ghost use Rattle.fx_parts.specs.Layers.{separated_at};
 ghost use Rattle.fx_parts.specs.Declaring.{positions, position_at, truth_at, visibility_at, insets_at, paint_at, styled_at, declared_at};
 
 use crate::layers::split_part;
-use crate::texts::{is_ident, named, text_of};
+use crate::texts::read_ident;
+use crate::written::{as_str, in_utf8};
 use fx_base::{Color, Family, List, Sides, Value};
 use fx_look::{StyleForm, read_color, read_sides, read_size};
 use fx_sheet::{Declared, Paint};
@@ -43,11 +43,23 @@ pub fn read_declared(
 ) -> Result<Option<Declared>, AllocError>
     ensures { IfOk result (λ o. o ≡ declared_at form text.now) }
 {
-    let written = text_of(alloc, text)?;
+    let written = in_utf8(alloc, text)?;
+    read_written(alloc, form, text, as_str(&written))
+}
+
+fn read_written(
+    alloc: Global,
+    form: Option<StyleForm>,
+    text: &[char],
+    written: &str,
+) -> Result<Option<Declared>, AllocError>
+    requires { written.now ≡ utf8 text.now }
+    ensures { IfOk result (λ o. o ≡ declared_at form text.now) }
+{
     match form {
-        None => Ok(paint_value(text, written)),
+        None => paint_value(alloc, text, written),
         Some(form) => {
-            if written.as_str() == "inherit" {
+            if written == "inherit" {
                 return Ok(Some(Declared::Inherit));
             }
             read_styled(alloc, form, text, written)
@@ -59,18 +71,18 @@ fn read_styled(
     alloc: Global,
     form: StyleForm,
     text: &[char],
-    written: String,
+    written: &str,
 ) -> Result<Option<Declared>, AllocError>
-    requires { string_bytes written ≡ utf8 text.now }
+    requires { written.now ≡ utf8 text.now }
     ensures { IfOk result (λ o. o ≡ styled_at form text.now) }
 {
     match form {
-        StyleForm::Sides => Ok(sides_value(written.as_str())),
-        StyleForm::Position => Ok(position_value(written.as_str())),
-        StyleForm::Size => Ok(size_value(written.as_str())),
-        StyleForm::Truth => Ok(truth_value(written.as_str())),
-        StyleForm::Visibility => Ok(visibility_value(written.as_str())),
-        StyleForm::Paint => Ok(paint_value(text, written)),
+        StyleForm::Sides => Ok(sides_value(written)),
+        StyleForm::Position => Ok(position_value(written)),
+        StyleForm::Size => Ok(size_value(written)),
+        StyleForm::Truth => Ok(truth_value(written)),
+        StyleForm::Visibility => Ok(visibility_value(written)),
+        StyleForm::Paint => paint_value(alloc, text, written),
         StyleForm::Paints => paint_layers(alloc, text),
         StyleForm::SidesList => sides_layers(alloc, text),
     }
@@ -111,12 +123,14 @@ fn visibility_value(text: &str) -> Option<Declared>
     Some(Declared::Plain(Value::Bool(visible)))
 }
 
-fn paint_value(text: &[char], written: String) -> Option<Declared>
-    requires { string_bytes written ≡ utf8 text.now }
-    ensures { result ≡ option_map declared.Paint (paint_at text.now) }
+fn paint_value(alloc: Global, text: &[char], written: &str) -> Result<Option<Declared>, AllocError>
+    requires { written.now ≡ utf8 text.now }
+    ensures { IfOk result (λ o. o ≡ option_map declared.Paint (paint_at text.now)) }
 {
-    let paint = paint(text, written)?;
-    Some(Declared::Paint(paint))
+    match paint(alloc, text, written)? {
+        Some(paint) => Ok(Some(Declared::Paint(paint))),
+        None => Ok(None),
+    }
 }
 
 fn paint_layers(alloc: Global, text: &[char]) -> Result<Option<Declared>, AllocError>
@@ -172,30 +186,29 @@ fn each_sides(alloc: Global, text: &[char]) -> Result<Option<Vec<Sides>>, AllocE
 fn read_paint(alloc: Global, text: &[char]) -> Result<Option<Paint>, AllocError>
     ensures { IfOk result (λ o. o ≡ paint_at text.now) }
 {
-    let written = text_of(alloc, text)?;
-    Ok(paint(text, written))
+    let written = in_utf8(alloc, text)?;
+    paint(alloc, text, as_str(&written))
 }
 
 fn read_layer(alloc: Global, text: &[char]) -> Result<Option<Sides>, AllocError>
     ensures { IfOk result (λ o. o ≡ insets_at text.now) }
 {
-    let written = text_of(alloc, text)?;
-    Ok(sides(written.as_str()))
+    let written = in_utf8(alloc, text)?;
+    Ok(sides(as_str(&written)))
 }
 
 /// A colour, or else a name that is looked up.
-fn paint(text: &[char], written: String) -> Option<Paint>
-    requires { string_bytes written ≡ utf8 text.now }
-    ensures { result ≡ paint_at text.now }
+fn paint(alloc: Global, text: &[char], written: &str) -> Result<Option<Paint>, AllocError>
+    requires { written.now ≡ utf8 text.now }
+    ensures { IfOk result (λ o. o ≡ paint_at text.now) }
 {
-    if let Some(color) = color(written.as_str()) {
-        return Some(Paint::Color(color));
+    if let Some(color) = color(written) {
+        return Ok(Some(Paint::Color(color)));
     }
-    if !is_ident(text) {
-        return None;
+    match read_ident(alloc, text)? {
+        Some(name) => Ok(Some(Paint::Named(name))),
+        None => Ok(None),
     }
-    let name = named(text, written)?;
-    Some(Paint::Named(name))
 }
 
 fn color(text: &str) -> Option<Color>

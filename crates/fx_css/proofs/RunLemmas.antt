@@ -1,11 +1,11 @@
 -- The first character of a text, and runs of plain characters: their marks, and what is behind them.
 -- Below the answers on marks.
-use Rattle.std.proofs.Common.{◌≡◌, ℕ, ◌+◌, ◌<◌, ◌≤◌, ◌-◌, Bool, ◌&&◌, true, false, cond, List, [], ◌∷◌, ◌++◌, zero, suc, length, take, drop, nat_le, Some, slice_get, slice_index, refl, sym, ◌∙◌, ap, subst, append-nil, append_assoc, length-append, arith}
+use Rattle.std.proofs.Common.{◌≡◌, ℕ, ◌+◌, ◌<◌, ◌≤◌, ◌-◌, Bool, ◌&&◌, true, false, cond, List, [], ◌∷◌, ◌++◌, zero, suc, length, take, drop, Some, slice_get, slice_index, refl, sym, ◌∙◌, ap, subst, append-nil, append_assoc, length-append, arith}
 use Rattle.std.specs.List.{list_all, prefix_len}
-use Rattle.std.specs.Str.{chars, IsUtf8, IsAscii}
+use Rattle.std.specs.Str.{chars, IsUtf8}
 use Rattle.std.specs.Char.{IsScalar}
 use lib.Dec.{eqb}
-use lib.Utf8.{encode, encodes, scalar, scalars}
+use lib.Utf8.{encode, scalar, scalars}
 use Rattle.std.proofs.lemmas.Bool.{and_parts, and_from}
 use Rattle.std.proofs.lemmas.Bool.Decides.{nat_tests}
 use Rattle.std.proofs.lemmas.List.{take-append-drop}

@@ -1,8 +1,8 @@
 -- What is answered of marks is answered of their text and of its bytes, and the other way round.
 -- Below the answers on sheets.
-use Rattle.std.proofs.Common.{◌≡◌, ℕ, List, [], ◌∷◌, map, refl, sym, ◌∙◌, ap, subst, Result, Ok, Err, IfOk, IfErr, OnOk}
+use Rattle.std.proofs.Common.{◌≡◌, ℕ, List, [], ◌∷◌, map, refl, sym, subst, Result, Ok, Err, IfOk, IfErr}
 use Rattle.std.specs.Result.{IsErrAnd}
-use Rattle.std.specs.Str.{chars, IsUtf8, IsValidUpTo}
+use Rattle.std.specs.Str.{chars, IsUtf8}
 use Rattle.fx_base.specs.declared.geometry.Place.{Place}
 use Rattle.fx_sheet.specs.declared.sheets.Rule.{Rule}
 use Rattle.fx_sheet.specs.declared.sheets.Sheet.{Sheet}
@@ -11,8 +11,8 @@ use Rattle.fx_css.specs.declared.errors.SheetError.{SheetError}
 use Rattle.fx_css.specs.declared.errors.SheetError.TheVariants.{NotUtf8, Limit, Memory}
 use Rattle.fx_css.specs.Characters.{first_place}
 use Rattle.fx_css.specs.Marks.{Marked}
-use Rattle.fx_css.specs.Rules.{Reading, Reads, past_rules}
-use Rattle.fx_css.specs.Sheets.{IsSheetText, IsFirst, IsPast, AreRead, IsPastLimit, IsSheetRead, HasFault, IsGiven, IsRefused}
+use Rattle.fx_css.specs.Rules.{past_rules}
+use Rattle.fx_css.specs.Sheets.{IsSheetText, IsFirst, IsPast, AreRead, IsPastLimit, IsSheetRead, HasFault, IsGiven}
 use Rattle.fx_css.proofs.Turns.{Stops}
 use Rattle.fx_css.specs.declared.marks.Mode.TheVariants.{Plain}
 use Rattle.fx_css.specs.Pieces.{kept_in, warnings_in, past_declarations}

@@ -1,13 +1,13 @@
 -- A body that is read piece by piece: what is kept of the first pieces, and of the rest, is what is kept of all.
 -- Below the answers on declarations.
-use Rattle.std.proofs.Common.{◌≡◌, ℕ, ◌+◌, ◌<◌, ◌≤◌, Bool, true, false, cond, not, List, [], ◌∷◌, ◌++◌, suc, map, length, take, drop, get_or, refl, sym, ◌∙◌, ap, subst, arith, append_assoc, append-nil, Option, Some, None, Result, Ok, Err, IfErr}
-use Rattle.std.proofs.Math.Seq.{take-length, drop-length}
+use Rattle.std.proofs.Common.{◌≡◌, ℕ, ◌+◌, ◌≤◌, Bool, true, false, cond, not, List, [], ◌∷◌, ◌++◌, suc, map, length, take, refl, sym, ◌∙◌, ap, subst, arith, append_assoc, append-nil, Result, Ok, Err, IfErr}
+use Rattle.std.proofs.Math.Seq.{take-length}
 use Rattle.std.proofs.Math.ListN.{drop_of_length-le}
 use Rattle.std.proofs.lemmas.Bool.{ltb-true, ltb-false}
 use Rattle.std.proofs.lemmas.List.Sums.{prefix_len-le-length}
 use lib.Dec.{ltb}
 use Rattle.std.specs.Bool.{nat_le}
-use Rattle.std.proofs.lemmas.List.{length-map, map-append, length-drop}
+use Rattle.std.proofs.lemmas.List.{length-map, map-append}
 use Rattle.std.proofs.lemmas.List.Splits.{slice_split_first}
 use Rattle.std.specs.Result.{IsErrAnd}
 use Rattle.std.specs.Bool.{if◌then◌else◌}
@@ -20,9 +20,8 @@ use Rattle.fx_css.specs.declared.errors.SheetError.{SheetError}
 use Rattle.fx_css.specs.declared.errors.SheetError.TheVariants.{NotUtf8, Limit, Memory}
 use Rattle.fx_css.specs.declared.declarations.Kept.{Kept}
 use Rattle.fx_css.specs.declared.declarations.Piece.{Piece}
-use Rattle.fx_css.specs.Characters.{is_white}
-use Rattle.fx_css.specs.Pieces.{characters, ends_declaration, first_shown, piece_of, kept, warned, kept_in, warnings_in, past_declarations}
-use Rattle.fx_css.specs.Sheets.{IsFirst, IsPast}
+use Rattle.fx_css.specs.Pieces.{ends_declaration, piece_of, kept, warned, kept_in, warnings_in, past_declarations}
+use Rattle.fx_css.specs.Sheets.{IsPast}
 
 pub suc_same : (a b : ℕ) → suc a ≡ 1 + b → a ≡ b
 suc_same a b e = omega arith

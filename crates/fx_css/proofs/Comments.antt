@@ -1,6 +1,6 @@
 -- Where a comment ends: no `*/` stands in what grows by characters that make none.
 -- Below the lemmas on marks.
-use Rattle.std.proofs.Common.{◌≡◌, ℕ, Bool, true, false, ◌&&◌, ◌||◌, List, [], ◌∷◌, ◌++◌, refl, sym, ◌∙◌, ap, subst, append_assoc, append-nil}
+use Rattle.std.proofs.Common.{◌≡◌, ℕ, Bool, true, false, ◌&&◌, ◌||◌, List, [], ◌∷◌, ◌++◌, refl, ◌∙◌, ap}
 use lib.Dec.{eqb}
 use Rattle.fx_base.specs.declared.geometry.Place.{Place}
 use Rattle.fx_css.specs.Characters.{after, after_all, begins_with, has_end}

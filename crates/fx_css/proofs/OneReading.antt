@@ -6,7 +6,7 @@ use Rattle.fx_sheet.specs.declared.sheets.Rule.{Rule}
 use Rattle.fx_css.specs.declared.marks.Mark.{Mark}
 use Rattle.fx_css.specs.declared.marks.Mode.TheVariants.{Plain}
 use Rattle.fx_css.specs.Characters.{first_place}
-use Rattle.fx_css.specs.Rules.{Reading, Reads, past_rules}
+use Rattle.fx_css.specs.Rules.{Reads, past_rules}
 use Rattle.fx_css.specs.Scanning.{scanned}
 use Rattle.fx_css.specs.Pieces.{kept_in, warnings_in, past_declarations}
 use Rattle.fx_css.specs.Sheets.{IsSheetText, IsStyleText, style_rule}

@@ -1,6 +1,6 @@
 -- What is scanned are the marks of the text, and its only ones.
 -- Below the answers on marks.
-use Rattle.std.proofs.Common.{◌≡◌, ℕ, Bool, true, false, not, ◌&&◌, ◌||◌, List, [], ◌∷◌, ◌++◌, refl, sym, ◌∙◌, ap, subst, append_assoc, append-nil}
+use Rattle.std.proofs.Common.{◌≡◌, ℕ, Bool, true, false, ◌&&◌, ◌||◌, List, [], ◌∷◌, ◌++◌, refl, sym, ◌∙◌, ap, subst, append_assoc, append-nil}
 use Rattle.std.proofs.lemmas.Bool.{eqb-true, eq-eqb}
 use Rattle.std.specs.Bool.{if◌then◌else◌}
 use Rattle.std.specs.List.{list_any}
@@ -10,8 +10,8 @@ use Rattle.fx_css.specs.declared.marks.Mark.{Mark}
 use Rattle.fx_css.specs.declared.marks.Mode.{Mode}
 use Rattle.fx_css.specs.declared.marks.Mode.TheVariants as v
 use Rattle.fx_css.specs.Characters.{after, after_all, is_quote, begins_with, has_end}
-use Rattle.fx_css.specs.Marks.{mark, space, quoted, comment, quotation, Marked, Ended, Plain, Comment, OpenComment, Quoted, OpenQuoted}
-use Rattle.fx_css.specs.Scanning.{plain_marks, plain_mode, marks_at, mode_after, marks_left, scanned}
+use Rattle.fx_css.specs.Marks.{mark, space, quoted, quotation, Marked, Ended, Plain, Comment, OpenComment, Quoted, OpenQuoted}
+use Rattle.fx_css.specs.Scanning.{plain_marks, plain_mode, marks_at, mode_after, scanned}
 use Rattle.fx_css.proofs.Comments.{or_left, or_right, or_both, and_left, and_right, IsSafe, fewer_ends, safe_none, safe_more, star_more, after_all-append}
 
 -- the same marks of the same characters, written otherwise

@@ -1,6 +1,6 @@
 -- A turn at what is neither white nor an at-rule, in the words of the code.
 -- Below the answers on rules.
-use Rattle.std.proofs.Common.{◌≡◌, ℕ, ◌+◌, ◌<◌, ◌≤◌, Bool, true, false, cond, not, List, [], ◌∷◌, ◌++◌, suc, map, length, take, drop, refl, sym, ◌∙◌, ap, subst, arith, Option, Some, None}
+use Rattle.std.proofs.Common.{◌≡◌, ℕ, ◌+◌, Bool, true, false, cond, not, List, [], ◌∷◌, suc, length, take, drop, refl, sym, ◌∙◌, ap, arith, Option, Some}
 use Rattle.std.specs.Bool.{if◌then◌else◌}
 use Rattle.std.specs.List.{list_any, before_first, after_first, position_or_len}
 use Rattle.fx_base.specs.declared.geometry.Place.{Place}
@@ -8,8 +8,8 @@ use Rattle.fx_parts.specs.Parts.{selectors_at}
 use Rattle.fx_parts.specs.declared.Selectors.{Selectors}
 use Rattle.fx_css.specs.declared.marks.Mark.{Mark}
 use Rattle.fx_css.specs.Pieces.{characters, warnings_in}
-use Rattle.fx_css.specs.Rules.{is_open, is_close, selected, Reading, reading_of}
-use Rattle.fx_css.specs.Cutting.{block_length, Turn, rule_turn, shown_turn}
+use Rattle.fx_css.specs.Rules.{is_open, is_close, selected, reading_of}
+use Rattle.fx_css.specs.Cutting.{rule_turn, shown_turn}
 use Rattle.fx_css.proofs.Bodies.{suc_same, no_suc}
 
 some_passes : (p : Mark → Bool) (ms : List Mark) → (position_or_len p ms ≡ length ms → ⊥) → list_any p ms ≡ true

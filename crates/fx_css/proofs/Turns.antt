@@ -1,6 +1,6 @@
 -- A turn reads the front of marks as the relation does, and what is left is shorter: so marks are read in one way, and in some.
 -- Below the answers on sheets and the laws.
-use Rattle.std.proofs.Common.{◌≡◌, ℕ, ◌+◌, ◌-◌, ◌<◌, ◌≤◌, Bool, true, false, cond, not, List, [], ◌∷◌, ◌++◌, suc, zero, map, length, take, drop, refl, sym, ◌∙◌, ap, subst, arith, append_assoc, append-nil, Option, Some, None}
+use Rattle.std.proofs.Common.{◌≡◌, ℕ, ◌+◌, ◌-◌, ◌<◌, ◌≤◌, Bool, true, false, List, [], ◌∷◌, ◌++◌, suc, zero, map, length, drop, refl, sym, ◌∙◌, ap, subst, arith, append_assoc, append-nil, Option, Some, None}
 use Rattle.std.proofs.lemmas.List.{length-map, map-append, length-drop}
 use Rattle.std.proofs.Math.Nat.{le_refl, le_trans}
 use Rattle.std.specs.Bool.{if◌then◌else◌, nat_le}
@@ -11,8 +11,7 @@ use Rattle.fx_parts.specs.declared.Selectors.{Selectors}
 use Rattle.fx_css.specs.declared.marks.Mark.{Mark}
 use Rattle.fx_css.specs.declared.errors.SheetError.{SheetError}
 use Rattle.fx_css.specs.Characters.{is_white}
-use Rattle.fx_css.specs.Pieces.{warnings_in}
-use Rattle.fx_css.specs.Rules.{is_at, is_open, is_close, selected, Reading, reading_of, past_rules, Block, AtRule, Reads, Ended, White, At, Leftover, Kept, Dropped}
+use Rattle.fx_css.specs.Rules.{is_at, is_open, is_close, selected, Reading, past_rules, Reads, Ended, White, At, Leftover, Kept, Dropped}
 use Rattle.fx_css.specs.Cutting.{block_length, at_rule_length, Turn, rule_turn, shown_turn, turn_of, turn_at}
 use Rattle.fx_css.specs.Sheets.{IsPast}
 use Rattle.fx_css.proofs.Blocks.{block_some, block_only, at_some, at_only}

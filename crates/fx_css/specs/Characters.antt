@@ -1,5 +1,5 @@
 -- Characters of a style sheet by their code points, and the places at which they stand.
-use Rattle.std.specs.Prelude.{ℕ, ◌+◌, Bool, true, false, cond, ◌&&◌, ◌||◌, List, [], ◌∷◌, if◌then◌else◌}
+use Rattle.std.specs.Prelude.{ℕ, ◌+◌, Bool, false, ◌&&◌, ◌||◌, List, [], ◌∷◌, if◌then◌else◌}
 use lib.Dec.{eqb}
 use Rattle.fx_base.specs.declared.geometry.Place.{Place}
 use Rattle.fx_css.specs.declared.marks.Mark.{Mark}

@@ -1,5 +1,5 @@
 -- What is cut off at a time, as a function: the lengths of blocks and at-rules, and what a turn reads.
-use Rattle.std.specs.Prelude.{ℕ, ◌+◌, ◌-◌, ◌==◌, Bool, true, false, List, [], ◌∷◌, ◌++◌, drop, suc, Option, Some, None, if◌then◌else◌}
+use Rattle.std.specs.Prelude.{ℕ, ◌+◌, ◌-◌, ◌==◌, List, [], ◌∷◌, drop, suc, Option, Some, None, if◌then◌else◌}
 use Rattle.std.specs.List.{list_any, before_first, after_first}
 use Rattle.fx_base.specs.declared.geometry.Place.{Place}
 use Rattle.fx_parts.specs.declared.Selectors.{Selectors}

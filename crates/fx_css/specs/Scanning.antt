@@ -1,6 +1,6 @@
 -- How characters are scanned into marks, one by one: what is given out at each, and what is inside what.
 -- A `/` waits for the next character, which may make it the beginning of a comment.
-use Rattle.std.specs.Prelude.{ℕ, Bool, true, false, List, [], ◌∷◌, ◌++◌, not, if◌then◌else◌}
+use Rattle.std.specs.Prelude.{ℕ, true, false, List, [], ◌∷◌, ◌++◌, not, if◌then◌else◌}
 use lib.Dec.{eqb}
 use Rattle.fx_base.specs.declared.geometry.Place.{Place}
 use Rattle.fx_css.specs.declared.marks.Mark.{Mark}

@@ -1,6 +1,6 @@
 -- A word of few bytes has few characters.
 -- So it is a text.
-use Rattle.std.proofs.Common.{◌≡◌, ◌≤◌, length, refl, ap, arith}
+use Rattle.std.proofs.Common.{◌≤◌, length, refl, ap, arith}
 use Rattle.std.specs.String.{string_bytes}
 use Rattle.std.specs.Str.{chars}
 use Rattle.std.proofs.lemmas.Str.{IsUtf8-had}

@@ -1,9 +1,8 @@
 -- What is left over, or a rule: each clause is the turn's.
 -- A rule's clauses speak of its reading.
-use Rattle.std.proofs.Common.{◌≡◌, ℕ, ◌+◌, List, [], ◌∷◌, ◌++◌, take, drop, map, length, sym, ◌∙◌, ap, subst, refl, append-nil, Some}
+use Rattle.std.proofs.Common.{◌+◌, ◌++◌, drop, map, length, sym, ◌∙◌, ap, subst, append-nil}
 use Rattle.std.proofs.lemmas.List.{drop-drop}
-use Rattle.fx_css.specs.Pieces.{warnings_in}
-use Rattle.fx_css.specs.Rules.{reading_of, past_rules}
+use Rattle.fx_css.specs.Rules.{past_rules}
 use Rattle.fx_css.specs.Cutting.{Turn, shown_turn, rule_turn, block_length}
 use Rattle.fx_css.specs.Sheets.{IsPast}
 use Rattle.fx_css.proofs.Slices.{front_text, rest_text}

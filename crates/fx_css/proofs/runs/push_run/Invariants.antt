@@ -1,6 +1,6 @@
 -- the marks of the rest complete what is put so far
 use Rattle.std.proofs.Common.{◌≡◌, ◌<◌, ◌+◌, ◌++◌, ◌^◌, length}
-use Rattle.fx_css.specs.Runs.{along, marks_along}
+use Rattle.fx_css.specs.Runs.{marks_along}
 use Rattle.fx_css.proofs.runs.push_run.Given as goal
 
 abbrev pub invariant-loop-byte : goal.invariant-loop-byte

@@ -1,10 +1,9 @@
 -- Each turn reads the front of the rest; at the end nothing is left.
 -- Where a turn stops, the rest still has some reading.
-use Rattle.std.proofs.Common.{◌≡◌, ℕ, ◌+◌, ◌<◌, List, drop, length, sym, ◌∙◌, ap, subst, arith}
+use Rattle.std.proofs.Common.{◌≡◌, ℕ, ◌<◌, List, drop, length, sym, ◌∙◌, subst, arith}
 use Rattle.std.proofs.lemmas.Bool.{eqb-true, eqb-false}
 use Rattle.fx_css.specs.declared.marks.Mark.{Mark}
 use Rattle.fx_css.specs.Cutting.{turn_at}
-use Rattle.fx_css.specs.Sheets.{AreRead}
 use Rattle.fx_css.proofs.Slices.{rest_text}
 use Rattle.fx_css.proofs.Turns.{turn_shorter, read_more, read_stops, read_all}
 use Rattle.fx_css.proofs.Answered.{stops_read}

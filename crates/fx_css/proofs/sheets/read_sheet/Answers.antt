@@ -1,6 +1,6 @@
 -- The other way round: what the text is read as is what was answered.
 -- It rests on the law of one reading.
-use Rattle.std.proofs.Common.{refl, ap}
+use Rattle.std.proofs.Common.{ap}
 use Rattle.std.specs.Str.{chars}
 use Rattle.fx_css.proofs.Answered.{exact_by}
 use Rattle.fx_css.proofs.sheets.read_sheet.Goals as goal

@@ -1,6 +1,6 @@
 -- The marks are those of the text.
 -- What is read of them is read of it.
-use Rattle.std.proofs.Common.{sym, subst}
+use Rattle.std.proofs.Common.{subst}
 use Rattle.std.specs.Str.{chars}
 use Rattle.fx_css.specs.Sheets.{AreRead}
 use Rattle.fx_css.proofs.Answered.{memory_read, text_read}

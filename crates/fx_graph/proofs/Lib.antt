@@ -1,5 +1,8 @@
 pub mod AllowedLemmas
+pub mod BindLemmas
+pub mod ForgetLemmas
 pub mod GivenLemmas
-pub mod NewlyLemmas
+pub mod LookLemmas
 pub mod ReadLemmas
 pub mod StoreLemmas
+pub mod UnbindLemmas

@@ -110,12 +110,12 @@ store_read es users unread before newly n cache fresh work operands unread' cach
 
 -- names were given values
 pub store_given : (es : List Entry) (users : List Row) (unread before : List Bool) (newly : List Name) (n : ℕ) (cache fresh : List Value) (work : List ℕ) (operands : ℕ)
-    (sets : Bool) (pairs : List (Name × Value)) (before' : List Bool) (newly' : List Name) (n' : ℕ) (fresh' : List Value) (work' : List ℕ)
+    (sets : Bool) (pairs : List (Name × Value)) (newly' : List Name) (n' : ℕ) (fresh' : List Value) (work' : List ℕ)
     → IsStore es users unread before newly n cache fresh work operands
     → AllPairs (λ (one other : Name × Value). one.0 ≢ other.0) pairs → AreBase es pairs
-    → length before' ≡ length es → length newly' ≡ length es → n' ≤ length es → length fresh' ≡ length es → length work' ≡ length es
-    → IsStore (with_values sets pairs es) users (after_marking (with_values sets pairs es) (changed pairs es) unread) before' newly' n' cache fresh' work' operands
-store_given es users unread before newly n cache fresh work operands sets pairs before' newly' n' fresh' work' s distinct all b w m f k =
+    → length newly' ≡ length es → n' ≤ length es → length fresh' ≡ length es → length work' ≡ length es
+    → IsStore (with_values sets pairs es) users (after_marking (with_values sets pairs es) (changed pairs es) unread) before newly' n' cache fresh' work' operands
+store_given es users unread before newly n cache fresh work operands sets pairs newly' n' fresh' work' s distinct all w m f k =
     let base : (p : Name × Value) → Contains pairs p → IsBase es p = λ p c. All-contains (IsBase es) pairs p all c in
     let long : length (with_values sets pairs es) ≡ length es = length-given sets pairs es in
     record {
@@ -123,7 +123,7 @@ store_given es users unread before newly n cache fresh work operands sets pairs 
       sound = sound_given sets pairs es s.sound distinct (λ p c. ((base p c).0, (base p c).2));
       settled = settled_given sets pairs es s.ranks.0 s.ranks.1 distinct (λ p c. ((base p c).0, (base p c).1)) unread cache s.settled;
       mirrors = mirrors_given sets pairs es users s.mirrors (λ p c. (base p c).1);
-      before_length = b ∙ sym long;
+      before_length = s.before_length ∙ sym long;
       newly_length = w ∙ sym long;
       newly_few = omega arith;
       fresh_length = f ∙ sym long;

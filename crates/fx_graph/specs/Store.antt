@@ -1,5 +1,5 @@
 -- What the graph keeps, and what of it contracts see.
-use Rattle.std.specs.Prelude.{ℕ, ◌≡◌, ◌≤◌, Bool, true, false, List, length, take, slice_index_or, Option, None, Some}
+use Rattle.std.specs.Prelude.{ℕ, ◌≡◌, ◌≤◌, Bool, true, false, List, length, take, Option, None, Some}
 use Rattle.fx_base.specs.declared.keys.Name.{Name}
 use Rattle.fx_base.specs.declared.values.Value.{Value}
 use Rattle.fx_properties.specs.declared.entries.Entry.{Entry}
@@ -7,7 +7,7 @@ use Rattle.fx_properties.specs.declared.entries.Origin.{Origin}
 use Rattle.fx_properties.specs.Numbers.{numbers}
 use Rattle.fx_properties.specs.Uses.{Ranked, entry_of, unknown_in}
 use Rattle.fx_properties.specs.Sound.{AreSound, IsSettled}
-use Rattle.fx_properties.specs.Users.{Row, no_row, Mirrors}
+use Rattle.fx_properties.specs.Users.{Row, Mirrors}
 use Rattle.fx_properties.specs.Refusals.{operand_count}
 use Rattle.fx_properties.specs.Changes.{State}
 
@@ -37,6 +37,3 @@ pub record IsStore (entries : List Entry) (users : List Row) (unread before : Li
   pub few : length entries ≤ 4000000
   pub counted : operands ≡ operand_count entries
   pub operands_few : operands ≤ 1000000
-
-abbrev pub row_of : List Row → ℕ → Row
-row_of users name = slice_index_or users name no_row

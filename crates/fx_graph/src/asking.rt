@@ -1,33 +1,16 @@
 //! Questions to the entries: whether a name is known, bound, read-only, and from where its definition came.
 //! The refusals and the graph's readers stand on them.
-ghost use Rattle.std.specs.Prelude.{◌≡◌};
-ghost use Rattle.fx_properties.specs.Uses.{is_binding, is_gone, bound_in, unknown_in};
+ghost use Rattle.std.specs.Prelude.{◌≡◌, ◌<◌, false, length, IfOk};
+ghost use Rattle.fx_properties.specs.declared.entries.Definition.TheVariants as defined;
+ghost use Rattle.fx_properties.specs.Uses.{is_gone, bound_in, entry_of, unknown_in};
+ghost use Rattle.fx_properties.specs.Eager.{eager};
 ghost use Rattle.fx_properties.specs.Unread.{marked};
-ghost use Rattle.fx_properties.specs.Refusals.{read_only_in};
+ghost use Rattle.fx_properties.specs.Refusals.{read_only_in, unknown_name};
 ghost use Rattle.fx_graph.specs.Store.{origin_in, origin_if};
 
-use fx_base::Name;
-use fx_properties::{Definition, Entry, Origin};
-
-fn is_binding(definition: &Definition) -> bool
-    ensures { result ≡ is_binding definition.now }
-{
-    match definition {
-        Definition::Base(_) => false,
-        Definition::Bound(_, _) => true,
-        Definition::Forgotten => false,
-    }
-}
-
-fn is_gone(definition: &Definition) -> bool
-    ensures { result ≡ is_gone definition.now }
-{
-    match definition {
-        Definition::Base(_) => false,
-        Definition::Bound(_, _) => false,
-        Definition::Forgotten => true,
-    }
-}
+use fx_base::{Name, Value};
+use fx_properties::{Entry, GraphError, Origin};
+use std::alloc::{AllocError, Global};
 
 /// Whether the name was never declared, or was forgotten.
 pub fn is_unknown(entries: &[Entry], name: Name) -> bool
@@ -35,8 +18,20 @@ pub fn is_unknown(entries: &[Entry], name: Name) -> bool
 {
     match entries.get(name.0 as usize) {
         None => true,
-        Some(entry) => is_gone(&entry.definition),
+        Some(entry) => entry.definition.is_gone(),
     }
+}
+
+/// The first of the names that is unknown, as the refusal.
+pub fn unknown_among(entries: &[Entry], names: &[Name]) -> Option<GraphError>
+    ensures { result ≡ unknown_name entries.now names.now }
+{
+    for name in names {
+        if is_unknown(entries, *name) {
+            return Some(GraphError::Unknown(*name));
+        }
+    }
+    None
 }
 
 pub fn is_bound(entries: &[Entry], name: Name) -> bool
@@ -44,7 +39,7 @@ pub fn is_bound(entries: &[Entry], name: Name) -> bool
 {
     match entries.get(name.0 as usize) {
         None => false,
-        Some(entry) => is_binding(&entry.definition),
+        Some(entry) => entry.definition.is_binding(),
     }
 }
 
@@ -79,8 +74,25 @@ pub fn origin_of(entries: &[Entry], name: Name) -> Option<Origin>
 fn known_origin(entry: &Entry) -> Option<Origin>
     ensures { result ≡ origin_if (is_gone entry.now.definition) entry.now.origin }
 {
-    if is_gone(&entry.definition) {
+    if entry.definition.is_gone() {
         return None;
     }
     Some(entry.origin)
+}
+
+fn own_at(alloc: Global, entries: &[Entry], place: usize) -> Result<Value, AllocError>
+    requires { place < length entries.now }
+    ensures { IfOk result (λ value. bound_in entries.now place ≡ false → unknown_in entries.now place ≡ false → (entry_of entries.now place).definition ≡ defined.Base value) }
+{
+    entries[place].definition.own_value(alloc)
+}
+
+/// The value of a known property that isn't bound.
+pub fn own_value(alloc: Global, entries: &[Entry], name: Name) -> Result<Value, AllocError>
+    requires known { unknown_in entries.now name.0 ≡ false }
+    requires free { bound_in entries.now name.0 ≡ false }
+    ensures { IfOk result (λ value. value ≡ eager entries.now name.0) }
+{
+    let value = own_at(alloc, entries, name.0 as usize)?;
+    Ok(value)
 }

@@ -16,9 +16,8 @@ ghost use Rattle.fx_properties.specs.Users.{Mirrors};
 ghost use Rattle.fx_properties.specs.Changes.{given, with_values, changed};
 ghost use Rattle.fx_graph.specs.Given.{is_plain, ArePlain, AreBase, ArePrepared};
 
-use crate::marking::{finish, mark_one};
-use crate::users::Users;
 use fx_base::{Name, Value};
+use fx_edges::{Users, finish, mark_one};
 use fx_properties::{Definition, Entry, Origin, are_same};
 use std::alloc::{AllocError, Global};
 use std::mem;
@@ -176,7 +175,6 @@ fn apply_values(
     users: &[Users],
     pairs: &[(Name, Value)],
     sets: bool,
-    was: &mut [bool],
     unread: &mut [bool],
     fresh: &mut [Value],
     work: &mut [usize],
@@ -189,12 +187,10 @@ fn apply_values(
     requires distinct { AllPairs (λ (one other : Named × Content). one.0 ≢ other.0) pairs.now }
     requires prepared { ArePrepared 0 (length pairs.now) fresh.old pairs.now }
     requires flags { length unread.old ≡ length entries.old }
-    requires was { length was.old ≡ length entries.old }
     requires places { length fresh.old ≡ length entries.old }
     requires work { length work.old ≡ length entries.old }
     requires newly { length newly.old ≡ length entries.old }
     requires few { length entries.old ≤ 4000000 }
-    ensures was { length was.new ≡ length entries.old }
     ensures places { length fresh.new ≡ length entries.old }
     ensures work { length work.new ≡ length entries.old }
     ensures newly { length newly.new ≡ length entries.old }
@@ -203,10 +199,9 @@ fn apply_values(
     ensures unread { unread.new ≡ after_marking (with_values sets pairs.now entries.old) (changed pairs.now entries.old) unread.old }
     ensures names { numbers (take result newly.new) ≡ newly_marked (with_values sets pairs.now entries.old) (changed pairs.now entries.old) unread.old }
 {
-    was.copy_from_slice(unread);
     let count = mark_changed(entries, pairs, unread, work);
     give(entries, fresh, pairs, sets);
-    finish(entries, users, was, unread, work, newly, count)
+    finish(entries, users, unread, work, newly, count)
 }
 
 /// Gives names their values and marks what changed, and counts the names that became unread.
@@ -216,7 +211,6 @@ pub fn change_values(
     users: &[Users],
     pairs: &[(Name, Value)],
     sets: bool,
-    was: &mut [bool],
     unread: &mut [bool],
     fresh: &mut [Value],
     work: &mut [usize],
@@ -228,12 +222,10 @@ pub fn change_values(
     requires flags { length unread.old ≡ length entries.old }
     requires base { AreBase entries.old pairs.now }
     requires distinct { AllPairs (λ (one other : Named × Content). one.0 ≢ other.0) pairs.now }
-    requires was { length was.old ≡ length entries.old }
     requires places { length fresh.old ≡ length entries.old }
     requires work { length work.old ≡ length entries.old }
     requires newly { length newly.old ≡ length entries.old }
     requires few { length entries.old ≤ 4000000 }
-    ensures was { length was.new ≡ length entries.old }
     ensures places { length fresh.new ≡ length entries.old }
     ensures work { length work.new ≡ length entries.old }
     ensures newly { length newly.new ≡ length entries.old }
@@ -247,5 +239,5 @@ pub fn change_values(
     ensures firm { ArePlain pairs.now → IsOk result }
 {
     prepare(alloc, fresh, pairs)?;
-    Ok(apply_values(entries, users, pairs, sets, was, unread, fresh, work, newly))
+    Ok(apply_values(entries, users, pairs, sets, unread, fresh, work, newly))
 }

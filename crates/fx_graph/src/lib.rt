@@ -3,33 +3,37 @@
 #![tactic(auto)]
 
 mod asking;
+mod binding;
+mod forgetting;
 mod giving;
-mod marking;
-mod newly;
+mod looking;
 mod reading;
 mod refusals;
 mod room;
-mod users;
+mod unbinding;
 
-ghost use Rattle.std.specs.Prelude.{◌≡◌, ◌≢◌, AllPairs, IsOk, true, ◌+◌, ◌≤◌, ◌<◌, length, IfOk, IfErr, OnOk, OnErr, false};
+ghost use Rattle.std.specs.Prelude.{ℕ, map, ◌≡◌, ◌≢◌, AllPairs, IsOk, None, true, ◌+◌, ◌≤◌, ◌<◌, length, IfOk, IfErr, OnOk, OnErr, false};
 ghost use Rattle.fx_base.specs.declared.keys.Name.{Name as Named};
 ghost use Rattle.fx_base.specs.declared.values.Value.{Value as Content};
 ghost use Rattle.fx_base.specs.Printing.{kind_of};
+ghost use Rattle.fx_expr.specs.Tree.{tree, is_within};
 ghost use Rattle.fx_properties.specs.Numbers.{numbers};
-ghost use Rattle.fx_properties.specs.Uses.{bound_in};
-ghost use Rattle.fx_properties.specs.Unread.{marked, IsClosed, bound_unread, evaluations};
+ghost use Rattle.fx_properties.specs.Uses.{Ranked, bound_in, unknown_in};
+ghost use Rattle.fx_properties.specs.Unread.{marked, IsClosed, bound_unread, evaluations, evaluations_of};
 ghost use Rattle.fx_properties.specs.Eager.{eager};
-ghost use Rattle.fx_properties.specs.Sound.{IsAcyclic};
-ghost use Rattle.fx_properties.specs.Changes.{empty, after_declare, after_read, after_values, IsReadInPart};
-ghost use Rattle.fx_properties.specs.Refusals.{IsAnswer, IsFirmAnswer, declare_refusal, unknown_refusal, set_refusal, publish_refusal};
+ghost use Rattle.fx_properties.specs.Equality.{same_kind};
+ghost use Rattle.fx_properties.specs.Sound.{AreSound, IsAcyclic};
+ghost use Rattle.fx_properties.specs.Changes.{empty, after_declare, after_read, after_read_all, after_values, after_bind, after_unbind, after_forget, AreKnown, IsReadInPart, IsSomeRead};
+ghost use Rattle.fx_properties.specs.Refusals.{kind_at, read_only_in, IsAnswer, IsFirmAnswer, declare_refusal, unknown_refusal, set_refusal, publish_refusal, fit_refusal, bind_refusal, unknown_name, IsFree, IsForgetAnswer};
 ghost use Rattle.fx_graph.specs.Given.{ArePlain, AreBase, AreReadOnly};
 ghost use Rattle.fx_graph.specs.Store.{origin_in};
 
 use fx_base::{Kind, Ledgers, Name, Value, Work};
+use fx_edges::{Users, operands_at};
+use fx_expr::Expr;
 use fx_properties::{Definition, Entry, GraphError, Origin};
 use std::alloc::{AllocError, Global};
 use std::marker::Model;
-use users::Users;
 
 /// The most names that are ever declared.
 pub const MOST_NAMES: usize = 4_000_000;
@@ -42,7 +46,7 @@ pub struct Graph {
     entries: Vec<Entry>,
     users: Vec<Users>,
     unread: Vec<bool>,
-    /// The flags before the last change.
+    /// Room for the flags while values are looked at.
     before: Vec<bool>,
     newly: Vec<Name>,
     newly_count: usize,
@@ -194,13 +198,101 @@ impl Graph {
             self.users.as_slice(),
             pairs,
             sets,
-            self.before.as_mut_slice(),
             self.unread.as_mut_slice(),
             self.fresh.as_mut_slice(),
             self.work.as_mut_slice(),
             self.newly.as_mut_slice(),
         )?;
         self.newly_count = count;
+        Ok(())
+    }
+
+    /// Binds the property to the expression over the operands, in place of its value or its binding.
+    pub fn bind(
+        &mut self,
+        alloc: Global,
+        name: Name,
+        expr: Expr,
+        operands: Vec<Name>,
+    ) -> Result<(), GraphError>
+        requires { is_within (tree expr) (length operands.items) ≡ true }
+        ensures answer { IsAnswer (bind_refusal name expr operands.items self.old.entries) result }
+        ensures ok { OnOk result (self.new ≡ after_bind name.0 expr (numbers operands.items) self.old) }
+        ensures err { OnErr result (self.new ≡ self.old) }
+    {
+        let refusal = self.refuses_bind(alloc, name, &expr, operands.as_slice())?;
+        match refusal {
+            Some(refusal) => return Err(refusal),
+            None => {}
+        }
+        self.make_binding(name, expr, operands)?;
+        Ok(())
+    }
+
+    /// Why a name isn't known, the property is read-only, or the expression isn't of its kind, if it is so.
+    pub fn refuses_operands(
+        &self,
+        alloc: Global,
+        name: Name,
+        expr: &Expr,
+        operands: &[Name],
+    ) -> Result<Option<GraphError>, AllocError>
+        requires { is_within (tree expr.now) (length operands.now) ≡ true }
+        ensures { IfOk result (λ refusal. refusal ≡ fit_refusal name expr.now operands.now self.now.entries) }
+    {
+        binding::unfit(alloc, self.entries.as_slice(), name, expr, operands)
+    }
+
+    /// Why the property may not be bound so, if it may not.
+    fn refuses_bind(
+        &mut self,
+        alloc: Global,
+        name: Name,
+        expr: &Expr,
+        operands: &[Name],
+    ) -> Result<Option<GraphError>, AllocError>
+        requires { is_within (tree expr.now) (length operands.now) ≡ true }
+        ensures same { self.new ≡ self.old }
+        ensures refusal { IfOk result (λ refusal. refusal ≡ bind_refusal name expr.now operands.now self.old.entries) }
+    {
+        binding::refusal(
+            alloc,
+            self.entries.as_slice(),
+            self.users.as_slice(),
+            self.work.as_mut_slice(),
+            self.operand_count,
+            name,
+            expr,
+            operands,
+        )
+    }
+
+    fn make_binding(
+        &mut self,
+        name: Name,
+        expr: Expr,
+        operands: Vec<Name>,
+    ) -> Result<(), AllocError>
+        requires places { is_within (tree expr) (length operands.items) ≡ true }
+        requires allowed { bind_refusal name expr operands.items self.old.entries ≡ None }
+        ensures ok { OnOk result (self.new ≡ after_bind name.0 expr (numbers operands.items) self.old) }
+        ensures err { OnErr result (self.new ≡ self.old) }
+    {
+        let place = name.0 as usize;
+        let others = self.operand_count - operands_at(self.entries.as_slice(), place);
+        let total = others + operands.len();
+        let count = binding::bind_name(
+            self.entries.as_mut_slice(),
+            self.users.as_mut_slice(),
+            self.unread.as_mut_slice(),
+            self.work.as_mut_slice(),
+            self.newly.as_mut_slice(),
+            place,
+            expr,
+            operands,
+        )?;
+        self.newly_count = count;
+        self.operand_count = total;
         Ok(())
     }
 
@@ -239,6 +331,150 @@ impl Graph {
         Ok(value)
     }
 
+    /// Reads these properties one after another. Where memory is wanting, some names may have been read.
+    pub fn read_all<L: Ledgers>(
+        &mut self,
+        alloc: Global,
+        names: &[Name],
+        work: &mut Work<L>,
+    ) -> Result<Vec<Value>, AllocError>
+        requires { AreKnown self.old.entries names.now }
+        ensures values { IfOk result (λ values. values.items ≡ map (eager self.old.entries) (numbers names.now)) }
+        ensures ok { OnOk result (self.new ≡ after_read_all (numbers names.now) self.old) }
+        ensures part { IsSomeRead self.old self.new }
+        ensures cost { work.new.evaluated ≤ work.old.evaluated + evaluations_of self.old.entries (numbers names.now) self.old.unread }
+        ensures others { work.new ≡ record work.old { evaluated = work.new.evaluated } }
+    {
+        looking::read_each(
+            alloc,
+            self.entries.as_slice(),
+            self.unread.as_mut_slice(),
+            self.cache.as_mut_slice(),
+            self.work.as_mut_slice(),
+            names,
+            work,
+        )
+    }
+
+    /// The values of these properties, which stay as unread as they are. What is unread is evaluated each time.
+    pub fn look_at<L: Ledgers>(
+        &mut self,
+        alloc: Global,
+        names: &[Name],
+        work: &mut Work<L>,
+    ) -> Result<Vec<Value>, AllocError>
+        requires { AreKnown self.old.entries names.now }
+        ensures same { self.new ≡ self.old }
+        ensures values { IfOk result (λ values. values.items ≡ map (eager self.old.entries) (numbers names.now)) }
+        ensures cost { work.new.evaluated ≤ work.old.evaluated + evaluations_of self.old.entries (numbers names.now) self.old.unread }
+        ensures others { work.new ≡ record work.old { evaluated = work.new.evaluated } }
+    {
+        looking::look_at_each(
+            alloc,
+            self.entries.as_slice(),
+            self.unread.as_mut_slice(),
+            self.before.as_mut_slice(),
+            self.cache.as_mut_slice(),
+            self.work.as_mut_slice(),
+            names,
+            work,
+        )
+    }
+
+    /// Reads a bound property and gives it its value for its own; another one stays as it is. Where memory is wanting,
+    /// some names may have been read.
+    pub fn unbind<L: Ledgers>(
+        &mut self,
+        alloc: Global,
+        name: Name,
+        work: &mut Work<L>,
+    ) -> Result<(), GraphError>
+        ensures answer { IsAnswer (unknown_refusal name self.old.entries) result }
+        ensures ok { OnOk result (self.new ≡ after_unbind name.0 self.old) }
+        ensures memory { result ≡ Err GraphError.Memory → IsReadInPart name.0 self.old self.new }
+        ensures refused { IfErr result (λ error. error ≢ GraphError.Memory → self.new ≡ self.old) }
+        ensures cost { work.new.evaluated ≤ work.old.evaluated + evaluations self.old.entries name.0 self.old.unread }
+        ensures steps { OnOk result (work.new.evaluated + bound_unread self.old.entries self.new.unread ≡ work.old.evaluated + bound_unread self.old.entries self.old.unread) }
+        ensures others { work.new ≡ record work.old { evaluated = work.new.evaluated } }
+    {
+        if asking::is_unknown(self.entries.as_slice(), name) {
+            return Err(GraphError::Unknown(name));
+        }
+        if !asking::is_bound(self.entries.as_slice(), name) {
+            return Ok(());
+        }
+        self.end_binding(alloc, name.0 as usize, work)?;
+        Ok(())
+    }
+
+    fn end_binding<L: Ledgers>(
+        &mut self,
+        alloc: Global,
+        place: usize,
+        work: &mut Work<L>,
+    ) -> Result<(), AllocError>
+        requires { bound_in self.old.entries place ≡ true }
+        ensures ok { OnOk result (self.new ≡ after_unbind place self.old) }
+        ensures part { OnErr result (IsReadInPart place self.old self.new) }
+        ensures cost { work.new.evaluated ≤ work.old.evaluated + evaluations self.old.entries place self.old.unread }
+        ensures steps { OnOk result (work.new.evaluated + bound_unread self.old.entries self.new.unread ≡ work.old.evaluated + bound_unread self.old.entries self.old.unread) }
+        ensures others { work.new ≡ record work.old { evaluated = work.new.evaluated } }
+    {
+        let operands = operands_at(self.entries.as_slice(), place);
+        let left = self.operand_count - operands;
+        unbinding::unbind_name(
+            alloc,
+            self.entries.as_mut_slice(),
+            self.users.as_mut_slice(),
+            self.unread.as_mut_slice(),
+            self.cache.as_mut_slice(),
+            self.work.as_mut_slice(),
+            place,
+            work,
+        )?;
+        self.operand_count = left;
+        Ok(())
+    }
+
+    /// Gives names back, unless a property that stays is bound to one of them. They are never given again.
+    pub fn forget(&mut self, names: &[Name]) -> Result<(), GraphError>
+        ensures answer { IsForgetAnswer names.now self.old.entries result }
+        ensures ok { OnOk result (self.new ≡ after_forget (numbers names.now) self.old) }
+        ensures err { OnErr result (self.new ≡ self.old) }
+    {
+        let refusal = forgetting::refusal(self.entries.as_slice(), self.users.as_slice(), names);
+        if let Some(refusal) = refusal {
+            return Err(refusal);
+        }
+        self.forget_free(names);
+        Ok(())
+    }
+
+    fn forget_free(&mut self, names: &[Name])
+        requires known { unknown_name self.old.entries names.now ≡ None }
+        requires free { IsFree (numbers names.now) self.old.entries }
+        ensures { self.new ≡ after_forget (numbers names.now) self.old }
+    {
+        let left = forgetting::forget_names(
+            self.entries.as_mut_slice(),
+            self.users.as_mut_slice(),
+            self.unread.as_mut_slice(),
+            self.cache.as_mut_slice(),
+            self.operand_count,
+            names,
+        );
+        self.operand_count = left;
+    }
+
+    /// The value of a known property that isn't bound. It stays as unread as it is.
+    pub fn own_value(&self, alloc: Global, name: Name) -> Result<Value, AllocError>
+        requires known { unknown_in self.now.entries name.0 ≡ false }
+        requires free { bound_in self.now.entries name.0 ≡ false }
+        ensures { IfOk result (λ value. value ≡ eager self.now.entries name.0) }
+    {
+        asking::own_value(alloc, self.entries.as_slice(), name)
+    }
+
     /// The names that became unread in the last change, rising.
     pub fn newly(&self) -> &[Name]
         ensures { numbers result.now ≡ self.now.newly }
@@ -251,6 +487,27 @@ impl Graph {
         ensures { result ≡ bound_in self.now.entries name.0 }
     {
         asking::is_bound(self.entries.as_slice(), name)
+    }
+
+    /// Whether the property is only published by the player.
+    pub fn is_read_only(&self, name: Name) -> bool
+        ensures { result ≡ read_only_in self.now.entries name.0 }
+    {
+        asking::is_read_only(self.entries.as_slice(), name)
+    }
+
+    /// Whether the name was never declared, or was forgotten.
+    pub fn is_unknown(&self, name: Name) -> bool
+        ensures { result ≡ unknown_in self.now.entries name.0 }
+    {
+        asking::is_unknown(self.entries.as_slice(), name)
+    }
+
+    /// Whether two known properties are of one kind.
+    pub fn are_of_one_kind(&self, one: Name, other: Name) -> bool
+        ensures { result ≡ same_kind (kind_at self.now.entries one.0) (kind_at self.now.entries other.0) }
+    {
+        refusals::are_of_one_kind(self.entries.as_slice(), one, other)
     }
 
     /// Whether the property may have changed since it was read.
@@ -273,7 +530,15 @@ impl Graph {
         ensures acyclic { IsAcyclic self.now.entries }
         ensures closed { IsClosed self.now.entries self.now.unread }
         ensures flags { length self.now.unread ≡ length self.now.entries }
+        ensures sound { AreSound self.now.entries }
+        ensures ranked { (rank : ℕ → ℕ) × Ranked self.now.entries rank }
+        ensures few { length self.now.entries ≤ 4000000 }
     {
         let _count = self.operand_count;
     }
 }
+
+#[cfg(test)]
+mod forget_tests;
+#[cfg(test)]
+mod tests;

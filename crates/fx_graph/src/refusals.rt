@@ -47,6 +47,13 @@ pub fn kind_of(entries: &[Entry], name: Name) -> Kind
     }
 }
 
+/// Whether the two are of one kind.
+pub fn are_of_one_kind(entries: &[Entry], one: Name, other: Name) -> bool
+    ensures { result ≡ same_kind (kind_at entries.now one.0) (kind_at entries.now other.0) }
+{
+    is_same_kind(kind_of(entries, one), kind_of(entries, other))
+}
+
 fn unknown_pair(entries: &[Entry], pairs: &[(Name, Value)]) -> Option<GraphError>
     ensures { result ≡ unknown_name entries.now (pair_names pairs.now) }
 {

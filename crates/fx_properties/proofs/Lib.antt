@@ -5,8 +5,11 @@ pub mod Edges
 pub mod Flags
 pub mod Forgetting
 pub mod Given
+pub mod Kept
 pub mod KindLemmas
+pub mod ManyReads
 pub mod MarkSteps
+pub mod Marks
 pub mod Members
 pub mod Ranks
 pub mod Reading

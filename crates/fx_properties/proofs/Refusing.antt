@@ -17,7 +17,7 @@ use Rattle.fx_properties.specs.Changes.{with_binding}
 use Rattle.fx_properties.specs.Equality.{same_kind}
 use Rattle.fx_properties.specs.Marking.{IsClosedBut}
 use Rattle.fx_properties.specs.Numbers.{numbers}
-use Rattle.fx_properties.specs.Refusals.{or_else, refused_first, unknown_name, read_only_in, kind_at, pair_names, wrong_kind, set_refusal, publish_refusal, bind_refusal, is_of, fits, operand_count}
+use Rattle.fx_properties.specs.Refusals.{or_else, refused_first, unknown_name, read_only_in, kind_at, pair_names, wrong_kind, set_refusal, publish_refusal, fit_refusal, link_refusal, bind_refusal, is_of, operand_count}
 use Rattle.fx_properties.specs.Unread.{marked, leads_to_any, after_marking}
 use Rattle.fx_properties.specs.Uses.{bound_in, unknown_in, leads}
 use Rattle.fx_properties.proofs.Same.{Decides-kind}
@@ -129,18 +129,18 @@ none_is false error e = cc
 
 pub bindable : (name : Name) (expr : Expr) (operands : List Name) (es : List Entry) → bind_refusal name expr operands es ≡ None
     → Bindable es name.0 expr (numbers operands)
-unfolding bind_refusal
+unfolding bind_refusal fit_refusal link_refusal
 bindable name expr operands es e =
-    let first = or_else_none (unknown_name es (name ∷ operands)) _ e in
+    let whole = or_else_none (fit_refusal name expr operands es) _ e in
+    let first = or_else_none (unknown_name es (name ∷ operands)) _ whole.0 in
     let second = or_else_none (cond (read_only_in es name.0) (Some (ReadOnly name)) None) _ first.1 in
-    let third = or_else_none (cond (fits es name.0 expr (numbers operands)) None (Some (WrongKind name))) _ second.1 in
-    let fourth = or_else_none (refused_first Cycle (λ (operand : Name). leads es operand.0 name.0) operands) _ third.1 in
+    let fourth = or_else_none (refused_first Cycle (λ (operand : Name). leads es operand.0 name.0) operands) _ whole.1 in
     record {
       known = refused_none Unknown (λ (n : Name). unknown_in es n.0) (name ∷ operands) first.0 name (contains_first name operands);
       operands_known = λ o c. of_name (λ n. unknown_in es n)
           (λ n d. refused_none Unknown (λ (m : Name). unknown_in es m.0) (name ∷ operands) first.0 n (contains_later name operands n d)) o c;
       writable = some_is _ _ second.0;
-      kind = of_kind _ _ (none_is _ _ third.0);
+      kind = of_kind _ _ (none_is _ _ second.1);
       free = λ o c. of_name (λ n. leads es n name.0) (refused_none Cycle (λ (m : Name). leads es m.0 name.0) operands fourth.0) o c;
       few = ltb-false _ _ (some_is _ _ fourth.1);
     }

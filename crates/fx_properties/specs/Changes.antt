@@ -1,5 +1,5 @@
 -- What each call makes of the store. Source: JavaFX 21 properties (javafx.beans.property, javafx.beans.binding).
-use Rattle.std.specs.Prelude.{ℕ, ◌≡◌, Bool, true, false, cond, not, List, [], ◌∷◌, ◌++◌, map, filter, slice_set}
+use Rattle.std.specs.Prelude.{ℕ, ◌≡◌, Bool, true, false, All, length, cond, not, List, [], ◌∷◌, ◌++◌, map, filter, slice_set}
 use Rattle.fx_base.specs.declared.keys.Name.{Name}
 use Rattle.fx_base.specs.declared.kinds.Kind.{Kind}
 use Rattle.fx_base.specs.declared.values.Value.{Value}
@@ -8,9 +8,9 @@ use Rattle.fx_properties.specs.declared.entries.Entry.{Entry}
 use Rattle.fx_properties.specs.declared.entries.Origin.TheVariants as origin
 use Rattle.fx_properties.specs.declared.entries.Definition.TheVariants.{Base, Bound, Forgotten}
 use Rattle.fx_properties.specs.Equality.{same_value}
-use Rattle.fx_properties.specs.Uses.{entry_of, bound_in}
+use Rattle.fx_properties.specs.Uses.{entry_of, bound_in, unknown_in}
 use Rattle.fx_properties.specs.Eager.{eager}
-use Rattle.fx_properties.specs.Unread.{after_marking, newly_marked, after_reading, IsPartRead}
+use Rattle.fx_properties.specs.Unread.{marked, after_marking, newly_marked, after_reading, after_reads, IsPartRead}
 
 -- a flag for each entry: the name is unread; and the names that came newly to it in the last change, rising
 pub record State : Type 0 where
@@ -103,4 +103,20 @@ after_forget names state =
 pub record IsReadInPart (name : ℕ) (before now : State) : Type 0 where
   pub entries : now.entries ≡ before.entries
   pub unread : IsPartRead before.entries name before.unread now.unread
+  pub newly : now.newly ≡ before.newly
+
+-- all these names are known
+abbrev pub AreKnown : List Entry → List Name → Type 0
+AreKnown entries names = All (λ (name : Name). unknown_in entries name.0 ≡ false) names
+
+-- all these names are read
+abbrev pub after_read_all : List ℕ → State → State
+after_read_all names state =
+    record { entries = state.entries; unread = after_reads state.entries names state.unread; newly = state.newly }
+
+-- some names were read, and nothing else changed
+pub record IsSomeRead (before now : State) : Type 0 where
+  pub entries : now.entries ≡ before.entries
+  pub flags : length now.unread ≡ length before.unread
+  pub fewer : (name : ℕ) → marked now.unread name ≡ true → marked before.unread name ≡ true
   pub newly : now.newly ≡ before.newly

@@ -86,13 +86,22 @@ unfoldable pub operand_count : List Entry → ℕ
 operand_count [] = 0
 operand_count (entry ∷ entries) = length (operands_in entry.definition) + operand_count entries
 
-unfoldable pub bind_refusal : Name → Expr → List Name → List Entry → Option GraphError
-bind_refusal name expr operands entries =
+-- the names are known, the property may be bound, and the expression has its kind
+unfoldable pub fit_refusal : Name → Expr → List Name → List Entry → Option GraphError
+fit_refusal name expr operands entries =
     or_else (unknown_name entries (name ∷ operands))
     (or_else (cond (read_only_in entries name.0) (Some (ReadOnly name)) None)
-    (or_else (cond (fits entries name.0 expr (numbers operands)) None (Some (WrongKind name)))
-    (or_else (refused_first Cycle (λ (operand : Name). leads entries operand.0 name.0) operands)
-    (cond (nat_lt 1000000 (operand_count (with_binding name.0 expr (numbers operands) entries))) (Some Full) None))))
+    (cond (fits entries name.0 expr (numbers operands)) None (Some (WrongKind name))))
+
+-- no operand reads the property, and there is room for the operands
+unfoldable pub link_refusal : Name → Expr → List Name → List Entry → Option GraphError
+link_refusal name expr operands entries =
+    or_else (refused_first Cycle (λ (operand : Name). leads entries operand.0 name.0) operands)
+    (cond (nat_lt 1000000 (operand_count (with_binding name.0 expr (numbers operands) entries))) (Some Full) None)
+
+unfoldable pub bind_refusal : Name → Expr → List Name → List Entry → Option GraphError
+bind_refusal name expr operands entries =
+    or_else (fit_refusal name expr operands entries) (link_refusal name expr operands entries)
 
 -- of a read or an unbinding
 abbrev pub unknown_refusal : Name → List Entry → Option GraphError

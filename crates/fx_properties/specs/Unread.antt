@@ -26,6 +26,15 @@ abbrev pub after_reading : List Entry → ℕ → List Bool → List Bool
 after_reading entries name flags =
     map (λ (other : ℕ). marked flags other && not (leads entries name other)) (range_with_len 0 (length flags))
 
+-- it is one of these names, or one of them reaches it
+unfoldable pub is_reached : List Entry → List ℕ → ℕ → Bool
+is_reached entries names other = list_any (λ (name : ℕ). leads entries name other) names
+
+-- all of these names and all that they reach are read
+abbrev pub after_reads : List Entry → List ℕ → List Bool → List Bool
+after_reads entries names flags =
+    map (λ (other : ℕ). marked flags other && not (is_reached entries names other)) (range_with_len 0 (length flags))
+
 -- how many of these pass the test
 abbrev pub tally : {X : Type 0} → (X → Bool) → List X → ℕ
 tally test [] = 0
@@ -44,6 +53,12 @@ bound_unread entries flags =
 unfoldable pub evaluations : List Entry → ℕ → List Bool → ℕ
 evaluations entries name flags =
     tally (λ (other : ℕ). bound_in entries other && (marked flags other && leads entries name other))
+    (range_with_len 0 (length entries))
+
+-- how many of them a read of all these names may evaluate
+unfoldable pub evaluations_of : List Entry → List ℕ → List Bool → ℕ
+evaluations_of entries names flags =
+    tally (λ (other : ℕ). bound_in entries other && (marked flags other && is_reached entries names other))
     (range_with_len 0 (length entries))
 
 -- who uses an unread name is unread

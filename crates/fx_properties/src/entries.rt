@@ -1,6 +1,8 @@
 //! The entries of a store of properties (JavaFX `javafx.beans.property`): what defines a property, and where its
 //! value came from last. The property graph keeps one entry for each name.
-ghost use Rattle.std.specs.Prelude.{◌≡◌, IfOk};
+ghost use Rattle.std.specs.Prelude.{◌≡◌, false, IfOk};
+ghost use Rattle.fx_properties.specs.declared.entries.Definition.TheVariants as defined;
+ghost use Rattle.fx_properties.specs.Uses.{is_binding, is_gone};
 ghost use Rattle.fx_properties.specs.Numbers.{numbers};
 ghost use Rattle.fx_properties.specs.Equality.{same_value};
 
@@ -69,6 +71,40 @@ pub enum Definition {
     Bound(Expr, Operands),
     /// Nothing any more: the name was given back, and is never given again.
     Forgotten,
+}
+
+impl Definition {
+    pub fn is_binding(&self) -> bool
+        ensures { result ≡ is_binding self.now }
+    {
+        match self {
+            Definition::Base(_) => false,
+            Definition::Bound(_, _) => true,
+            Definition::Forgotten => false,
+        }
+    }
+
+    /// Whether the name was given back.
+    pub fn is_gone(&self) -> bool
+        ensures { result ≡ is_gone self.now }
+    {
+        match self {
+            Definition::Base(_) => false,
+            Definition::Bound(_, _) => false,
+            Definition::Forgotten => true,
+        }
+    }
+
+    /// A copy of the value, if this is one and no binding.
+    pub fn own_value(&self, alloc: Global) -> Result<Value, AllocError>
+        ensures { IfOk result (λ value. is_binding self.now ≡ false → is_gone self.now ≡ false → self.now ≡ defined.Base value) }
+    {
+        match self {
+            Definition::Base(value) => value.copy(alloc),
+            Definition::Bound(_, _) => Ok(Value::Bool(false)),
+            Definition::Forgotten => Ok(Value::Bool(false)),
+        }
+    }
 }
 
 /// A property of the store.

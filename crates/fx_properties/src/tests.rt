@@ -43,3 +43,13 @@ fn tells_values_apart(rt: HostRuntime) -> Result<(), Fail> {
     assert!(rt; are_same(&Value::Sides(insets), &Value::Sides(insets)));
     Ok(())
 }
+
+#[test]
+fn asks_definitions(rt: HostRuntime) -> Result<(), Fail> {
+    let alloc = rt.alloc();
+    let base = Definition::Base(Value::Int(3));
+    assert!(rt; !base.is_binding() && !base.is_gone());
+    assert!(rt; base.own_value(alloc)? == Value::Int(3));
+    assert!(rt; Definition::Forgotten.is_gone());
+    Ok(())
+}

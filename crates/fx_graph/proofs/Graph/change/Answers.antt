@@ -12,32 +12,30 @@ invariant_of-self c =
     let size = ap length c.as_mut_slice.ensures.value in
     rw (
       with_items_is c.self.inside.entries c.change_values.new.entries (c.change_values.auto.entries ∙ c.as_mut_slice.ensures.len),
-      with_items_is c.self.inside.unread c.change_values.new.unread (c.change_values.auto.unread ∙ c.as_mut_slice-3.ensures.len),
-      with_items_is c.self.inside.before c.change_values.new.was (c.change_values.auto.was ∙ c.as_mut_slice-2.ensures.len),
-      with_items_is c.self.inside.newly c.change_values.new.newly (c.change_values.auto.newly ∙ c.as_mut_slice-6.ensures.len),
-      with_items_is c.self.inside.fresh c.change_values.new.fresh (c.change_values.auto.fresh ∙ c.as_mut_slice-4.ensures.len),
-      with_items_is c.self.inside.work c.change_values.new.work (c.change_values.auto.work ∙ c.as_mut_slice-5.ensures.len),
+      with_items_is c.self.inside.unread c.change_values.new.unread (c.change_values.auto.unread ∙ c.as_mut_slice-2.ensures.len),
+      with_items_is c.self.inside.newly c.change_values.new.newly (c.change_values.auto.newly ∙ c.as_mut_slice-5.ensures.len),
+      with_items_is c.self.inside.fresh c.change_values.new.fresh (c.change_values.auto.fresh ∙ c.as_mut_slice-3.ensures.len),
+      with_items_is c.self.inside.work c.change_values.new.work (c.change_values.auto.work ∙ c.as_mut_slice-4.ensures.len),
       c.in_err-count.ensures.kept_entries ∙ c.as_mut_slice.ensures.value,
-      c.in_err-count.ensures.kept_unread ∙ c.as_mut_slice-3.ensures.value,
-      c.in_err-count.ensures.kept_newly ∙ c.as_mut_slice-6.ensures.value,
+      c.in_err-count.ensures.kept_unread ∙ c.as_mut_slice-2.ensures.value,
+      c.in_err-count.ensures.kept_newly ∙ c.as_mut_slice-5.ensures.value,
     )
-    (store_kept _ _ _ _ _ _ _ _ _ _ _ _ _ c.self.invariant (c.change_values.ensures.was ∙ size) (c.change_values.ensures.places ∙ size) (c.change_values.ensures.work ∙ size))
+    (store_kept _ _ _ _ _ _ _ _ _ _ _ _ _ c.self.invariant c.self.invariant.before_length (c.change_values.ensures.places ∙ size) (c.change_values.ensures.work ∙ size))
 
 pub invariant_of-self-2 : goal.invariant_of-self-2
 invariant_of-self-2 c =
     let size = ap length c.as_mut_slice.ensures.value in
     rw (
       with_items_is c.self.inside.entries c.change_values.new.entries (c.change_values.auto.entries ∙ c.as_mut_slice.ensures.len),
-      with_items_is c.self.inside.unread c.change_values.new.unread (c.change_values.auto.unread ∙ c.as_mut_slice-3.ensures.len),
-      with_items_is c.self.inside.before c.change_values.new.was (c.change_values.auto.was ∙ c.as_mut_slice-2.ensures.len),
-      with_items_is c.self.inside.newly c.change_values.new.newly (c.change_values.auto.newly ∙ c.as_mut_slice-6.ensures.len),
-      with_items_is c.self.inside.fresh c.change_values.new.fresh (c.change_values.auto.fresh ∙ c.as_mut_slice-4.ensures.len),
-      with_items_is c.self.inside.work c.change_values.new.work (c.change_values.auto.work ∙ c.as_mut_slice-5.ensures.len),
+      with_items_is c.self.inside.unread c.change_values.new.unread (c.change_values.auto.unread ∙ c.as_mut_slice-2.ensures.len),
+      with_items_is c.self.inside.newly c.change_values.new.newly (c.change_values.auto.newly ∙ c.as_mut_slice-5.ensures.len),
+      with_items_is c.self.inside.fresh c.change_values.new.fresh (c.change_values.auto.fresh ∙ c.as_mut_slice-3.ensures.len),
+      with_items_is c.self.inside.work c.change_values.new.work (c.change_values.auto.work ∙ c.as_mut_slice-4.ensures.len),
       rw c.as_mut_slice.ensures.value at c.in_ok-count.ensures.entries,
-      rw (c.as_mut_slice.ensures.value, c.as_mut_slice-3.ensures.value) at c.in_ok-count.ensures.unread,
+      rw (c.as_mut_slice.ensures.value, c.as_mut_slice-2.ensures.value) at c.in_ok-count.ensures.unread,
     )
-    (store_given _ _ _ _ _ _ _ _ _ _ c.args.sets c.args.pairs.now _ _ _ _ _ c.self.invariant c.requires.distinct (rw (← c.self.view_is) at c.requires.base)
-    (c.change_values.ensures.was ∙ size) (c.change_values.ensures.newly ∙ size) (rw c.as_mut_slice.ensures.value at c.in_ok-count.ensures.count) (c.change_values.ensures.places ∙ size) (c.change_values.ensures.work ∙ size))
+    (store_given _ _ _ _ _ _ _ _ _ _ c.args.sets c.args.pairs.now _ _ _ _ c.self.invariant c.requires.distinct (rw (← c.self.view_is) at c.requires.base)
+    (c.change_values.ensures.newly ∙ size) (rw c.as_mut_slice.ensures.value at c.in_ok-count.ensures.count) (c.change_values.ensures.places ∙ size) (c.change_values.ensures.work ∙ size))
 
 pub returns-in_err-count-clause-err : goal.returns-in_err-count-clause-err
 returns-in_err-count-clause-err c =
@@ -45,11 +43,11 @@ returns-in_err-count-clause-err c =
     rw (
       p.1,
       with_items_is c.self.inside.entries c.change_values.new.entries (c.change_values.auto.entries ∙ c.as_mut_slice.ensures.len),
-      with_items_is c.self.inside.unread c.change_values.new.unread (c.change_values.auto.unread ∙ c.as_mut_slice-3.ensures.len),
-      with_items_is c.self.inside.newly c.change_values.new.newly (c.change_values.auto.newly ∙ c.as_mut_slice-6.ensures.len),
+      with_items_is c.self.inside.unread c.change_values.new.unread (c.change_values.auto.unread ∙ c.as_mut_slice-2.ensures.len),
+      with_items_is c.self.inside.newly c.change_values.new.newly (c.change_values.auto.newly ∙ c.as_mut_slice-5.ensures.len),
       c.in_err-count.ensures.kept_entries ∙ c.as_mut_slice.ensures.value,
-      c.in_err-count.ensures.kept_unread ∙ c.as_mut_slice-3.ensures.value,
-      c.in_err-count.ensures.kept_newly ∙ c.as_mut_slice-6.ensures.value,
+      c.in_err-count.ensures.kept_unread ∙ c.as_mut_slice-2.ensures.value,
+      c.in_err-count.ensures.kept_newly ∙ c.as_mut_slice-5.ensures.value,
     )
     c.self.view_is
 
@@ -58,10 +56,10 @@ returns-clause-ok c =
     rw (
       ← c.self.view_is,
       with_items_is c.self.inside.entries c.change_values.new.entries (c.change_values.auto.entries ∙ c.as_mut_slice.ensures.len),
-      with_items_is c.self.inside.unread c.change_values.new.unread (c.change_values.auto.unread ∙ c.as_mut_slice-3.ensures.len),
-      with_items_is c.self.inside.newly c.change_values.new.newly (c.change_values.auto.newly ∙ c.as_mut_slice-6.ensures.len),
+      with_items_is c.self.inside.unread c.change_values.new.unread (c.change_values.auto.unread ∙ c.as_mut_slice-2.ensures.len),
+      with_items_is c.self.inside.newly c.change_values.new.newly (c.change_values.auto.newly ∙ c.as_mut_slice-5.ensures.len),
       rw c.as_mut_slice.ensures.value at c.in_ok-count.ensures.entries,
-      rw (c.as_mut_slice.ensures.value, c.as_mut_slice-3.ensures.value) at c.in_ok-count.ensures.unread,
-      rw (c.as_mut_slice.ensures.value, c.as_mut_slice-3.ensures.value) at c.in_ok-count.ensures.names,
+      rw (c.as_mut_slice.ensures.value, c.as_mut_slice-2.ensures.value) at c.in_ok-count.ensures.unread,
+      rw (c.as_mut_slice.ensures.value, c.as_mut_slice-2.ensures.value) at c.in_ok-count.ensures.names,
     )
     refl

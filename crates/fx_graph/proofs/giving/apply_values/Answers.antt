@@ -25,7 +25,7 @@ finish-requires-clause-begun c =
     let pairs = c.args.pairs.now in
     let closed : IsClosedBut (with_values c.args.sets pairs es) c.args.unread.now (changed pairs es) =
     λ user name i on. inl (c.requires.closed user name (uses-given c.args.sets pairs es user name i) on) in
-    rw (c.give.ensures.entries, c.copy_from_slice.ensures.after) (changed pairs es, c.args.work.now, closed, c.mark_changed-count.ensures)
+    rw c.give.ensures.entries (changed pairs es, c.args.work.now, c.args.unread.now, closed, c.mark_changed-count.ensures)
 
 pub returns-clause-unread : goal.returns-clause-unread
 returns-clause-unread c =
@@ -33,7 +33,7 @@ returns-clause-unread c =
     let pairs = c.args.pairs.now in
     let closed : IsClosedBut (with_values c.args.sets pairs es) c.args.unread.now (changed pairs es) =
     λ user name i on. inl (c.requires.closed user name (uses-given c.args.sets pairs es user name i) on) in
-    (rw (c.give.ensures.entries, c.copy_from_slice.ensures.after) at c.finish.ensures.marks) (changed pairs es) c.args.work.now closed c.mark_changed-count.ensures
+    (rw c.give.ensures.entries at c.finish.ensures.marks) (changed pairs es) c.args.work.now c.args.unread.now closed c.mark_changed-count.ensures
 
 pub returns-clause-names : goal.returns-clause-names
 returns-clause-names c =
@@ -41,4 +41,4 @@ returns-clause-names c =
     let pairs = c.args.pairs.now in
     let closed : IsClosedBut (with_values c.args.sets pairs es) c.args.unread.now (changed pairs es) =
     λ user name i on. inl (c.requires.closed user name (uses-given c.args.sets pairs es user name i) on) in
-    (rw (c.give.ensures.entries, c.copy_from_slice.ensures.after) at c.finish.ensures.newly) (changed pairs es) c.args.work.now closed c.mark_changed-count.ensures
+    (rw c.give.ensures.entries at c.finish.ensures.newly) (changed pairs es) c.args.work.now c.args.unread.now closed c.mark_changed-count.ensures

@@ -2,7 +2,8 @@ use Rattle.std.proofs.Common.{◌<◌, length, get_or, ◌∙◌}
 use Rattle.std.proofs.lemmas.List.{get_or_read}
 use Rattle.fx_expr.specs.Meaning.{no_value}
 use Rattle.fx_properties.specs.Numbers.{name_of}
-use Rattle.fx_graph.proofs.ReadLemmas.{number_at, kept_more}
+use Rattle.fx_edges.proofs.RowLemmas.{number_at}
+use Rattle.fx_graph.proofs.ReadLemmas.{kept_more}
 use Rattle.fx_graph.proofs.reading.kept_values.Goals as goal
 
 pub bounds-cache-operand : goal.bounds-cache-operand

@@ -1,0 +1,14 @@
+//! The edges of the property graph: for each property who is bound to it, and marking along them, which looks at no more
+//! than it marks. The graph itself stands on it.
+#![tactic(auto)]
+
+mod counting;
+mod linking;
+mod marking;
+mod newly;
+mod users;
+
+pub use counting::operands_at;
+pub use linking::{release_at, relink};
+pub use marking::{finish, mark_one, spread};
+pub use users::Users;

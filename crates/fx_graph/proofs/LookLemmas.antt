@@ -1,0 +1,109 @@
+-- Several names read one after another, and flags that are put back.
+use Rattle.std.proofs.Common.{◌≡◌, ◌≤◌, ◌<◌, ◌+◌, ℕ, refl, Bool, true, false, not, List, [], ◌∷◌, ◌++◌, length, map, take, drop, sym, ap, subst, ◌∙◌, arith}
+use Rattle.std.specs.List.{Contains}
+use Rattle.std.proofs.lemmas.Bool.{and_parts, both_ways}
+use Rattle.std.proofs.lemmas.List.{map-append, take-append-drop}
+use Rattle.std.proofs.lemmas.List.Elements.{All-contains, Contains-append_left}
+use Rattle.fx_properties.specs.Changes.{AreKnown, IsSomeRead}
+use Rattle.fx_properties.specs.Uses.{unknown_in}
+use Rattle.fx_properties.proofs.Changed.{known_within}
+use Rattle.fx_properties.proofs.Members.{map_contains}
+use Rattle.fx_base.specs.declared.keys.Name.{Name}
+use Rattle.fx_base.specs.declared.values.Value.{Value}
+use Rattle.fx_properties.specs.declared.entries.Entry.{Entry}
+use Rattle.fx_properties.specs.Numbers.{numbers}
+use Rattle.fx_properties.specs.Eager.{eager}
+use Rattle.fx_properties.specs.Unread.{marked, after_reading, after_reads, bound_unread, evaluations, evaluations_of, is_reached, IsClosed}
+use Rattle.fx_properties.specs.Sound.{IsSettled}
+use Rattle.fx_properties.proofs.ManyReads.{evaluations_more, evaluations_push, marked-reads, reads_again, reads_none, reads_push, reads_spent}
+
+not_marked : (before now : Bool) → (now ≡ true → before ≡ true) → before ≡ false → now ≡ false
+not_marked before true fewer off = absurd (both_ways before off (fewer refl))
+not_marked before false fewer off = refl
+
+-- what was read keeps its value where the flags are those of before
+pub settled_restored : (es : List Entry) (before now : List Bool) (cache cache' : List Value) → IsSettled es before cache
+    → IsSettled es now cache' → ((name : ℕ) → marked now name ≡ true → marked before name ≡ true) → IsSettled es before cache'
+settled_restored es before now cache cache' s t fewer =
+    record {
+      flags = s.flags;
+      values = t.values;
+      closed = s.closed;
+      kept = λ name h off. t.kept name h (not_marked (marked before name) (marked now name) (fewer name) off);
+    }
+
+-- these names were read, and their values stand in a list
+pub record Reads (entries : List Entry) (names : List ℕ) (before now : List Bool) (cache values : List Value) (cost cost' : ℕ) : Type 0 where
+  pub settled : IsSettled entries now cache
+  pub flags : now ≡ after_reads entries names before
+  pub listed : values ≡ map (eager entries) names
+  pub steps : cost' + bound_unread entries now ≡ cost + bound_unread entries before
+
+pub reads_start : (es : List Entry) (flags : List Bool) (cache : List Value) (cost : ℕ) → IsSettled es flags cache
+    → Reads es [] flags flags cache [] cost cost
+reads_start es flags cache cost s = record { settled = s; flags = sym (reads_none es flags); listed = refl; steps = refl }
+
+-- one name more is read
+pub reads_more : (es : List Entry) (names : List ℕ) (name : ℕ) (before now now' : List Bool) (cache cache' values : List Value) (value : Value) (cost cost' cost'' : ℕ)
+    → Reads es names before now cache values cost cost' → IsSettled es now' cache' → now' ≡ after_reading es name now → value ≡ eager es name
+    → cost'' + bound_unread es now' ≡ cost' + bound_unread es now
+    → Reads es (names ++ name ∷ []) before now' cache' (values ++ value ∷ []) cost cost''
+reads_more es names name before now now' cache cache' values value cost cost' cost'' r s read here spent =
+    record {
+      settled = s;
+      flags = read ∙ ap (after_reading es name) r.flags ∙ reads_push es names name before;
+      listed = ap (λ (vs : List Value). vs ++ value ∷ []) r.listed ∙ ap (λ (v : Value). map (eager es) names ++ v ∷ []) here ∙ sym (map-append (eager es) names (name ∷ []));
+      steps = spent ∙ r.steps;
+    }
+
+pub reads_spent_all : (es : List Entry) (names all : List ℕ) (before now : List Bool) (cache values : List Value) (cost cost' : ℕ)
+    → Reads es names before now cache values cost cost' → ((n : ℕ) → Contains names n → Contains all n)
+    → cost' ≤ cost + evaluations_of es all before
+reads_spent_all es names all before now cache values cost cost' r within =
+    let exact : cost' ≡ cost + evaluations_of es names before =
+    reads_spent es names before cost cost' (subst (λ (f : List Bool). cost' + bound_unread es f ≡ cost + bound_unread es before) r.flags r.steps) in
+    let more : evaluations_of es names before ≤ evaluations_of es all before = evaluations_more es names all before within in
+    omega arith
+
+pub reads_fewer : (es : List Entry) (names : List ℕ) (before now : List Bool) (cache values : List Value) (cost cost' : ℕ)
+    → Reads es names before now cache values cost cost' → (other : ℕ) → marked now other ≡ true → marked before other ≡ true
+reads_fewer es names before now cache values cost cost' r other on =
+    (and_parts (marked before other) (not (is_reached es names other)) (sym (marked-reads es names before other) ∙ sym (ap (λ (f : List Bool). marked f other) r.flags) ∙ on)).0
+
+-- the first so many of some names are among them
+pub first_names : (names : List Name) (k n : ℕ) → Contains (numbers (take k names)) n → Contains (numbers names) n
+first_names names k n c =
+    subst (λ (xs : List ℕ). Contains xs n)
+    (sym (map-append (λ (name : Name). name.0) (take k names) (drop k names)) ∙ ap numbers (take-append-drop k names))
+    (Contains-append_left (numbers (take k names)) (numbers (drop k names)) n c)
+
+-- nothing was unread
+pub reads_unchanged : (es : List Entry) (done all : List ℕ) (before now : List Bool) (cache values : List Value) (cost cost' : ℕ)
+    → Reads es done before now cache values cost cost' → IsClosed es before → ((n : ℕ) → Contains done n → Contains all n)
+    → ((n : ℕ) → Contains all n → marked before n ≡ false) → now ≡ before
+reads_unchanged es done all before now cache values cost cost' r closed within off =
+    r.flags ∙ reads_again es done before closed (λ n c. off n (within n c))
+
+-- a read that was stopped by want of memory
+pub reads_stopped : (es : List Entry) (done all : List ℕ) (name : ℕ) (before now : List Bool) (cache values : List Value) (cost cost' cost'' : ℕ)
+    → Reads es done before now cache values cost cost' → ((n : ℕ) → Contains (done ++ name ∷ []) n → Contains all n)
+    → cost'' ≤ cost' + evaluations es name now → cost'' ≤ cost + evaluations_of es all before
+reads_stopped es done all name before now cache values cost cost' cost'' r within last =
+    let all_done : cost' ≡ cost + evaluations_of es done before =
+    reads_spent es done before cost cost' (subst (λ (f : List Bool). cost' + bound_unread es f ≡ cost + bound_unread es before) r.flags r.steps) in
+    let one : evaluations_of es done before + evaluations es name now ≡ evaluations_of es (done ++ name ∷ []) before =
+    ap (λ (f : List Bool). evaluations_of es done before + evaluations es name f) r.flags ∙ evaluations_push es done name before in
+    let more : evaluations_of es (done ++ name ∷ []) before ≤ evaluations_of es all before = evaluations_more es (done ++ name ∷ []) all before within in
+    omega arith
+
+-- known names have a place each
+pub known_names : (es : List Entry) (names : List Name) → AreKnown es names → (n : ℕ) → Contains (numbers names) n → n < length es
+known_names es names known n c =
+    let found = map_contains (λ (name : Name). name.0) names n c in
+    known_within es n (ap (unknown_in es) (sym found.2) ∙ All-contains (λ (name : Name). unknown_in es name.0 ≡ false) names found.0 known found.1)
+
+-- only flags changed, and fewer are set
+pub some_read : (es : List Entry) (newly : List ℕ) (before now : List Bool) → length now ≡ length before
+    → ((n : ℕ) → marked now n ≡ true → marked before n ≡ true)
+    → IsSomeRead (record { entries = es; unread = before; newly = newly }) (record { entries = es; unread = now; newly = newly })
+some_read es newly before now long fewer = record { entries = refl; flags = long; fewer = fewer; newly = refl }

@@ -1,0 +1,7 @@
+use Rattle.std.proofs.Common.{◌≡◌, map, take}
+use Rattle.fx_properties.specs.Numbers.{numbers}
+use Rattle.fx_properties.specs.Refusals.{kind_at}
+use Rattle.fx_graph.proofs.binding.kinds_of.Given as goal
+
+abbrev pub invariant-loop-operand : goal.invariant-loop-operand
+invariant-loop-operand l = l.kinds.items ≡ map (kind_at l.entries) (numbers (take l.operand-index l.operands))

@@ -1,0 +1,8 @@
+use Rattle.std.proofs.Common.{ℕ, take, Contains}
+use Rattle.fx_properties.specs.Numbers.{numbers}
+use Rattle.fx_properties.specs.Users.{users_of}
+use Rattle.fx_graph.proofs.forgetting.bound_outside.Given as goal
+
+abbrev pub invariant-loop-name : goal.invariant-loop-name
+invariant-loop-name l =
+    (name user : ℕ) → Contains (numbers (take l.name-index l.names)) name → Contains (users_of l.users name) user → Contains (numbers l.names) user

@@ -1,0 +1,35 @@
+#!/bin/bash
+# Counts the instructions that the property graph takes: for each name of a chain of 10,000 bound ones that is marked by a change and
+# evaluated by the read after it, for a read of a name that isn't unread, for each of 10,000 users that a change marks,
+# for a change that marks none of them, and for each name that a refused binding looks at.
+# It builds crates/graph_bench with `rt run`, and needs valgrind.
+set -euo pipefail
+crate="$(cd "$(dirname "$0")/../crates/graph_bench" && pwd)"
+program="$crate/out/graph_bench"
+(cd "$crate" && rt run -- chain 1 0 0 0 >/dev/null 2>&1)
+counts="$(mktemp -d)"
+trap 'rm -r "$counts"' EXIT
+
+# the instructions of the whole program for a shape, names, sets, reads and bindings
+instructions() {
+    valgrind --tool=callgrind --callgrind-out-file="$counts/out" "$program" "$@" 2>"$counts/log" >/dev/null
+    sed -n 's/^summary: //p' "$counts/out"
+}
+
+chain=$(instructions chain 10000 0 0 0)
+evaluated=$(instructions chain 10000 10 0 0)
+read=$(instructions chain 10000 0 10000 0)
+refused=$(instructions chain 10000 0 0 10)
+star=$(instructions star 10000 0 0 0)
+marked=$(instructions star 10000 1 0 0)
+again=$(instructions star 10000 1001 0 0)
+few=$(instructions star 10 1001 0 0)
+few_once=$(instructions star 10 1 0 0)
+awk -v chain="$chain" -v evaluated="$evaluated" -v read="$read" -v refused="$refused" -v star="$star" -v marked="$marked" \
+    -v again="$again" -v few="$few" -v few_once="$few_once" 'BEGIN {
+    printf "marked and evaluated %.1f instructions a name of a chain\n", (evaluated - chain) / 10 / 10000
+    printf "read again           %.1f instructions a read\n", (read - chain) / 10000
+    printf "refused              %.1f instructions a name of the cycle\n", (refused - chain) / 10 / 10000
+    printf "marked               %.1f instructions a user\n", (marked - star) / 10000
+    printf "set and read one     %.1f instructions under 10,000 users that are unread, %.1f under 10\n", (again - marked) / 1000, (few - few_once) / 1000
+}'

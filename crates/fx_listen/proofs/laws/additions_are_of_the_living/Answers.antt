@@ -1,0 +1,5 @@
+use Rattle.fx_listen.proofs.LivingLemmas.{living_in-placed}
+use Rattle.fx_listen.proofs.laws.additions_are_of_the_living.Goals as goal
+
+pub returns : goal.returns
+returns c = living_in-placed

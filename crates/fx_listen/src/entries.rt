@@ -1,0 +1,272 @@
+//! One listener, and what is found among listeners that are sorted by property. `Listeners` keeps one such list.
+ghost use Rattle.std.specs.Prelude.{◌≡◌, ◌==◌, false, ◌&&◌, ◌++◌, ◌<◌, ◌≤◌, drop, filter, length, map, position, slice_range, take, vec_capacity, vec_len, IfNone, IfOk, IfSome, OnErr, OnOk};
+ghost use Rattle.std.specs.List.{list_any};
+ghost use Rattle.fx_listen.specs.Listening.{has_life, is_elsewhere, is_equal, is_live, living_in, numbers_of, placed, pruned, tells, without_first};
+ghost use Rattle.fx_listen.specs.Sorting.{IsByName, IsFirst, is_above, is_below, is_from, is_heard, is_on, is_upto};
+
+use fx_base::Name;
+use fx_handles::{Owner, Owners};
+use std::alloc::{AllocError, Global};
+
+/// How a listener is told of a change, as by JavaFX's `InvalidationListener` and `ChangeListener`.
+#[derive(Clone, Copy, PartialEq, Eq, Debug)]
+pub enum ListenKind {
+    /// Once when the value may have changed, and again only after it was read.
+    Invalid,
+    /// At each change, with the values before and after.
+    Change,
+}
+
+/// Who is told of a property's changes.
+#[derive(Clone, Copy, PartialEq, Eq, Debug)]
+pub struct Listener {
+    /// Which listener it is, from 1 on; no other listener has this number.
+    pub number: u32,
+    pub name: Name,
+    pub kind: ListenKind,
+    /// With whom the listener dies, if with anybody.
+    pub owner: Option<Owner>,
+    /// What the listener was added with.
+    pub tag: u32,
+}
+
+/// Whether there is no owner, or a living one.
+pub fn has_life(owners: &Owners, owner: Option<Owner>) -> bool
+    ensures { result ≡ has_life owners.now.living owner }
+{
+    match owner {
+        None => true,
+        Some(owner) => owners.is_live(owner),
+    }
+}
+
+impl Listener {
+    fn is_live(&self, owners: &Owners) -> bool
+        ensures { result ≡ is_live owners.now.living self.now }
+    {
+        has_life(owners, self.owner)
+    }
+
+    fn is_heard(&self, owners: &Owners, kind: ListenKind) -> bool
+        ensures { result ≡ is_heard owners.now.living kind self.now }
+    {
+        self.kind == kind && self.is_live(owners)
+    }
+
+    fn tells(&self, name: Name, kind: ListenKind) -> bool
+        ensures { result ≡ tells name.0 kind self.now }
+    {
+        self.name == name && self.kind == kind
+    }
+
+    fn is_equal(&self, name: Name, kind: ListenKind, owner: Option<Owner>, tag: u32) -> bool
+        ensures { result ≡ is_equal name.0 kind owner tag self.now }
+    {
+        self.tells(name, kind) && self.owner == owner && self.tag == tag
+    }
+}
+
+/// How many listeners stand on properties before this one.
+fn count_below(listeners: &[Listener], name: Name) -> usize
+    requires { IsByName listeners.now }
+    ensures bound { result ≤ length listeners.now }
+    ensures front { take result listeners.now ≡ filter (is_below name.0) listeners.now }
+    ensures rest { drop result listeners.now ≡ filter (is_from name.0) listeners.now }
+{
+    listeners.partition_point(|listener| listener.name.0 < name.0)
+}
+
+/// How many listeners stand on this property and those before.
+fn count_upto(listeners: &[Listener], name: Name) -> usize
+    requires { IsByName listeners.now }
+    ensures bound { result ≤ length listeners.now }
+    ensures front { take result listeners.now ≡ filter (is_upto name.0) listeners.now }
+    ensures rest { drop result listeners.now ≡ filter (is_above name.0) listeners.now }
+{
+    listeners.partition_point(|listener| listener.name.0 <= name.0)
+}
+
+/// Where the listeners of the property stand: from the first place to before the second, found by binary searches.
+fn places_on(listeners: &[Listener], name: Name) -> (usize, usize)
+    requires { IsByName listeners.now }
+    ensures order { result.0 ≤ result.1 }
+    ensures bound { result.1 ≤ length listeners.now }
+    ensures before { take result.0 listeners.now ≡ filter (is_below name.0) listeners.now }
+    ensures found { slice_range listeners.now result.0 result.1 ≡ filter (is_on name.0) listeners.now }
+    ensures behind { drop result.1 listeners.now ≡ filter (is_above name.0) listeners.now }
+    ensures others { take result.0 listeners.now ++ drop result.1 listeners.now ≡ filter (is_elsewhere name.0) listeners.now }
+{
+    (count_below(listeners, name), count_upto(listeners, name))
+}
+
+/// The listeners of the property.
+pub fn listeners_on(listeners: &[Listener], name: Name) -> &[Listener]
+    requires { IsByName listeners.now }
+    ensures { result.now ≡ filter (is_on name.0) listeners.now }
+{
+    let (first, next) = places_on(listeners, name);
+    &listeners[first..next]
+}
+
+/// The numbers of those that live and are told in this way.
+pub fn numbers_heard(
+    alloc: Global,
+    owners: &Owners,
+    listeners: &[Listener],
+    kind: ListenKind,
+) -> Result<Vec<u32>, AllocError>
+    ensures { IfOk result (λ numbers. numbers.items ≡ numbers_of (filter (is_heard owners.now.living kind) listeners.now)) }
+{
+    listeners
+        .iter()
+        .filter(|listener| listener.is_heard(owners, kind))
+        .map(|listener| listener.number)
+        .collect(alloc)
+}
+
+/// Those that live and are told in this way.
+pub fn heard(
+    alloc: Global,
+    owners: &Owners,
+    listeners: &[Listener],
+    kind: ListenKind,
+) -> Result<Vec<Listener>, AllocError>
+    ensures { IfOk result (λ found. found.items ≡ filter (is_heard owners.now.living kind) listeners.now) }
+{
+    listeners
+        .iter()
+        .copied()
+        .filter(|listener| listener.is_heard(owners, kind))
+        .collect(alloc)
+}
+
+/// Whether some of them lives and is told in this way.
+pub fn is_any_heard(owners: &Owners, listeners: &[Listener], kind: ListenKind) -> bool
+    ensures { result ≡ list_any (is_heard owners.now.living kind) listeners.now }
+{
+    listeners
+        .iter()
+        .any(|listener| listener.is_heard(owners, kind))
+}
+
+/// Whether the listener of this number is among them and lives.
+pub fn is_listening(owners: &Owners, listeners: &[Listener], number: u32) -> bool
+    ensures { result ≡ list_any (λ listener. (listener.number == number) && is_live owners.now.living listener) listeners.now }
+{
+    listeners.iter().any(|listener| listener.number == number && listener.is_live(owners))
+}
+
+/// How many of them live.
+pub fn count_live(owners: &Owners, listeners: &[Listener]) -> usize
+    ensures { result ≡ length (living_in owners.now.living listeners.now) }
+{
+    listeners
+        .iter()
+        .filter(|listener| listener.is_live(owners))
+        .count()
+}
+
+/// The place of the first equal one among those of one property.
+fn place_among(
+    listeners: &[Listener],
+    name: Name,
+    kind: ListenKind,
+    owner: Option<Owner>,
+    tag: u32,
+) -> Option<usize>
+    ensures { result ≡ position (is_equal name.0 kind owner tag) listeners.now }
+{
+    listeners
+        .iter()
+        .position(|listener| listener.is_equal(name, kind, owner, tag))
+}
+
+/// The place of the first equal one.
+pub fn place_of(
+    listeners: &[Listener],
+    name: Name,
+    kind: ListenKind,
+    owner: Option<Owner>,
+    tag: u32,
+) -> Option<usize>
+    requires { IsByName listeners.now }
+    ensures first { IfSome result (IsFirst (is_equal name.0 kind owner tag) listeners.now) }
+    ensures none { IfNone result (list_any (is_equal name.0 kind owner tag) listeners.now ≡ false) }
+{
+    let (first, next) = places_on(listeners, name);
+    let place = place_among(&listeners[first..next], name, kind, owner, tag)?;
+    Some(first + place)
+}
+
+/// Takes the dead out where they are more than half.
+fn prune(listeners: &mut Vec<Listener>, owners: &Owners, live: usize)
+    requires { live ≡ length (living_in owners.now.living listeners.old.items) }
+    ensures pruned { listeners.new.items ≡ pruned owners.now.living listeners.old.items }
+    ensures room { vec_capacity listeners.new ≡ vec_capacity listeners.old }
+    ensures fewer { vec_len listeners.new ≤ vec_len listeners.old }
+{
+    if live < listeners.len() - live {
+        listeners.retain(|listener| listener.is_live(owners));
+    }
+}
+
+/// Puts the listener behind all on its property, where there is room.
+fn insert(listeners: &mut Vec<Listener>, listener: Listener)
+    requires sorted { IsByName listeners.old.items }
+    requires room { vec_len listeners.old < vec_capacity listeners.old }
+    ensures { listeners.new.items ≡ placed listener listeners.old.items }
+{
+    let place = count_upto(listeners.as_slice(), listener.name);
+    match listeners.insert(place, listener) {
+        Ok(()) => {}
+        Err(_) => unreachable!(),
+    }
+}
+
+/// Adds the listener where so many live, or leaves all as it was.
+pub fn add(
+    listeners: &mut Vec<Listener>,
+    owners: &Owners,
+    live: usize,
+    listener: Listener,
+) -> Result<(), AllocError>
+    requires sorted { IsByName listeners.old.items }
+    requires counted { live ≡ length (living_in owners.now.living listeners.old.items) }
+    ensures ok { OnOk result (listeners.new.items ≡ placed listener (pruned owners.now.living listeners.old.items)) }
+    ensures err { OnErr result (listeners.new.items ≡ listeners.old.items) }
+{
+    listeners.reserve(1)?;
+    prune(listeners, owners, live);
+    insert(listeners, listener);
+    Ok(())
+}
+
+/// Takes out the first equal one, and answers whether there was one.
+pub fn remove_first(
+    listeners: &mut Vec<Listener>,
+    name: Name,
+    kind: ListenKind,
+    owner: Option<Owner>,
+    tag: u32,
+) -> bool
+    requires { IsByName listeners.old.items }
+    ensures found { result ≡ list_any (is_equal name.0 kind owner tag) listeners.old.items }
+    ensures removed { listeners.new.items ≡ without_first (is_equal name.0 kind owner tag) listeners.old.items }
+{
+    match place_of(listeners.as_slice(), name, kind, owner, tag) {
+        None => false,
+        Some(place) => {
+            listeners.remove(place);
+            true
+        }
+    }
+}
+
+/// Takes out all on the property.
+pub fn forget(listeners: &mut Vec<Listener>, name: Name)
+    requires { IsByName listeners.old.items }
+    ensures { listeners.new.items ≡ filter (is_elsewhere name.0) listeners.old.items }
+{
+    let (first, next) = places_on(listeners.as_slice(), name);
+    listeners.drain(first..next);
+}

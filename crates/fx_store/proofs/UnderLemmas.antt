@@ -1,0 +1,344 @@
+-- The changes that mark names, once they are made in the graph: what is owed to whoever tells of them.
+use Rattle.std.proofs.Common.{◌≡◌, ℕ, ◌+◌, ◌≤◌, ◌⊎◌, Bool, true, false, List, [], ◌∷◌, ◌++◌, Contains, Option, Some, None, Err, Vec, Global, arith, refl, sym, subst, ap, inl, inr, ◌∙◌}
+use Rattle.std.proofs.lemmas.List.Elements.{All-contains}
+use Rattle.fx_base.specs.declared.keys.Name.{Name}
+use Rattle.fx_base.specs.declared.values.Value.{Value}
+use Rattle.fx_changes.specs.declared.changes.Change.{Change}
+use Rattle.fx_changes.specs.declared.changes.Change.TheVariants.{Set, Publish, Bind, Pair}
+use Rattle.fx_changes.specs.declared.changes.Notices.{Notices}
+use Rattle.fx_changes.specs.declared.errors.StoreError.{StoreError}
+use Rattle.fx_changes.specs.declared.errors.StoreError.TheVariants as error
+use Rattle.fx_changes.specs.Applied.{Applied}
+use Rattle.fx_changes.specs.Causes.{of_graph}
+use Rattle.fx_changes.specs.Refusals.{IsAnswer, IsChangeAnswer, bind_refusal, of_graph_refusal, pair_refusal, refusal}
+use Rattle.fx_changes.specs.Step.{IsFit, due}
+use Rattle.fx_changes.specs.Stored.{Stored}
+use Rattle.fx_changes.proofs.Grouping.{IsGroup}
+use Rattle.fx_expr.specs.declared.tree.Expr.{Expr}
+use Rattle.fx_handles.specs.Living.{Register}
+use Rattle.fx_listen.specs.declared.entries.Listener.{Listener}
+use Rattle.fx_listen.specs.Listening.{Table, living_in}
+use Rattle.fx_pairs.specs.Pairs.{is_paired, joined}
+use Rattle.fx_properties.specs.declared.errors.GraphError.{GraphError}
+use Rattle.fx_properties.specs.Changes.{AreKnown, State, after_bind, after_values}
+use Rattle.fx_properties.specs.Eager.{eager}
+use Rattle.fx_properties.specs.Numbers.{numbers}
+use Rattle.fx_properties.specs.Refusals.{publish_refusal, read_only_in, set_refusal}
+use Rattle.fx_properties.specs.Refusals as graph_refusals
+use Rattle.fx_properties.specs.Sound.{AreSound}
+use Rattle.fx_properties.specs.Uses.{unknown_in}
+use Rattle.fx_store.specs.Groups.{AreJoinedWith}
+use Rattle.fx_store.specs.Kept.{IsKept, stored_of}
+use Rattle.fx_store.specs.UnderWay.{IsUnderWay}
+use Rattle.fx_store.specs.Watching.{IsWatch, watch_list}
+use Rattle.fx_store.proofs.Answering.{ArePairable, answer_err, answer_ok, bind_free, graph_err, graph_short, pairable, published_only}
+use Rattle.fx_store.proofs.Ending.{memory_answer}
+use Rattle.fx_store.proofs.Grouped.{all_but, joined_group, pair_group, pair_unrefused, with_value_of}
+use Rattle.fx_store.proofs.Lasting.{kept_bound, kept_paired, kept_published, kept_set}
+use Rattle.fx_store.proofs.Made.{made_bind, made_pair_group, made_publish, made_set_group}
+use Rattle.fx_store.proofs.MarkLemmas.{step_failed}
+use Rattle.fx_store.proofs.Pairing.{pair_test}
+use Rattle.fx_store.proofs.Staying.{known_living}
+use Rattle.fx_store.proofs.Stepping.{step_unmade}
+use Rattle.fx_store.proofs.Twins.{group_unrefused, set_settable, settable_own}
+use Rattle.fx_store.proofs.Watched.{watch_known, watch_list-push}
+use Rattle.fx_store.proofs.WatchLemmas.{known_names}
+
+-- all was looked at that may be told of, and no more was evaluated than was due
+pub record IsLooked (before : Stored) (names : List Name) (heard : List Listener) (values : List Value) (began looked : ℕ) : Type 0 where
+  pub watch : IsWatch before.entries before.pairs before.listeners heard names values
+  pub few : looked ≤ began + due before
+
+-- the watched names are known
+pub under_known : (change : Change) (before : Stored) (graph : State) (pairs : List (ℕ × ℕ)) (table : Table) (owners : Register) (names : List Name)
+    (heard : List Listener) (values : List Value) (began looked : ℕ)
+    → IsUnderWay change before graph pairs table owners (numbers names) heard values began looked → AreKnown graph.entries names
+under_known change before graph pairs table owners names heard values began looked under =
+    let live : List Listener = living_in owners.living table.entries in
+    known_names graph.entries names (watch_list pairs live) under.watched
+    (watch_known graph.entries pairs live under.kept.twins (known_living graph.entries owners.living table.entries under.kept.known))
+
+module _ (graph : State) (pairs : List (ℕ × ℕ)) (table : Table) (owners : Register) (behind : Bool) where
+  abbrev seen : Stored
+  seen = stored_of graph pairs table owners
+
+  abbrev Under : Change → Stored → State → List (ℕ × ℕ) → List Name → List Listener → List Value → ℕ → ℕ → Type 0
+  Under change before now some names heard values began looked =
+      IsUnderWay change before now some table owners (numbers names) heard values began looked
+
+  -- the graph and what was seen before, by their equals
+  by_equals : (change : Change) (before : Stored) (now made : State) (some : List (ℕ × ℕ)) (names : List Name) (heard : List Listener)
+      (values : List Value) (began looked : ℕ) → seen ≡ before → now ≡ made → Under change seen made some names heard values began looked
+      → Under change before now some names heard values began looked
+  by_equals change before now made some names heard values began looked view same under =
+      subst (λ (state : State). Under change before state some names heard values began looked) (sym same)
+      (subst (λ (stored : Stored). Under change stored made some names heard values began looked) view under)
+
+  looked_at : (before : Stored) (names : List Name) (heard : List Listener) (values : List Value) (began looked : ℕ) → seen ≡ before
+      → IsLooked before names heard values began looked → IsLooked seen names heard values began looked
+  looked_at before names heard values began looked view look =
+      subst (λ (stored : Stored). IsLooked stored names heard values began looked) (sym view) look
+
+  fit_only : (before : Stored) (words : Vec (Name × Value) Global) → seen ≡ before → IsFit (Publish words) before
+      → publish_refusal words.items graph.entries ≡ None
+      → (pair : Name × Value) → Contains words.items pair → read_only_in graph.entries pair.0.0 ≡ true
+  fit_only before words view fit none =
+      let all = (subst (λ (stored : Stored). IsFit (Publish words) stored) (sym view) fit).1 in
+      published_only words.items graph.entries none
+      (λ pair c.
+      All-contains (λ (p : Name × Value). unknown_in graph.entries p.0.0 ≡ false → read_only_in graph.entries p.0.0 ≡ true) words.items pair
+      all c)
+
+  -- each as the names and values were lent
+
+  pub under_publish : (before : Stored) (now : State) (words : Vec (Name × Value) Global) (lent : List (Name × Value)) (names : List Name)
+      (heard : List Listener) (values : List Value) (began looked : ℕ) → seen ≡ before → IsKept graph pairs table owners behind
+      → IsLooked before names heard values began looked → IsFit (Publish words) before → lent ≡ words.items
+      → publish_refusal lent graph.entries ≡ None → now ≡ after_values false lent graph
+      → Under (Publish words) before now pairs names heard values began looked
+  unfolding refusal
+  under_publish before now words lent names heard values began looked view kept look fit loan unrefused made =
+      let here = looked_at before names heard values began looked view look in
+      let is = made_publish graph pairs table owners words in
+      let none : publish_refusal words.items graph.entries ≡ None =
+      subst (λ ws. publish_refusal ws graph.entries ≡ None) loan unrefused in
+      by_equals (Publish words) before now (after_values false words.items graph) pairs names heard values began looked view
+      (made ∙ ap (λ ws. after_values false ws graph) loan)
+      (record {
+        allowed = λ notices. answer_ok Notices (of_graph_refusal (publish_refusal words.items graph.entries)) notices (ap of_graph_refusal none);
+        silent = refl;
+        kept = kept_published pairs table owners graph behind kept words.items (fit_only before words view fit none);
+        whole = is.whole;
+        newly_told = is.newly_told;
+        watched = here.watch.watched;
+        values_before = here.watch.values;
+        few = here.few;
+      })
+
+  pub under_bind : (before : Stored) (now : State) (name : Name) (expr : Expr) (operands : Vec Name Global) (names : List Name)
+      (heard : List Listener) (values : List Value) (began looked : ℕ) → seen ≡ before → IsKept graph pairs table owners behind
+      → IsLooked before names heard values began looked → is_paired before.pairs name.0 ≡ false
+      → graph_refusals.bind_refusal name expr operands.items graph.entries ≡ None
+      → now ≡ after_bind name.0 expr (numbers operands.items) graph
+      → Under (Bind name expr operands) before now pairs names heard values began looked
+  unfolding refusal
+  under_bind before now name expr operands names heard values began looked view kept look unpaired none made =
+      let free : is_paired pairs name.0 ≡ false = ap (λ (stored : Stored). is_paired stored.pairs name.0) view ∙ unpaired in
+      let here = looked_at before names heard values began looked view look in
+      let is = made_bind graph pairs table owners name expr operands in
+      by_equals (Bind name expr operands) before now (after_bind name.0 expr (numbers operands.items) graph) pairs names heard values began looked
+      view made
+      (record {
+        allowed = λ notices.
+            answer_ok Notices (bind_refusal name expr operands.items graph.entries pairs) notices
+            (bind_free name expr operands.items graph.entries pairs free ∙ ap of_graph_refusal none);
+        silent = refl;
+        kept = kept_bound pairs table owners graph behind kept name.0 expr (numbers operands.items) free;
+        whole = is.whole;
+        newly_told = is.newly_told;
+        watched = here.watch.watched;
+        values_before = here.watch.values;
+        few = here.few;
+      })
+
+  pub under_set : (before : Stored) (now : State) (name : Name) (value : Value) (group : List (Name × Value)) (names : List Name)
+      (heard : List Listener) (values : List Value) (began looked : ℕ) → seen ≡ before → IsKept graph pairs table owners behind
+      → IsLooked before names heard values began looked → IsGroup group (joined pairs name.0) value graph.entries
+      → set_refusal ((name, value) ∷ []) before.entries ≡ None → now ≡ after_values true group graph
+      → Under (Set name value) before now pairs names heard values began looked
+  unfolding refusal
+  under_set before now name value group names heard values began looked view kept look g unrefused made =
+      let none : set_refusal ((name, value) ∷ []) graph.entries ≡ None =
+      subst (λ (stored : Stored). set_refusal ((name, value) ∷ []) stored.entries ≡ None) (sym view) unrefused in
+      let here = looked_at before names heard values began looked view look in
+      let is = made_set_group graph pairs table owners name value group kept.twins g in
+      by_equals (Set name value) before now (after_values true group graph) pairs names heard values began looked view made
+      (record {
+        allowed = λ notices.
+            answer_ok Notices (of_graph_refusal (set_refusal ((name, value) ∷ []) graph.entries)) notices (ap of_graph_refusal none);
+        silent = refl;
+        kept = kept_set pairs table owners graph behind kept name.0 value group g;
+        whole = is.whole;
+        newly_told = is.newly_told;
+        watched = here.watch.watched;
+        values_before = here.watch.values;
+        few = here.few;
+      })
+
+  -- both ends of the further pair are watched
+  pub pair_watch : (before : Stored) (one other : Name) (names more : List Name) (heard : List Listener) (values : List Value)
+      (began looked : ℕ) → seen ≡ before → IsLooked before names heard values began looked
+      → numbers more ≡ numbers names ++ one.0 ∷ other.0 ∷ []
+      → IsWatch graph.entries (pairs ++ (one.0, other.0) ∷ []) (living_in owners.living table.entries) heard more values
+  pair_watch before one other names more heard values began looked view look push =
+      let here = looked_at before names heard values began looked view look in
+      record {
+        listening = here.watch.listening;
+        watched = push ∙ ap (λ ns. ns ++ one.0 ∷ other.0 ∷ []) here.watch.watched
+            ∙ sym (watch_list-push pairs (living_in owners.living table.entries) one.0 other.0);
+        values = here.watch.values;
+      }
+
+  pub under_pair : (before : Stored) (now : State) (some : List (ℕ × ℕ)) (one other : Name) (group : List (Name × Value))
+      (names more : List Name) (heard : List Listener) (values : List Value) (began looked : ℕ) → seen ≡ before
+      → IsKept graph pairs table owners behind → IsLooked before names heard values began looked
+      → numbers more ≡ numbers names ++ one.0 ∷ other.0 ∷ []
+      → IsGroup group (pair_test pairs one.0 other.0) (eager graph.entries other.0) graph.entries
+      → pair_refusal one other before.entries before.pairs ≡ None → now ≡ after_values true group graph
+      → some ≡ pairs ++ (one.0, other.0) ∷ [] → Under (Pair one other) before now some more heard values began looked
+  unfolding refusal
+  under_pair before now some one other group names more heard values began looked view kept look push g unrefused made added =
+      let none : pair_refusal one other graph.entries pairs ≡ None =
+      subst (λ (stored : Stored). pair_refusal one other stored.entries stored.pairs ≡ None) (sym view) unrefused in
+      let here = looked_at before names heard values began looked view look in
+      let able : ArePairable graph.entries pairs one.0 other.0 = pairable one other graph.entries pairs none in
+      let is = made_pair_group graph pairs table owners one other group kept.twins able.differ g in
+      let watch = pair_watch before one other names more heard values began looked view look push in
+      subst (λ (ps : List (ℕ × ℕ)). Under (Pair one other) before now ps more heard values began looked) (sym added)
+      (by_equals (Pair one other) before now (after_values true group graph) (pairs ++ (one.0, other.0) ∷ []) more heard values began looked
+      view made
+      (record {
+        allowed = λ notices. answer_ok Notices (pair_refusal one other graph.entries pairs) notices none;
+        silent = refl;
+        kept = kept_paired pairs table owners graph behind kept one.0 other.0 able group g;
+        whole = is.whole;
+        newly_told = is.newly_told;
+        watched = watch.watched;
+        values_before = watch.values;
+        few = here.few;
+      }))
+
+  -- where a change fails
+
+  pub failed_publish : (before : Stored) (words : Vec (Name × Value) Global) (lent : List (Name × Value)) (cause : GraphError) (now : State)
+      (began looked : ℕ) → seen ≡ before → lent ≡ words.items
+      → graph_refusals.IsAnswer {T = Unit {0}} (publish_refusal lent graph.entries) (Err cause) → now ≡ graph → looked ≤ began + due before
+      → Applied (Publish words) before (stored_of now pairs table owners) (Err (of_graph cause)) began looked
+  unfolding refusal
+  failed_publish before words lent cause now began looked view loan answer same few =
+      step_failed (Publish words) before (stored_of now pairs table owners) (of_graph cause) began looked
+      (subst (λ (stored : Stored). IsAnswer {T = Notices} (of_graph_refusal (publish_refusal words.items stored.entries)) (Err (of_graph cause))) view
+      (graph_err (Unit {0}) Notices (publish_refusal words.items graph.entries) cause
+      (subst (λ ws. graph_refusals.IsAnswer {T = Unit {0}} (publish_refusal ws graph.entries) (Err cause)) loan answer)))
+      (ap (λ (state : State). stored_of state pairs table owners) same ∙ view) few
+
+  pub failed_bind : (before : Stored) (name : Name) (expr : Expr) (operands : Vec Name Global) (cause : GraphError) (now : State)
+      (began looked : ℕ) → seen ≡ before → is_paired before.pairs name.0 ≡ false
+      → graph_refusals.IsAnswer {T = Unit {0}} (graph_refusals.bind_refusal name expr operands.items graph.entries) (Err cause) → now ≡ graph
+      → looked ≤ began + due before
+      → Applied (Bind name expr operands) before (stored_of now pairs table owners) (Err (of_graph cause)) began looked
+  unfolding refusal
+  failed_bind before name expr operands cause now began looked view unpaired answer same few =
+      let free : is_paired pairs name.0 ≡ false = ap (λ (stored : Stored). is_paired stored.pairs name.0) view ∙ unpaired in
+      step_failed (Bind name expr operands) before (stored_of now pairs table owners) (of_graph cause) began looked
+      (subst (λ (stored : Stored). IsAnswer {T = Notices} (bind_refusal name expr operands.items stored.entries stored.pairs) (Err (of_graph cause))) view
+      (subst (λ (refused : Option StoreError). IsAnswer {T = Notices} refused (Err (of_graph cause)))
+      (sym (bind_free name expr operands.items graph.entries pairs free))
+      (graph_err (Unit {0}) Notices (graph_refusals.bind_refusal name expr operands.items graph.entries) cause answer)))
+      (ap (λ (state : State). stored_of state pairs table owners) same ∙ view) few
+
+  -- a group that isn't refused wants memory
+  pub failed_set : (change : Change) (before : Stored) (lent : List (Name × Value)) (cause : GraphError) (now : State) (began looked : ℕ)
+      → seen ≡ before → set_refusal lent graph.entries ≡ None
+      → graph_refusals.IsAnswer {T = Unit {0}} (set_refusal lent graph.entries) (Err cause) → now ≡ graph → looked ≤ began + due before
+      → Applied change before (stored_of now pairs table owners) (Err (of_graph cause)) began looked
+  failed_set change before lent cause now began looked view none answer same few =
+      subst (λ (e : StoreError). Applied change before (stored_of now pairs table owners) (Err e) began looked)
+      (sym (graph_short (Unit {0}) (set_refusal lent graph.entries) cause none answer))
+      (step_unmade change before (stored_of now pairs table owners) began looked
+      (ap (λ (state : State). stored_of state pairs table owners) same ∙ view) few)
+
+  pub refused_set : (before : Stored) (name : Name) (value : Value) (refused : GraphError) (cause : StoreError) (began : ℕ) → seen ≡ before
+      → set_refusal ((name, value) ∷ []) graph.entries ≡ Some refused → cause ≡ of_graph refused
+      → Applied (Set name value) before before (Err cause) began began
+  unfolding refusal
+  refused_set before name value refused cause began view some same =
+      step_failed (Set name value) before before cause began began
+      (subst (λ (stored : Stored). IsAnswer {T = Notices} (of_graph_refusal (set_refusal ((name, value) ∷ []) stored.entries)) (Err cause)) view
+      (answer_err Notices (of_graph_refusal (set_refusal ((name, value) ∷ []) graph.entries)) cause
+      (ap of_graph_refusal some ∙ ap Some (sym same))))
+      refl (omega arith)
+
+  pub refused_pair : (before : Stored) (one other : Name) (cause : StoreError) (began : ℕ) → seen ≡ before
+      → pair_refusal one other graph.entries pairs ≡ Some cause → Applied (Pair one other) before before (Err cause) began began
+  unfolding refusal
+  refused_pair before one other cause began view some =
+      step_failed (Pair one other) before before cause began began
+      (subst (λ (stored : Stored). IsAnswer {T = Notices} (pair_refusal one other stored.entries stored.pairs) (Err cause)) view
+      (answer_err Notices (pair_refusal one other graph.entries pairs) cause some))
+      refl (omega arith)
+
+  -- the names that are joined, each with the value, as they were found
+
+  pub set_values : (before : Stored) (name : Name) (value : Value) (lent : List (Name × Value)) → seen ≡ before
+      → IsKept graph pairs table owners behind → set_refusal ((name, value) ∷ []) before.entries ≡ None
+      → ((names : List Name) × AreJoinedWith pairs name.0 names × (lent ≡ with_value_of value names))
+      → IsGroup lent (joined pairs name.0) value graph.entries
+  set_values before name value lent view kept unrefused found =
+      subst (λ (vs : List (Name × Value)). IsGroup vs (joined pairs name.0) value graph.entries) (sym found.2)
+      (joined_group graph.entries pairs kept.twins name.0 value
+      (settable_own graph.entries name.0 value
+      (set_settable graph.entries name value
+      (subst (λ (stored : Stored). set_refusal ((name, value) ∷ []) stored.entries ≡ None) (sym view) unrefused)))
+      found.0 found.1.members found.1.distinct)
+
+  pub set_unrefused : (before : Stored) (name : Name) (value : Value) (lent : List (Name × Value)) → seen ≡ before
+      → IsKept graph pairs table owners behind → set_refusal ((name, value) ∷ []) before.entries ≡ None
+      → IsGroup lent (joined pairs name.0) value graph.entries → set_refusal lent graph.entries ≡ None
+  set_unrefused before name value lent view kept unrefused group =
+      group_unrefused graph.entries pairs kept.twins name value
+      (subst (λ (stored : Stored). set_refusal ((name, value) ∷ []) stored.entries ≡ None) (sym view) unrefused) lent group
+
+  pub pair_able : (before : Stored) (one other : Name) → seen ≡ before → pair_refusal one other before.entries before.pairs ≡ None
+      → ArePairable graph.entries pairs one.0 other.0
+  pair_able before one other view unrefused =
+      pairable one other graph.entries pairs
+      (subst (λ (stored : Stored). pair_refusal one other stored.entries stored.pairs ≡ None) (sym view) unrefused)
+
+  pub pair_values : (before : Stored) (one other : Name) (lent : List (Name × Value)) → seen ≡ before
+      → IsKept graph pairs table owners behind → pair_refusal one other before.entries before.pairs ≡ None
+      → ((names : List Name) × AreJoinedWith pairs one.0 names
+      × (lent ≡ with_value_of (eager graph.entries other.0) (all_but other.0 names)))
+      → IsGroup lent (pair_test pairs one.0 other.0) (eager graph.entries other.0) graph.entries
+  pair_values before one other lent view kept unrefused found =
+      subst (λ (vs : List (Name × Value)). IsGroup vs (pair_test pairs one.0 other.0) (eager graph.entries other.0) graph.entries)
+      (sym found.2)
+      (pair_group graph.entries pairs kept.twins one.0 other.0 (eager graph.entries other.0) (pair_able before one other view unrefused).one_own
+      found.0 found.1.members found.1.distinct)
+
+  pub pair_group_unrefused : (before : Stored) (one other : Name) (lent : List (Name × Value)) → seen ≡ before
+      → IsKept graph pairs table owners behind → AreSound graph.entries → pair_refusal one other before.entries before.pairs ≡ None
+      → IsGroup lent (pair_test pairs one.0 other.0) (eager graph.entries other.0) graph.entries → set_refusal lent graph.entries ≡ None
+  pair_group_unrefused before one other lent view kept sound unrefused group =
+      let able : ArePairable graph.entries pairs one.0 other.0 = pair_able before one other view unrefused in
+      pair_unrefused graph.entries pairs kept.twins sound one.0 other.0 able.one_own able.other_own able.kind lent group
+
+  pub failed_pair : (before : Stored) (one other : Name) (cause : StoreError) (now : State) (some : List (ℕ × ℕ)) (began looked : ℕ)
+      → seen ≡ before → cause ≡ error.Memory → now ≡ graph → some ≡ pairs → looked ≤ began + due before
+      → Applied (Pair one other) before (stored_of now some table owners) (Err cause) began looked
+  failed_pair before one other cause now some began looked view short same still few =
+      subst (λ (e : StoreError). Applied (Pair one other) before (stored_of now some table owners) (Err e) began looked) (sym short)
+      (step_unmade (Pair one other) before (stored_of now some table owners) began looked
+      (ap (λ (state : State). stored_of state some table owners) same
+      ∙ ap (λ (ps : List (ℕ × ℕ)). stored_of graph ps table owners) still ∙ view) few)
+
+pub refused_bind : (before : Stored) (name : Name) (expr : Expr) (operands : Vec Name Global) (lent : List Name) (cause : StoreError) (began : ℕ)
+    → lent ≡ operands.items
+    → (cause ≡ error.Memory) ⊎ (Some cause ≡ bind_refusal name expr lent before.entries before.pairs)
+    → Applied (Bind name expr operands) before before (Err cause) began began
+unfolding refusal
+refused_bind before name expr operands lent cause began loan why =
+    step_failed (Bind name expr operands) before before cause began began
+    (elim why [
+      | inl short ↦
+          subst (λ (e : StoreError). IsChangeAnswer {T = Notices} (Bind name expr operands) before (Err e)) (sym short)
+          (memory_answer (Bind name expr operands) before)
+      | inr some ↦
+          answer_err Notices (bind_refusal name expr operands.items before.entries before.pairs) cause
+          (ap (λ (ns : List Name). bind_refusal name expr ns before.entries before.pairs) (sym loan) ∙ sym some)
+    ])
+    refl (omega arith)
+
+pub not_some : {X : Type 0} (found : Option X) → ((x : X) → found ≡ Some x → ⊥) → found ≡ None
+not_some None never = refl
+not_some (Some x) never = absurd (never x refl)

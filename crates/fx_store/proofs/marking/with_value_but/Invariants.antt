@@ -1,0 +1,7 @@
+use Rattle.std.proofs.Common.{◌≡◌, ◌==◌, not, filter, map, take}
+use Rattle.fx_base.specs.declared.keys.Name.{Name}
+use Rattle.fx_store.proofs.marking.with_value_but.Given as goal
+
+abbrev pub invariant-loop-name : goal.invariant-loop-name
+invariant-loop-name l =
+    l.pairs.items ≡ map (λ (name : Name). (name, l.value)) (filter (λ (name : Name). not (name.0 == l.other.0)) (take l.name-index l.names))

@@ -1,0 +1,4 @@
+pub mod Groups
+pub mod Kept
+pub mod UnderWay
+pub mod Watching

@@ -1,0 +1,319 @@
+//! Changes that make properties unread. Each looks at what it may tell of, makes the change in one call of the graph, and
+//! tells.
+ghost use Rattle.std.specs.Prelude.{ℕ, List, ◌≡◌, ◌≢◌, ◌≤◌, ◌+◌, ◌++◌, ◌∷◌, ◌==◌, ◌⊎◌, [], false, true, not, cond, filter, AllPairs, IfErr, IfOk, None, OnErr, OnOk, Some, length, map};
+ghost use Rattle.fx_base.specs.declared.keys.Name.{Name as Named};
+ghost use Rattle.fx_base.specs.declared.values.Value.{Value as Content};
+ghost use Rattle.fx_expr.specs.Tree.{is_within, tree};
+ghost use Rattle.fx_listen.specs.Listening.{living_in};
+ghost use Rattle.fx_pairs.specs.Pairs.{is_paired};
+ghost use Rattle.fx_properties.specs.declared.entries.Entry.{Entry};
+ghost use Rattle.fx_properties.specs.Changes.{AreKnown, after_values};
+ghost use Rattle.fx_properties.specs.Eager.{eager};
+ghost use Rattle.fx_properties.specs.Numbers.{numbers};
+ghost use Rattle.fx_properties.specs.Refusals.{set_refusal};
+ghost use Rattle.fx_properties.specs.Uses.{bound_in, unknown_in};
+ghost use Rattle.fx_changes.specs.Applied.{Applied};
+ghost use Rattle.fx_changes.specs.declared.changes.Change.{Change as Changing};
+ghost use Rattle.fx_changes.specs.declared.changes.Change.TheVariants as change;
+ghost use Rattle.fx_changes.specs.Refusals.{bind_refusal, of_graph_refusal, or_else};
+ghost use Rattle.fx_changes.specs.Step.{IsFit, due};
+ghost use Rattle.fx_changes.specs.Stored.{Stored};
+ghost use Rattle.fx_store.specs.Groups.{AreJoinedWith};
+ghost use Rattle.fx_store.specs.Kept.{IsKept, stored_of};
+ghost use Rattle.fx_store.specs.UnderWay.{IsUnderWay};
+ghost use Rattle.fx_store.specs.Watching.{IsWatch, watch_list};
+
+use crate::refusing::of_pair;
+use crate::store::Store;
+use crate::telling::tell;
+use crate::watching::{Watched, push_two, watch};
+use fx_base::{Ledgers, Name, Value, Work};
+use fx_changes::{Notices, StoreError};
+use fx_expr::Expr;
+use fx_graph::Graph;
+use fx_handles::Owners;
+use fx_listen::Listeners;
+use fx_pairs::Pairs;
+use fx_properties::GraphError;
+use std::alloc::{AllocError, Global};
+
+/// The value for each of the names.
+fn with_value(
+    alloc: Global,
+    names: &[Name],
+    value: &Value,
+) -> Result<Vec<(Name, Value)>, AllocError>
+    ensures { IfOk result (λ pairs. pairs.items ≡ map (λ (name : Named). (name, value.now)) names.now) }
+{
+    let mut pairs = Vec::with_capacity(alloc, names.len())?;
+    for name in names {
+        pairs.push((*name, value.copy(alloc)?))?;
+    }
+    Ok(pairs)
+}
+
+/// Puts the name and the value behind the pairs, unless it is this other name.
+fn push_unless(
+    alloc: Global,
+    pairs: &mut Vec<(Name, Value)>,
+    name: Name,
+    other: Name,
+    value: &Value,
+) -> Result<(), AllocError>
+    ensures { OnOk result (pairs.new.items ≡ cond (name.0 == other.0) pairs.old.items (pairs.old.items ++ (name, value.now) ∷ [])) }
+{
+    if name.0 == other.0 {
+        return Ok(());
+    }
+    pairs.push((name, value.copy(alloc)?))?;
+    Ok(())
+}
+
+/// The value for each of the names but this one.
+fn with_value_but(
+    alloc: Global,
+    names: &[Name],
+    other: Name,
+    value: &Value,
+) -> Result<Vec<(Name, Value)>, AllocError>
+    ensures { IfOk result (λ pairs. pairs.items ≡ map (λ (name : Named). (name, value.now)) (filter (λ (name : Named). not (name.0 == other.0)) names.now)) }
+{
+    let mut pairs = Vec::with_capacity(alloc, names.len())?;
+    for name in names {
+        push_unless(alloc, &mut pairs, *name, other, value)?;
+    }
+    Ok(pairs)
+}
+
+/// The value for each name that is joined with this one.
+fn group_values(
+    alloc: Global,
+    pairs: &Pairs,
+    name: Name,
+    value: &Value,
+) -> Result<Vec<(Name, Value)>, AllocError>
+    ensures { IfOk result (λ values. (names : List Named) × AreJoinedWith pairs.now name.0 names × (values.items ≡ map (λ (other : Named). (other, value.now)) names)) }
+{
+    let group = pairs.group(alloc, name)?;
+    with_value(alloc, group.as_slice(), value)
+}
+
+/// The second property's value for each name that is joined with the first, but for the second.
+fn other_values(
+    alloc: Global,
+    graph: &Graph,
+    pairs: &Pairs,
+    one: Name,
+    other: Name,
+) -> Result<Vec<(Name, Value)>, AllocError>
+    requires known { unknown_in graph.now.entries other.0 ≡ false }
+    requires free { bound_in graph.now.entries other.0 ≡ false }
+    ensures { IfOk result (λ values. (names : List Named) × AreJoinedWith pairs.now one.0 names × (values.items ≡ map (λ (name : Named). (name, eager graph.now.entries other.0)) (filter (λ (name : Named). not (name.0 == other.0)) names))) }
+{
+    let value = graph.own_value(alloc, other)?;
+    let group = pairs.group(alloc, one)?;
+    with_value_but(alloc, group.as_slice(), other, &value)
+}
+
+/// Adds the pair and gives the names these values, or leaves all as it was.
+fn join(
+    alloc: Global,
+    graph: &mut Graph,
+    pairs: &mut Pairs,
+    one: Name,
+    other: Name,
+    values: &[(Name, Value)],
+) -> Result<(), StoreError>
+    requires distinct { AllPairs (λ (first second : Named × Content). first.0 ≢ second.0) values.now }
+    requires allowed { set_refusal values.now graph.old.entries ≡ None }
+    ensures graph { OnOk result (graph.new ≡ after_values true values.now graph.old) }
+    ensures pairs { OnOk result (pairs.new ≡ pairs.old ++ (one.0, other.0) ∷ []) }
+    ensures same_graph { OnErr result (graph.new ≡ graph.old) }
+    ensures same_pairs { OnErr result (pairs.new ≡ pairs.old) }
+    ensures memory { IfErr result (λ error. error ≡ StoreError.Memory) }
+{
+    pairs.add(one, other)?;
+    if let Err(error) = graph.set_group(alloc, values) {
+        pairs.remove_last();
+        return Err(StoreError::from(error));
+    }
+    Ok(())
+}
+
+/// Tells of a change that was made in the graph, and reads every watched property. The store is behind until then.
+fn finish<L: Ledgers>(
+    alloc: Global,
+    graph: &mut Graph,
+    listeners: &Listeners,
+    owners: &Owners,
+    behind: &mut bool,
+    watch: &Watched,
+    work: &mut Work<L>,
+) -> Result<Notices, StoreError>
+    requires known { AreKnown graph.old.entries watch.now.names.items }
+    requires watch { (entries : List Entry) × (pairs : List (ℕ × ℕ)) × IsWatch entries pairs (living_in owners.now.living listeners.now.entries) watch.now.heard.items watch.now.names.items watch.now.before.items }
+    ensures kept { (pairs : List (ℕ × ℕ)) → IsKept graph.old pairs listeners.now owners.now true → numbers watch.now.names.items ≡ watch_list pairs (living_in owners.now.living listeners.now.entries) → IsKept graph.new pairs listeners.now owners.now behind.new }
+    ensures told { (change : Changing) → (before : Stored) → (pairs : List (ℕ × ℕ)) → (began : ℕ) → IsUnderWay change before graph.old pairs listeners.now owners.now (numbers watch.now.names.items) watch.now.heard.items watch.now.before.items began work.old.evaluated → Applied change before (stored_of graph.new pairs listeners.now owners.now) result began work.new.evaluated }
+    ensures others { work.new ≡ record work.old { evaluated = work.new.evaluated } }
+{
+    *behind = true;
+    let notices = tell(alloc, graph, listeners, owners, watch, work)?;
+    *behind = false;
+    Ok(notices)
+}
+
+/// The refusal, if there is one, and else that the name is in a pair.
+fn unfit_or_mixed(refusal: Option<GraphError>, name: Name) -> StoreError
+    ensures { Some result ≡ or_else (of_graph_refusal refusal) (Some (StoreError.Mixed name)) }
+{
+    match refusal {
+        Some(refusal) => StoreError::from(refusal),
+        None => StoreError::Mixed(name),
+    }
+}
+
+impl Store {
+    /// Looks at what a change may tell of; nothing is read.
+    fn look<L: Ledgers>(&mut self, alloc: Global, work: &mut Work<L>) -> Result<Watched, AllocError>
+        ensures same { self.new ≡ self.old }
+        ensures watch { IfOk result (λ watch. IsWatch self.old.entries self.old.pairs self.old.listeners watch.heard.items watch.names.items watch.before.items) }
+        ensures cost { work.new.evaluated ≤ work.old.evaluated + due self.old }
+        ensures others { work.new ≡ record work.old { evaluated = work.new.evaluated } }
+    {
+        watch(
+            alloc,
+            &mut self.graph,
+            self.pairs.as_slice(),
+            &self.listeners,
+            &self.owners,
+            work,
+        )
+    }
+
+    pub(crate) fn set<L: Ledgers>(
+        &mut self,
+        alloc: Global,
+        name: Name,
+        value: Value,
+        work: &mut Work<L>,
+    ) -> Result<Notices, StoreError>
+        ensures applied { Applied (change.Set name value) self.old self.new result work.old.evaluated work.new.evaluated }
+        ensures others { work.new ≡ record work.old { evaluated = work.new.evaluated } }
+    {
+        let given = [(name, value)];
+        if let Some(refusal) = self.graph.refuses_set(&given) {
+            return Err(StoreError::from(refusal));
+        }
+        let watch = self.look(alloc, work)?;
+        let values = group_values(alloc, &self.pairs, name, &given[0].1)?;
+        self.graph.set_group(alloc, values.as_slice())?;
+        finish(
+            alloc,
+            &mut self.graph,
+            &self.listeners,
+            &self.owners,
+            &mut self.behind,
+            &watch,
+            work,
+        )
+    }
+
+    pub(crate) fn publish<L: Ledgers>(
+        &mut self,
+        alloc: Global,
+        pairs: Vec<(Name, Value)>,
+        work: &mut Work<L>,
+    ) -> Result<Notices, StoreError>
+        requires { IsFit (change.Publish pairs) self.old }
+        ensures applied { Applied (change.Publish pairs) self.old self.new result work.old.evaluated work.new.evaluated }
+        ensures others { work.new ≡ record work.old { evaluated = work.new.evaluated } }
+    {
+        let watch = self.look(alloc, work)?;
+        self.graph.publish(alloc, pairs.as_slice())?;
+        finish(
+            alloc,
+            &mut self.graph,
+            &self.listeners,
+            &self.owners,
+            &mut self.behind,
+            &watch,
+            work,
+        )
+    }
+
+    pub(crate) fn bind<L: Ledgers>(
+        &mut self,
+        alloc: Global,
+        name: Name,
+        expr: Expr,
+        operands: Vec<Name>,
+        work: &mut Work<L>,
+    ) -> Result<Notices, StoreError>
+        requires { is_within (tree expr) (length operands.items) ≡ true }
+        ensures applied { Applied (change.Bind name expr operands) self.old self.new result work.old.evaluated work.new.evaluated }
+        ensures others { work.new ≡ record work.old { evaluated = work.new.evaluated } }
+    {
+        if self.pairs.is_paired(name) {
+            return Err(self.mixed(alloc, name, &expr, operands.as_slice()));
+        }
+        let watch = self.look(alloc, work)?;
+        self.graph.bind(alloc, name, expr, operands)?;
+        finish(
+            alloc,
+            &mut self.graph,
+            &self.listeners,
+            &self.owners,
+            &mut self.behind,
+            &watch,
+            work,
+        )
+    }
+
+    /// Why a paired property may not be bound: what doesn't fit comes first.
+    fn mixed(&self, alloc: Global, name: Name, expr: &Expr, operands: &[Name]) -> StoreError
+        requires within { is_within (tree expr.now) (length operands.now) ≡ true }
+        requires paired { is_paired self.now.pairs name.0 ≡ true }
+        ensures { (result ≡ StoreError.Memory) ⊎ (Some result ≡ bind_refusal name expr.now operands.now self.now.entries self.now.pairs) }
+    {
+        match self.graph.refuses_operands(alloc, name, expr, operands) {
+            Err(error) => StoreError::from(error),
+            Ok(refusal) => unfit_or_mixed(refusal, name),
+        }
+    }
+
+    pub(crate) fn pair<L: Ledgers>(
+        &mut self,
+        alloc: Global,
+        one: Name,
+        other: Name,
+        work: &mut Work<L>,
+    ) -> Result<Notices, StoreError>
+        ensures applied { Applied (change.Pair one other) self.old self.new result work.old.evaluated work.new.evaluated }
+        ensures others { work.new ≡ record work.old { evaluated = work.new.evaluated } }
+    {
+        if let Some(refusal) = of_pair(&self.graph, &self.pairs, one, other) {
+            return Err(refusal);
+        }
+        let mut watch = self.look(alloc, work)?;
+        self.graph.laws();
+        let values = other_values(alloc, &self.graph, &self.pairs, one, other)?;
+        push_two(&mut watch.names, one, other)?;
+        join(
+            alloc,
+            &mut self.graph,
+            &mut self.pairs,
+            one,
+            other,
+            values.as_slice(),
+        )?;
+        finish(
+            alloc,
+            &mut self.graph,
+            &self.listeners,
+            &self.owners,
+            &mut self.behind,
+            &watch,
+            work,
+        )
+    }
+}

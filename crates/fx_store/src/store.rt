@@ -1,0 +1,198 @@
+//! The store itself: its parts, what contracts see of them, and the calls that change nothing but one part.
+ghost use Rattle.std.specs.Prelude.{ℕ, ◌≡◌, ◌≢◌, ◌≤◌, ◌+◌, ◌↔◌, ◌==◌, ◌⊎◌, [], ◌∷◌, true, All, Contains, Err, IfErr, IfOk, IsTrue, OnErr, OnOk, length};
+ghost use Rattle.std.specs.List.{list_any};
+ghost use Rattle.fx_base.specs.Printing.{kind_of};
+ghost use Rattle.fx_graph.specs.Store.{origin_in};
+ghost use Rattle.fx_handles.specs.Living.{after_make};
+ghost use Rattle.fx_listen.specs.Listening.{is_live};
+ghost use Rattle.fx_properties.specs.Eager.{eager};
+ghost use Rattle.fx_properties.specs.Refusals.{declare_refusal, read_only_in};
+ghost use Rattle.fx_properties.specs.Unread.{after_reading, evaluations, marked};
+ghost use Rattle.fx_properties.specs.Uses.{bound_in};
+ghost use Rattle.fx_changes.specs.Applied.{Applied};
+ghost use Rattle.fx_changes.specs.Making.{with_owners, after_declared};
+ghost use Rattle.fx_changes.specs.Refusals.{IsAnswer, of_graph_refusal, unknown_of};
+ghost use Rattle.fx_changes.specs.Step.{IsFit, IsReadSome};
+ghost use Rattle.fx_changes.specs.Stored.{AreJoinedAlike, after_end, empty, with_unread};
+
+use fx_base::{Kind, Ledgers, Name, Value, Work};
+use fx_changes::{Change, Notices, StoreError};
+use fx_graph::Graph;
+use fx_handles::{Owner, Owners};
+use fx_listen::Listeners;
+use fx_pairs::Pairs;
+use fx_properties::Origin;
+use std::alloc::Global;
+use std::marker::Model;
+
+/// Properties, the pairs of those that change together, listeners and their owners. Contracts see the definitions, which
+/// properties are unread, the pairs, and the living listeners.
+#[derive(Drop)]
+pub struct Store {
+    pub(crate) graph: Graph,
+    pub(crate) pairs: Pairs,
+    pub(crate) listeners: Listeners,
+    pub(crate) owners: Owners,
+    /// Whether memory was wanting in a change, so that a watched property may be unread.
+    pub(crate) behind: bool,
+}
+
+impl Model for Store {
+    ghost use Rattle.fx_changes.specs.Stored.{Stored};
+    ghost use Rattle.fx_expr.specs.contracts.tree.Expr as e;
+    ghost use Rattle.std.specs.Coded.{codes};
+
+    ghost Value = { Stored };
+
+    ghost coded = { Prim.hlevel (codes, e.the_row.coded) };
+
+    ghost use Rattle.fx_store.specs.Kept.{IsKept, stored_of};
+
+    ghost view = { λ store. stored_of store.graph store.pairs store.listeners store.owners };
+
+    ghost invariant = { λ store. IsKept store.graph store.pairs store.listeners store.owners store.behind };
+}
+
+impl Store {
+    /// Nothing was declared, and nobody listens.
+    pub fn new(alloc: Global) -> Store
+        ensures { result ≡ empty }
+    {
+        Store {
+            graph: Graph::new(alloc),
+            pairs: Pairs::new(alloc),
+            listeners: Listeners::new(alloc),
+            owners: Owners::new(alloc),
+            behind: false,
+        }
+    }
+
+    /// A further property with this value. It isn't unread.
+    pub fn declare(
+        &mut self,
+        alloc: Global,
+        kind: Kind,
+        read_only: bool,
+        value: Value,
+    ) -> Result<Name, StoreError>
+        requires { kind_of value ≡ kind }
+        ensures answer { IsAnswer (of_graph_refusal (declare_refusal self.old.entries)) result }
+        ensures name { IfOk result (λ name. name.0 ≡ length self.old.entries) }
+        ensures ok { OnOk result (self.new ≡ after_declared kind read_only value self.old) }
+        ensures err { OnErr result (self.new ≡ self.old) }
+    {
+        let name = self.graph.declare(alloc, kind, read_only, value)?;
+        Ok(name)
+    }
+
+    /// Makes one change and tells of it. Where memory is wanting, it is made wholly or not at all, but some properties may
+    /// have been read, and what it told is lost.
+    pub fn apply<L: Ledgers>(
+        &mut self,
+        alloc: Global,
+        change: Change,
+        work: &mut Work<L>,
+    ) -> Result<Notices, StoreError>
+        requires { IsFit change self.old }
+        ensures applied { Applied change self.old self.new result work.old.evaluated work.new.evaluated }
+        ensures others { work.new ≡ record work.old { evaluated = work.new.evaluated } }
+    {
+        match change {
+            Change::Set(name, value) => self.set(alloc, name, value, work),
+            Change::Publish(pairs) => self.publish(alloc, pairs, work),
+            Change::Bind(name, expr, operands) => self.bind(alloc, name, expr, operands, work),
+            Change::Unbind(name) => self.unbind(alloc, name, work),
+            Change::Pair(one, other) => self.pair(alloc, one, other, work),
+            Change::Unpair(one, other) => self.unpair(alloc, one, other, work),
+            Change::Listen(name, kind, owner, tag) => {
+                self.listen(alloc, name, kind, owner, tag, work)
+            }
+            Change::Unlisten(name, kind, owner, tag) => {
+                self.unlisten(alloc, name, kind, owner, tag, work)
+            }
+            Change::Forget(names) => self.forget(alloc, names, work),
+        }
+    }
+
+    /// The value of the property, which is read. Where memory is wanting, some properties may have been read.
+    pub fn read<L: Ledgers>(
+        &mut self,
+        alloc: Global,
+        name: Name,
+        work: &mut Work<L>,
+    ) -> Result<Value, StoreError>
+        ensures answer { IsAnswer (unknown_of (name ∷ []) self.old.entries) result }
+        ensures value { IfOk result (λ value. value ≡ eager self.old.entries name.0) }
+        ensures ok { OnOk result (self.new ≡ with_unread (after_reading self.old.entries name.0 self.old.unread) self.old) }
+        ensures memory { result ≡ Err StoreError.Memory → IsReadSome self.old self.new }
+        ensures refused { IfErr result (λ error. error ≢ StoreError.Memory → self.new ≡ self.old) }
+        ensures cost { work.new.evaluated ≤ work.old.evaluated + evaluations self.old.entries name.0 self.old.unread }
+        ensures others { work.new ≡ record work.old { evaluated = work.new.evaluated } }
+    {
+        let value = self.graph.read(alloc, name, work)?;
+        Ok(value)
+    }
+
+    /// A further owner of listeners.
+    pub fn make_owner(&mut self, alloc: Global) -> Result<Owner, StoreError>
+        ensures birth { IfOk result (λ owner. owner.birth ≡ self.old.owners.born + 1) }
+        ensures made { IfOk result (λ owner. self.new ≡ with_owners (after_make self.old.owners owner) self.old) }
+        ensures full { (result ≡ Err StoreError.Full) ↔ ((length self.old.owners.living ≡ 10000) ⊎ (self.old.owners.born ≡ u32.MAX)) }
+        ensures err { OnErr result (self.new ≡ self.old) }
+    {
+        let owner = self.owners.make(alloc)?;
+        Ok(owner)
+    }
+
+    /// Ends the life of the owner and of its listeners, and answers whether it was alive.
+    pub fn release_owner(&mut self, owner: Owner) -> bool
+        ensures was_alive { IsTrue result ↔ Contains self.old.owners.living owner }
+        ensures released { self.new ≡ after_end owner self.old }
+    {
+        self.owners.release(owner)
+    }
+
+    /// Whether the property is bound.
+    pub fn is_bound(&self, name: Name) -> bool
+        ensures { result ≡ bound_in self.now.entries name.0 }
+    {
+        self.graph.is_bound(name)
+    }
+
+    /// Whether the property is only published by the player.
+    pub fn is_read_only(&self, name: Name) -> bool
+        ensures { result ≡ read_only_in self.now.entries name.0 }
+    {
+        self.graph.is_read_only(name)
+    }
+
+    /// Whether the property may have changed since it was read.
+    pub fn is_unread(&self, name: Name) -> bool
+        ensures { result ≡ marked self.now.unread name.0 }
+    {
+        self.graph.is_unread(name)
+    }
+
+    /// Where the present definition of a known property came from.
+    pub fn origin(&self, name: Name) -> Option<Origin>
+        ensures { result ≡ origin_in self.now.entries name.0 }
+    {
+        self.graph.origin(name)
+    }
+
+    /// Whether the listener of this number is there and living.
+    pub fn is_listening(&self, number: u32) -> bool
+        ensures { result ≡ list_any (λ listener. listener.number == number) self.now.listeners }
+    {
+        self.listeners.is_listening(&self.owners, number)
+    }
+
+    /// What is true at all times: joined properties are unbound, written by code, of one kind and of one value, and each
+    /// listener that is seen has no owner or a living one.
+    pub fn laws(&self)
+        ensures joined { AreJoinedAlike self.now }
+        ensures living { All (λ listener. is_live self.now.owners.living listener ≡ true) self.now.listeners }
+    {
+        let _behind = self.behind;
+    }
+}

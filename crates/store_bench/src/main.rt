@@ -1,0 +1,140 @@
+//! Sets the first property of a chain of diamonds, with one change listener at its end, and makes owners that listen and
+//! are released, so many times each; it prints how many notices came. A script counts its instructions; no other crate stands on
+//! this one.
+#![tactic(auto)]
+
+ghost use Rattle.std.specs.Prelude.{◌≡◌};
+
+use anyhow::bail;
+use fx_base::{Kind, Ledgers, Name, Value, Work};
+use fx_changes::Change;
+use fx_expr::read_expr;
+use fx_listen::ListenKind;
+use fx_store::Store;
+use std::alloc::Global;
+use std::env;
+use std::marker::Brand;
+use std::sync::ledger::Blank;
+
+/// How often each thing is done.
+#[derive(Clone, Copy)]
+struct Rounds {
+    /// The first property is set to another value.
+    sets: u64,
+    /// An owner is made, listens and is released.
+    owners: u64,
+}
+
+fn main(rt: HostRuntime) -> anyhow::Result<()> {
+    let mut words = env::args(&rt)?;
+    let _program = words.next();
+    let (Some(diamonds), Some(sets), Some(owners)) = (words.next(), words.next(), words.next())
+    else {
+        bail!("usage: store_bench DIAMONDS SETS OWNERS");
+    };
+    let diamonds = diamonds.as_str().parse::<u32>()?;
+    let rounds = Rounds {
+        sets: sets.as_str().parse::<u64>()?,
+        owners: owners.as_str().parse::<u64>()?,
+    };
+    let notices = start::<Brand>(
+        rt.alloc(),
+        diamonds,
+        rounds,
+        Blank::new(1),
+        Blank::new(1),
+        Blank::new(1),
+        Blank::new(1),
+    )?;
+    println!(rt; "{notices}")?;
+    Ok(())
+}
+
+fn start<L: Ledgers>(
+    alloc: Global,
+    diamonds: u32,
+    rounds: Rounds,
+    evaluated: Blank,
+    styled: Blank,
+    laid: Blank,
+    painted: Blank,
+) -> anyhow::Result<usize>
+    requires evaluated { (evaluated.name ≡ L.evaluated_name) × (evaluated.parts ≡ 1) }
+    requires styled { (styled.name ≡ L.styled_name) × (styled.parts ≡ 1) }
+    requires laid { (laid.name ≡ L.laid_name) × (laid.parts ≡ 1) }
+    requires painted { (painted.name ≡ L.painted_name) × (painted.parts ≡ 1) }
+{
+    let mut work: Work<L> = Work::new(evaluated, styled, laid, painted);
+    let mut store = Store::new(alloc);
+    let last = build(alloc, &mut store, diamonds, &mut work)?;
+    let listen = Change::Listen(last, ListenKind::Change, None, 0);
+    store.apply(alloc, listen, &mut work)?;
+    let notices = set_often(alloc, &mut store, rounds.sets, &mut work)?;
+    own_often(alloc, &mut store, last, rounds.owners, &mut work)?;
+    Ok(notices)
+}
+
+/// One number, and so many diamonds of three behind one another. Answers the last name.
+fn build<L: Ledgers>(
+    alloc: Global,
+    store: &mut Store,
+    diamonds: u32,
+    work: &mut Work<L>,
+) -> anyhow::Result<Name> {
+    let mut last = store.declare(alloc, Kind::Int, false, Value::Int(0))?;
+    for _ in 0..diamonds {
+        let left = bound(alloc, store, "a + 1", &[last], work)?;
+        let right = bound(alloc, store, "a * 0", &[last], work)?;
+        last = bound(alloc, store, "a + b", &[left, right], work)?;
+    }
+    Ok(last)
+}
+
+/// A further property that is bound so.
+fn bound<L: Ledgers>(
+    alloc: Global,
+    store: &mut Store,
+    text: &str,
+    operands: &[Name],
+    work: &mut Work<L>,
+) -> anyhow::Result<Name> {
+    let name = store.declare(alloc, Kind::Int, false, Value::Int(0))?;
+    let parsed = read_expr(alloc, text)?;
+    let operands = Vec::from_slice(alloc, operands)?;
+    if operands.len() != parsed.paths.as_slice().len() {
+        bail!("each path has one operand");
+    }
+    store.apply(alloc, Change::Bind(name, parsed.expr, operands), work)?;
+    Ok(name)
+}
+
+fn set_often<L: Ledgers>(
+    alloc: Global,
+    store: &mut Store,
+    rounds: u64,
+    work: &mut Work<L>,
+) -> anyhow::Result<usize> {
+    let mut notices = 0usize;
+    for round in 0..rounds {
+        let value = Value::Int((round % 1000) as i64 + 1);
+        let told = store.apply(alloc, Change::Set(Name(0), value), work)?;
+        notices = notices.wrapping_add(told.changed.len());
+    }
+    Ok(notices)
+}
+
+fn own_often<L: Ledgers>(
+    alloc: Global,
+    store: &mut Store,
+    name: Name,
+    rounds: u64,
+    work: &mut Work<L>,
+) -> anyhow::Result<()> {
+    for _ in 0..rounds {
+        let owner = store.make_owner(alloc)?;
+        let listen = Change::Listen(name, ListenKind::Invalid, Some(owner), 0);
+        store.apply(alloc, listen, work)?;
+        store.release_owner(owner);
+    }
+    Ok(())
+}

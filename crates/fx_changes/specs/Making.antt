@@ -97,8 +97,8 @@ abbrev pub made_pair : ℕ → ℕ → Stored → Stored
 made_pair one other stored =
     with_pairs (stored.pairs ++ (one, other) ∷ [])
     (with_entries
-      (with_group (λ (name : ℕ). joined stored.pairs one name && not (name == other)) (eager stored.entries other) stored.entries)
-      stored)
+    (with_group (λ (name : ℕ). joined stored.pairs one name && not (name == other)) (eager stored.entries other) stored.entries)
+    stored)
 
 abbrev pub new_listener : ℕ → Name → ListenKind → Option Owner → ℕ → Listener
 new_listener number name kind owner tag = record { number = number; name = name; kind = kind; owner = owner; tag = tag }

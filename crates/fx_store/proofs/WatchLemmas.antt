@@ -18,7 +18,8 @@ use Rattle.fx_properties.specs.Numbers.{numbers}
 use Rattle.fx_properties.specs.Uses.{unknown_in}
 use Rattle.fx_properties.specs.Unread.{evaluations_of}
 use Rattle.fx_properties.proofs.ManyReads.{evaluations_more}
-use Rattle.fx_store.specs.Watching.{ends_of, heard_of, names_of, pair_numbers, properties_of, values_of, watch_list}
+use Rattle.fx_pairs.specs.Pairs.{pairs_of}
+use Rattle.fx_store.specs.Watching.{ends_of, heard_of, names_of, properties_of, values_of, watch_list}
 
 -- it is told of changed values
 abbrev hears : Listener → Bool
@@ -41,19 +42,19 @@ ends pair = pair.0.0 ∷ pair.1.0 ∷ []
 
 -- one pair more
 ends_more : (pairs : List (Name × Name)) (i : ℕ) (d : Name × Name) → i < length pairs
-    → ends_of (pair_numbers (take (i + 1) pairs)) ≡ ends_of (pair_numbers (take i pairs)) ++ ends (get_or pairs i d)
+    → ends_of (pairs_of (take (i + 1) pairs)) ≡ ends_of (pairs_of (take i pairs)) ++ ends (get_or pairs i d)
 ends_more pairs i d within =
-    ap (λ (ps : List (Name × Name)). ends_of (pair_numbers ps)) (take_more pairs i d within)
+    ap (λ (ps : List (Name × Name)). ends_of (pairs_of ps)) (take_more pairs i d within)
     ∙ ap ends_of (map-append (λ (pair : Name × Name). (pair.0.0, pair.1.0)) (take i pairs) (get_or pairs i d ∷ []))
-    ∙ flat_map-append (λ (pair : ℕ × ℕ). pair.0 ∷ pair.1 ∷ []) (pair_numbers (take i pairs)) (pair_numbers (get_or pairs i d ∷ []))
+    ∙ flat_map-append (λ (pair : ℕ × ℕ). pair.0 ∷ pair.1 ∷ []) (pairs_of (take i pairs)) (pairs_of (get_or pairs i d ∷ []))
 
 -- one turn of a loop over the pairs
 pub ends_turn : (start now before : List ℕ) (pairs : List (Name × Name)) (i : ℕ) (d : Name × Name) → i < length pairs
-    → before ≡ start ++ ends_of (pair_numbers (take i pairs)) → now ≡ before ++ ends (get_or pairs i d)
-    → now ≡ start ++ ends_of (pair_numbers (take (i + 1) pairs))
+    → before ≡ start ++ ends_of (pairs_of (take i pairs)) → now ≡ before ++ ends (get_or pairs i d)
+    → now ≡ start ++ ends_of (pairs_of (take (i + 1) pairs))
 ends_turn start now before pairs i d within done here =
     here ∙ ap (λ (ns : List ℕ). ns ++ ends (get_or pairs i d)) done
-    ∙ append_assoc start (ends_of (pair_numbers (take i pairs))) (ends (get_or pairs i d))
+    ∙ append_assoc start (ends_of (pairs_of (take i pairs))) (ends (get_or pairs i d))
     ∙ ap (λ (ns : List ℕ). start ++ ns) (sym (ends_more pairs i d within))
 
 -- names whose numbers are known

@@ -26,10 +26,6 @@ names_of listeners = map (λ (listener : Listener). listener.name.0) listeners
 abbrev pub ends_of : List (ℕ × ℕ) → List ℕ
 ends_of pairs = flat_map (λ (pair : ℕ × ℕ). pair.0 ∷ pair.1 ∷ []) pairs
 
--- pairs of names by their numbers
-abbrev pub pair_numbers : List (Name × Name) → List (ℕ × ℕ)
-pair_numbers pairs = map (λ (pair : Name × Name). (pair.0.0, pair.1.0)) pairs
-
 -- the names that are read after a change: first those of the change listeners
 abbrev pub watch_list : List (ℕ × ℕ) → List Listener → List ℕ
 watch_list pairs listeners = names_of (heard_of listeners) ++ ends_of pairs

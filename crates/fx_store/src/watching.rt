@@ -5,7 +5,8 @@ ghost use Rattle.fx_properties.specs.Numbers.{numbers};
 ghost use Rattle.fx_properties.specs.Uses.{unknown_in};
 ghost use Rattle.fx_properties.specs.Unread.{evaluations_of};
 ghost use Rattle.fx_properties.specs.Changes.{after_read_all, IsSomeRead};
-ghost use Rattle.fx_store.specs.Watching.{IsWatch, ends_of, heard_of, names_of, pair_numbers, properties_of, watch_list};
+ghost use Rattle.fx_pairs.specs.Pairs.{pairs_of};
+ghost use Rattle.fx_store.specs.Watching.{IsWatch, ends_of, heard_of, names_of, properties_of, watch_list};
 
 use fx_base::{Ledgers, Name, Value, Work};
 use fx_graph::Graph;
@@ -51,7 +52,7 @@ pub fn push_two(names: &mut Vec<Name>, one: Name, other: Name) -> Result<(), All
 
 /// Puts both ends of each pair behind the names.
 fn push_ends(names: &mut Vec<Name>, pairs: &[(Name, Name)]) -> Result<(), AllocError>
-    ensures { OnOk result (numbers names.new.items ≡ numbers names.old.items ++ ends_of (pair_numbers pairs.now)) }
+    ensures { OnOk result (numbers names.new.items ≡ numbers names.old.items ++ ends_of (pairs_of pairs.now)) }
 {
     for pair in pairs {
         push_two(names, pair.0, pair.1)?;
@@ -65,7 +66,7 @@ fn watched_names(
     heard: &[Listener],
     pairs: &[(Name, Name)],
 ) -> Result<Vec<Name>, AllocError>
-    ensures { IfOk result (λ names. numbers names.items ≡ names_of heard.now ++ ends_of (pair_numbers pairs.now)) }
+    ensures { IfOk result (λ names. numbers names.items ≡ names_of heard.now ++ ends_of (pairs_of pairs.now)) }
 {
     let mut names = names_heard(alloc, heard)?;
     push_ends(&mut names, pairs)?;
@@ -81,10 +82,10 @@ pub fn watch<L: Ledgers>(
     owners: &Owners,
     work: &mut Work<L>,
 ) -> Result<Watched, AllocError>
-    requires known { All (λ (name : ℕ). unknown_in graph.old.entries name ≡ false) (watch_list (pair_numbers pairs.now) (living_in owners.now.living listeners.now.entries)) }
+    requires known { All (λ (name : ℕ). unknown_in graph.old.entries name ≡ false) (watch_list (pairs_of pairs.now) (living_in owners.now.living listeners.now.entries)) }
     ensures same { graph.new ≡ graph.old }
-    ensures watch { IfOk result (λ watch. IsWatch graph.old.entries (pair_numbers pairs.now) (living_in owners.now.living listeners.now.entries) watch.heard.items watch.names.items watch.before.items) }
-    ensures cost { work.new.evaluated ≤ work.old.evaluated + evaluations_of graph.old.entries (watch_list (pair_numbers pairs.now) (living_in owners.now.living listeners.now.entries)) graph.old.unread }
+    ensures watch { IfOk result (λ watch. IsWatch graph.old.entries (pairs_of pairs.now) (living_in owners.now.living listeners.now.entries) watch.heard.items watch.names.items watch.before.items) }
+    ensures cost { work.new.evaluated ≤ work.old.evaluated + evaluations_of graph.old.entries (watch_list (pairs_of pairs.now) (living_in owners.now.living listeners.now.entries)) graph.old.unread }
     ensures others { work.new ≡ record work.old { evaluated = work.new.evaluated } }
 {
     let heard = change_listeners(alloc, listeners, owners)?;
@@ -107,10 +108,10 @@ pub fn read_watched<L: Ledgers>(
     owners: &Owners,
     work: &mut Work<L>,
 ) -> Result<(), AllocError>
-    requires known { All (λ (name : ℕ). unknown_in graph.old.entries name ≡ false) (watch_list (pair_numbers pairs.now) (living_in owners.now.living listeners.now.entries)) }
-    ensures ok { OnOk result (graph.new ≡ after_read_all (watch_list (pair_numbers pairs.now) (living_in owners.now.living listeners.now.entries)) graph.old) }
+    requires known { All (λ (name : ℕ). unknown_in graph.old.entries name ≡ false) (watch_list (pairs_of pairs.now) (living_in owners.now.living listeners.now.entries)) }
+    ensures ok { OnOk result (graph.new ≡ after_read_all (watch_list (pairs_of pairs.now) (living_in owners.now.living listeners.now.entries)) graph.old) }
     ensures part { IsSomeRead graph.old graph.new }
-    ensures cost { work.new.evaluated ≤ work.old.evaluated + evaluations_of graph.old.entries (watch_list (pair_numbers pairs.now) (living_in owners.now.living listeners.now.entries)) graph.old.unread }
+    ensures cost { work.new.evaluated ≤ work.old.evaluated + evaluations_of graph.old.entries (watch_list (pairs_of pairs.now) (living_in owners.now.living listeners.now.entries)) graph.old.unread }
     ensures others { work.new ≡ record work.old { evaluated = work.new.evaluated } }
 {
     let heard = change_listeners(alloc, listeners, owners)?;

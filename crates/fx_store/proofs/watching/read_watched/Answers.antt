@@ -1,13 +1,14 @@
 use Rattle.std.proofs.Common.{ap, ◌∙◌}
 use Rattle.fx_listen.specs.Listening.{living_in}
 use Rattle.fx_properties.specs.Numbers.{numbers}
-use Rattle.fx_store.specs.Watching.{pair_numbers, watch_list}
+use Rattle.fx_pairs.specs.Pairs.{pairs_of}
+use Rattle.fx_store.specs.Watching.{watch_list}
 use Rattle.fx_store.proofs.WatchLemmas.{known_names, watch_is}
 use Rattle.fx_store.proofs.watching.read_watched.Goals as goal
 
 pub read_all-requires : goal.read_all-requires
 read_all-requires g c =
-    let pairs = pair_numbers c.args.pairs.now in
+    let pairs = pairs_of c.args.pairs.now in
     let living = living_in c.args.owners.now.living c.args.listeners.now.entries in
     known_names c.args.graph.now.entries c.as_slice-2.result.now (watch_list pairs living)
     (ap numbers c.as_slice-2.ensures.value

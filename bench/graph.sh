@@ -4,18 +4,9 @@
 # for a change that marks none of them, and for each name that a refused binding looks at.
 # It builds crates/graph_bench with `rt run`, and needs valgrind.
 set -euo pipefail
-crate="$(cd "$(dirname "$0")/../crates/graph_bench" && pwd)"
-program="$crate/out/graph_bench"
-(cd "$crate" && rt run -- chain 1 0 0 0 >/dev/null 2>&1)
-counts="$(mktemp -d)"
-trap 'rm -r "$counts"' EXIT
+source "$(dirname "$0")/program.sh" graph_bench chain 1 0 0 0
 
-# the instructions of the whole program for a shape, names, sets, reads and bindings
-instructions() {
-    valgrind --tool=callgrind --callgrind-out-file="$counts/out" "$program" "$@" 2>"$counts/log" >/dev/null
-    sed -n 's/^summary: //p' "$counts/out"
-}
-
+# words: the shape, names, sets, reads and bindings
 chain=$(instructions chain 10000 0 0 0)
 evaluated=$(instructions chain 10000 10 0 0)
 read=$(instructions chain 10000 0 10000 0)

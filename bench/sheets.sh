@@ -4,18 +4,9 @@
 # of four match. A search grows with the candidates, and not with the rules of the sheet.
 # It builds crates/sheets_bench with `rt run`, and needs valgrind.
 set -euo pipefail
-crate="$(cd "$(dirname "$0")/../crates/sheets_bench" && pwd)"
-program="$crate/out/sheets_bench"
-(cd "$crate" && rt run -- 8 4 1 2 >/dev/null 2>&1)
-counts="$(mktemp -d)"
-trap 'rm -r "$counts"' EXIT
+source "$(dirname "$0")/program.sh" sheets_bench 8 4 1 2
 
-# the instructions of the whole program, with so many rules, rules that share a class, readings and searches
-instructions() {
-    valgrind --tool=callgrind --callgrind-out-file="$counts/out" "$program" "$1" "$2" "$3" "$4" 2>"$counts/log" >"$counts/told"
-    sed -n 's/^summary: //p' "$counts/out"
-}
-
+# words: rules, rules that share a class, readings and searches
 written=$(instructions 4096 4 0 0)
 read=$(instructions 4096 4 1 0)
 bytes=$(sed 's/ .*//' "$counts/told")

@@ -4,18 +4,9 @@
 # 10,000 of them, so that one sees that nothing of them stays.
 # It builds crates/store_bench with `rt run`, and needs valgrind.
 set -euo pipefail
-crate="$(cd "$(dirname "$0")/../crates/store_bench" && pwd)"
-program="$crate/out/store_bench"
-(cd "$crate" && rt run -- 1 0 0 >/dev/null 2>&1)
-counts="$(mktemp -d)"
-trap 'rm -r "$counts"' EXIT
+source "$(dirname "$0")/program.sh" store_bench 1 0 0
 
-# the instructions of the whole program for so many diamonds, sets and owners
-instructions() {
-    valgrind --tool=callgrind --callgrind-out-file="$counts/out" "$program" "$@" 2>"$counts/log" >/dev/null
-    sed -n 's/^summary: //p' "$counts/out"
-}
-
+# words: diamonds, sets and owners
 built=$(instructions 333 0 0)
 told=$(instructions 333 100 0)
 thousand=$(instructions 333 0 1000)

@@ -3,18 +3,9 @@
 # subtree of some 64 nodes, and for each node of a walk in pre-order.
 # It builds crates/tree_bench with `rt run`, and needs valgrind.
 set -euo pipefail
-crate="$(cd "$(dirname "$0")/../crates/tree_bench" && pwd)"
-program="$crate/out/tree_bench"
-(cd "$crate" && rt run -- 1 0 0 >/dev/null 2>&1)
-counts="$(mktemp -d)"
-trap 'rm -r "$counts"' EXIT
+source "$(dirname "$0")/program.sh" tree_bench 1 0 0
 
-# the instructions of the whole program, with so many nodes below the topmost, moves and walks
-instructions() {
-    valgrind --tool=callgrind --callgrind-out-file="$counts/out" "$program" "$1" "$2" "$3" 2>"$counts/log" >/dev/null
-    sed -n 's/^summary: //p' "$counts/out"
-}
-
+# words: nodes below the topmost, moves and walks
 one=$(instructions 0 0 0)
 built=$(instructions 4095 0 0)
 moved=$(instructions 4095 10000 0)

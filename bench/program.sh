@@ -11,3 +11,8 @@ instructions() {
     valgrind --tool=callgrind --callgrind-out-file="$counts/out" "$program" "$@" 2>"$counts/log" >"$counts/told"
     sed -n 's/^summary: //p' "$counts/out"
 }
+
+# the difference of two counts, for each of so many things
+per() {
+    awk -v things="$1" -v more="$2" -v less="$3" 'BEGIN { printf "%.1f", (more - less) / things }'
+}

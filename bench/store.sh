@@ -9,9 +9,7 @@ source "$(dirname "$0")/program.sh" store_bench 1 0 0
 # words: diamonds, sets and owners
 built=$(instructions 333 0 0)
 told=$(instructions 333 100 0)
-thousand=$(instructions 333 0 1000)
-ten_thousand=$(instructions 333 0 10000)
-awk -v built="$built" -v told="$told" -v thousand="$thousand" -v ten_thousand="$ten_thousand" 'BEGIN {
-    printf "a change and its notice  %.0f instructions, %.1f a name\n", (told - built) / 100, (told - built) / 100 / 1000
-    printf "an owner that listens    %.1f instructions among 1,000, %.1f among 10,000\n", (thousand - built) / 1000, (ten_thousand - built) / 10000
-}'
+echo "a change and its notice: $(per 100 "$told" "$built") instructions, $(per 100000 "$told" "$built") a name"
+for owners in 1000 10000; do
+    echo "an owner that listens: $(per "$owners" "$(instructions 333 0 "$owners")" "$built") instructions, among $owners"
+done

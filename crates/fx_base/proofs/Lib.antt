@@ -1,2 +1,3 @@
 pub mod GeometryLemmas
 pub mod IdentifierLemmas
+pub mod TextLemmas

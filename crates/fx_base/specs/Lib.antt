@@ -1,4 +1,5 @@
 pub mod Constants
+pub mod Held
 pub mod Identifier
 pub mod Pixel
 pub mod Printing

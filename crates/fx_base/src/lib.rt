@@ -5,10 +5,12 @@
 mod color;
 mod facts;
 mod geometry;
+mod held;
 mod identifiers;
 mod keys;
 mod kinds;
 mod lists;
+mod short_texts;
 mod texts;
 mod values;
 mod work;

@@ -81,6 +81,31 @@ fn bounds_texts(rt: HostRuntime) -> Result<(), Fail> {
 }
 
 #[test]
+fn holds_texts_in_place(rt: HostRuntime) -> Result<(), Fail> {
+    let alloc = rt.alloc();
+    // 30 bytes stand in place, and 31 don't.
+    for text in [
+        "",
+        "012345678901234567890123456789",
+        "0123456789012345678901234567890",
+        "0123456789012345678901234567é",
+        "01234567890123456789012345678é",
+    ] {
+        let held = Text::from_str(alloc, text)?;
+        let given = Text::from_string(String::from_str(alloc, text)?);
+        assert_eq!(rt; held.as_str(), text);
+        assert!(rt; held.copy(alloc)? == held && given == Some(held), "{text}");
+        let ascii = Text::from_ascii(alloc, text.as_bytes())?;
+        match ascii {
+            Some(ascii) => assert_eq!(rt; ascii.as_str(), text),
+            None => assert!(rt; !text.is_ascii(), "{text}"),
+        }
+    }
+    assert_eq!(rt; size_of::<Text>(), 32);
+    Ok(())
+}
+
+#[test]
 fn copies_lists_and_facts(rt: HostRuntime) -> Result<(), Fail> {
     let alloc = rt.alloc();
     let mut names = Vec::new(alloc);

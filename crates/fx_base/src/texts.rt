@@ -1,8 +1,9 @@
 //! Texts: of at most 4,096 characters, as names and text properties are, and of any length.
-ghost use Rattle.std.specs.Prelude.{◌≡◌, ◌<◌, ◌≤◌, ◌↔◌, [], IfOk, IfSome, IsNone, IsErrOf, IsTrue, length};
+ghost use Rattle.std.specs.Prelude.{◌≡◌, ◌<◌, ◌≤◌, ◌↔◌, [], IfOk, IfSome, IsNone, IsSome, IsErrOf, IsTrue, IsAscii, length};
 ghost use Rattle.std.specs.Str.{chars};
 ghost use Rattle.std.specs.String.{string_bytes};
 
+use crate::held::Held;
 use crate::lists::Duplicate;
 use std::alloc::{AllocError, Global};
 use std::marker::Model;
@@ -11,22 +12,23 @@ use thiserror::Error;
 /// The greatest number of characters of a `Text`.
 pub const TEXT_LIMIT: usize = 4096;
 
-/// A text of at most 4,096 characters. Contracts see its bytes.
+/// A text of at most 4,096 characters. Contracts see its bytes. One of at most 30 bytes stands in the value
+/// itself, unless it was given as a `String`.
 #[derive(Drop)]
 pub struct Text {
-    text: String,
+    held: Held,
 }
 
 impl Model for Text {
     ghost use Rattle.std.specs.Prelude.{ℕ, List, length, ◌≤◌};
     ghost use Rattle.std.specs.Str.{chars};
-    ghost use Rattle.std.specs.String.{string_bytes};
+    ghost use Rattle.fx_base.specs.Held.{held_bytes};
 
     ghost Value = { List ℕ };
 
-    ghost view = { λ t. string_bytes t.text };
+    ghost view = { λ t. held_bytes t.held };
 
-    ghost invariant = { λ t. length (chars (string_bytes t.text)) ≤ 4096 };
+    ghost invariant = { λ t. length (chars (held_bytes t.held)) ≤ 4096 };
 }
 
 /// Why a text can't be made.
@@ -52,12 +54,11 @@ impl From<AllocError> for TextError {
 
 impl Text {
     /// The empty text.
+    #[inline]
     pub fn new(alloc: Global) -> Text
         ensures { result ≡ [] }
     {
-        Text {
-            text: String::new(alloc),
-        }
+        Text { held: Held::new() }
     }
 
     /// The text of these characters, unless there are more than 4,096.
@@ -65,11 +66,11 @@ impl Text {
         ensures ok { IfOk result (λ t. t ≡ s.now) }
         ensures too_long { IsErrOf result TextError.TooLong ↔ (4096 < length (chars s.now)) }
     {
-        if char_count(s) > TEXT_LIMIT {
+        if is_too_long(s) {
             return Err(TextError::TooLong);
         }
-        let text = String::from_str(alloc, s)?;
-        Ok(Text { text })
+        let held = Held::from_str(alloc, s)?;
+        Ok(Text { held })
     }
 
     /// The text in place of the string, unless it has more than 4,096 characters.
@@ -77,33 +78,51 @@ impl Text {
         ensures found { IfSome result (λ t. t ≡ string_bytes text) }
         ensures none { IsNone result ↔ (4096 < length (chars (string_bytes text))) }
     {
-        if char_count(text.as_str()) > TEXT_LIMIT {
+        if is_too_long(text.as_str()) {
             return None;
         }
-        Some(Text { text })
+        Some(Text {
+            held: Held::Long(text),
+        })
+    }
+
+    /// The text of these bytes, if they are ASCII and at most 4,096.
+    pub fn from_ascii(alloc: Global, bytes: &[u8]) -> Result<Option<Text>, AllocError>
+        ensures found { IfOk result (λ found. IfSome found (λ t. t ≡ bytes.now)) }
+        ensures ascii { IfOk result (λ found. IsSome found ↔ (IsAscii bytes.now × (length bytes.now ≤ 4096))) }
+    {
+        if bytes.len() > TEXT_LIMIT {
+            return Ok(None);
+        }
+        match Held::from_ascii(alloc, bytes)? {
+            Some(held) => Ok(Some(Text { held })),
+            None => Ok(None),
+        }
     }
 
     /// Lends the text.
+    #[inline]
     pub fn as_str(&self) -> &str
         ensures text { result.now ≡ self.now }
         ensures short { length (chars result.now) ≤ 4096 }
     {
-        self.text.as_str()
+        self.held.as_str()
     }
 
     /// Is it this text? `==` answers the same of two `Text`s.
+    #[inline]
     pub fn equals(&self, text: &str) -> bool
         ensures { IsTrue result ↔ (self.now ≡ text.now) }
     {
-        self.text.as_str() == text
+        self.as_str() == text
     }
 
     /// A text of the same characters.
     pub fn copy(&self, alloc: Global) -> Result<Text, AllocError>
         ensures { IfOk result (λ copy. copy ≡ self.now) }
     {
-        let text = String::from_str(alloc, self.text.as_str())?;
-        Ok(Text { text })
+        let held = self.held.copy(alloc)?;
+        Ok(Text { held })
     }
 }
 
@@ -123,7 +142,7 @@ impl PartialEq for Text {
     ghost laws = { partial_equiv_from_equiv nat_list_eq_equiv };
 
     fn eq(&self, other: &Self) -> bool {
-        self.text.as_str() == other.text.as_str()
+        self.as_str() == other.as_str()
     }
 }
 
@@ -131,6 +150,14 @@ impl Eq for Text {
     ghost use Rattle.std.specs.Cmp.Lexicographic.{nat_list_eq_equiv};
 
     ghost laws = { nat_list_eq_equiv };
+}
+
+/// A text of at most 4,096 bytes has no more characters, so only the characters of longer ones are counted.
+#[inline]
+fn is_too_long(text: &str) -> bool
+    ensures { IsTrue result ↔ (4096 < length (chars text.now)) }
+{
+    text.len() > TEXT_LIMIT && char_count(text) > TEXT_LIMIT
 }
 
 fn char_count(text: &str) -> usize

@@ -40,8 +40,11 @@ fn types(compounds: &[Compound]) -> u32
     requires { type_count compounds.now ≤ 4194304 }
     ensures { result ≡ type_count compounds.now }
 {
-    compounds
-        .iter()
-        .filter(|compound| compound.kind.is_some())
-        .count() as u32
+    let mut count = 0usize;
+    for compound in compounds {
+        if compound.kind.is_some() {
+            count += 1;
+        }
+    }
+    count as u32
 }

@@ -1,14 +1,8 @@
 -- the empty text has no characters
-use Rattle.std.proofs.Common.{◌≤◌, length, lit≤, List, ℕ, []}
-use Rattle.std.proofs.Common.{sym, subst}
-use Rattle.std.specs.Str.{chars}
+use Rattle.std.proofs.Common.{arith}
+use Rattle.std.proofs.lemmas.Str.{IsUtf8-nil}
+use Rattle.fx_base.proofs.TextLemmas.{chars-few}
 use Rattle.fx_base.proofs.texts.Text.new.Goals as goal
 
-nothing_is_short : length (chars []) ≤ 4096
-unfolding chars
-nothing_is_short = lit≤ tt
-
 pub invariant_of-result : goal.invariant_of-result
-invariant_of-result c =
-    let IsShort : List ℕ → Type 0 = λ bytes. length (chars bytes) ≤ 4096 in
-    subst IsShort (sym c.new.ensures.bytes) nothing_is_short
+invariant_of-result c = chars-few _ _ c.new.ensures IsUtf8-nil (omega arith)

@@ -1,0 +1,6 @@
+-- the invariant says that the bytes are UTF-8
+use Rattle.std.proofs.lemmas.Str.{IsUtf8-had}
+use Rattle.fx_base.proofs.short_texts.ShortText.as_str.Goals as goal
+
+pub from_utf8_unchecked-requires : goal.from_utf8_unchecked-requires
+from_utf8_unchecked-requires c = rw c.from.ensures (IsUtf8-had _ c.self.invariant.1)

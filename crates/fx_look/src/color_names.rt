@@ -65,26 +65,29 @@ const NAMES: [(&str, u32); 53] = [
 ];
 
 /// The colour that this name has in any case of letters, as 0x00RRGGBB.
-pub fn named(name: &str) -> Option<u32>
+pub fn named(name: &[u8]) -> Option<u32>
     ensures { result ≡ entry_at names name.now }
 {
     entry(&NAMES, name)
 }
 
-fn entry(table: &[(&str, u32)], name: &str) -> Option<u32>
+fn entry(table: &[(&str, u32)], name: &[u8]) -> Option<u32>
     ensures { result ≡ entry_at (map (λ e. (e.0.now, e.1)) table.now) name.now }
 {
     find_entry(table, name)
 }
 
-fn find_entry(table: &[(&str, u32)], name: &str) -> Option<u32>
+fn find_entry(table: &[(&str, u32)], name: &[u8]) -> Option<u32>
     ensures { result ≡ option_map (λ e. e.1) (find (λ e. same_letters e.0.now name.now) table.now) }
 {
-    table.iter().find(|e| same_letters(e.0, name)).map(|e| e.1)
+    table
+        .iter()
+        .find(|e| same_letters(e.0.as_bytes(), name))
+        .map(|e| e.1)
 }
 
 /// Are the two one text in any case of ASCII letters?
-pub fn same_letters(a: &str, b: &str) -> bool
+pub fn same_letters(a: &[u8], b: &[u8]) -> bool
     ensures { result ≡ same_letters a.now b.now }
 {
     a.eq_ignore_ascii_case(b)

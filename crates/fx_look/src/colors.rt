@@ -22,7 +22,7 @@ pub fn read_color(s: &str) -> Option<Color>
     ensures found { IfSome result (IsColor s.now) }
     ensures none { IfNone result ((c : Paint) → IsColor s.now c → ⊥) }
 {
-    color_at(s)
+    color_at(s.as_bytes())
 }
 
 /// A text spells one colour at most.
@@ -30,10 +30,10 @@ pub fn one_color()
     ensures { (text : List ℕ) (c d : Paint) → IsColor text c → IsColor text d → c ≡ d }
 {}
 
-pub fn color_at(s: &str) -> Option<Color>
-    ensures { result ≡ color_at s.now }
+/// The colour that the bytes spell, as `read_color` reads them.
+pub fn color_at(text: &[u8]) -> Option<Color>
+    ensures { result ≡ color_at text.now }
 {
-    let text = s.as_bytes();
     if let Some(digits) = strip(b"#", text) {
         return hex_at(digits);
     }
@@ -43,13 +43,13 @@ pub fn color_at(s: &str) -> Option<Color>
     if let Some(arguments) = strip(b"rgba(", text) {
         return rgba_at(arguments);
     }
-    word_at(s)
+    word_at(text)
 }
 
-fn word_at(s: &str) -> Option<Color>
-    ensures { result ≡ word_at s.now }
+fn word_at(text: &[u8]) -> Option<Color>
+    ensures { result ≡ word_at text.now }
 {
-    if s == "transparent" {
+    if text == b"transparent".as_slice() {
         return Some(Color {
             r: 0,
             g: 0,
@@ -57,7 +57,7 @@ fn word_at(s: &str) -> Option<Color>
             a: 0,
         });
     }
-    named(s).map(|pixel| solid(pixel))
+    named(text).map(|pixel| solid(pixel))
 }
 
 /// The opaque colour of a pixel 0x00RRGGBB.
@@ -260,6 +260,7 @@ fn white_count(text: &[u8]) -> usize
     text.iter().take_while(|c| is_white(**c)).count()
 }
 
+/// Is it a space, a tab or an end of a line?
 pub fn is_white(c: u8) -> bool
     ensures { result ≡ is_white c }
 {

@@ -3,7 +3,7 @@
 ghost use Rattle.std.specs.Prelude.{◌≡◌, ◌≤◌, length, List, ℕ, IfSome, IfNone};
 ghost use Rattle.std.specs.List.{list_any, prefix_len};
 ghost use Rattle.fx_base.specs.declared.geometry.Sides.{Sides as Insets};
-ghost use Rattle.fx_look.specs.Numbers.{IsSize};
+ghost use Rattle.fx_look.specs.Numbers.{IsSize, size_at};
 ghost use Rattle.fx_look.specs.Colors.{is_white};
 ghost use Rattle.fx_look.specs.Decimals.{behind};
 ghost use Rattle.fx_look.specs.Insets.{IsSides, word, behind_word, not_white, four, sides_at, length_at};
@@ -18,13 +18,20 @@ pub fn read_sides(s: &str) -> Option<Sides>
     ensures found { IfSome result (IsSides IsSize s.now) }
     ensures none { IfNone result ((sides : Insets) → IsSides IsSize s.now sides → ⊥) }
 {
-    sides_at(Length::Size, s.as_bytes())
+    sizes_at(s.as_bytes())
 }
 
 /// A text spells four sizes in one way at most.
 pub fn one_sides()
     ensures { (text : List ℕ) (s t : Insets) → IsSides IsSize text s → IsSides IsSize text t → s ≡ t }
 {}
+
+/// The four sizes that the bytes spell, as `read_sides` reads them.
+pub fn sizes_at(text: &[u8]) -> Option<Sides>
+    ensures { result ≡ sides_at size_at text.now }
+{
+    sides_at(Length::Size, text)
+}
 
 /// How each of the four is written: as in a document, or as in a style sheet.
 #[derive(Clone, Copy)]

@@ -12,10 +12,10 @@ mod pixels;
 mod readings;
 mod styles;
 
-pub use colors::{one_color, read_color};
-pub use insets::{one_sides, read_sides};
+pub use colors::{color_at, is_white, one_color, read_color};
+pub use insets::{one_sides, read_sides, sizes_at};
 pub use looks::Look;
-pub use numbers::{one_number, one_size, read_number, read_size};
+pub use numbers::{one_number, one_size, read_number, read_size, size_at};
 pub use pixels::blend;
 pub use readings::{one_value, read_value};
 pub use styles::{

@@ -45,7 +45,7 @@ fn value_at(alloc: Global, kind: Kind, s: &str) -> Result<Option<Value>, AllocEr
         Kind::Bool => Ok(truth_at(s).map(|truth| Value::Bool(truth))),
         Kind::Text => text_at(alloc, s),
         Kind::Choice(family) => Ok(choice_at(family, s)),
-        Kind::Color => Ok(color_at(s).map(|color| Value::Color(color))),
+        Kind::Color => Ok(color_at(s.as_bytes()).map(|color| Value::Color(color))),
         Kind::Sides => Ok(sides_at(Length::Number, s.as_bytes()).map(|sides| Value::Sides(sides))),
     }
 }
@@ -59,9 +59,9 @@ fn int_at(s: &str) -> Option<Value>
 fn truth_at(s: &str) -> Option<bool>
     ensures { result ≡ truth_at s.now }
 {
-    if same_letters(s, "true") {
+    if same_letters(s.as_bytes(), b"true") {
         Some(true)
-    } else if same_letters(s, "false") {
+    } else if same_letters(s.as_bytes(), b"false") {
         Some(false)
     } else {
         None

@@ -1,57 +1,105 @@
 -- What is answered of marks is answered of their text and of its bytes, and the other way round.
--- Below the answers on sheets.
-use Rattle.std.proofs.Common.{◌≡◌, ℕ, List, [], ◌∷◌, map, refl, sym, subst, Result, Ok, Err, IfOk, IfErr}
+-- Below the answers on sheets and styles.
+use Rattle.std.proofs.Common.{◌≡◌, ℕ, List, [], ◌∷◌, map, refl, sym, ◌∙◌, ap, subst, Result, Ok, Err, IfOk, IfErr}
 use Rattle.std.specs.Result.{IsErrAnd}
-use Rattle.std.specs.Str.{chars, IsUtf8}
+use Rattle.std.specs.Str.{IsUtf8}
 use Rattle.fx_base.specs.declared.geometry.Place.{Place}
 use Rattle.fx_sheet.specs.declared.sheets.Rule.{Rule}
 use Rattle.fx_sheet.specs.declared.sheets.Sheet.{Sheet}
-use Rattle.fx_css.specs.declared.marks.Mark.{Mark}
+use Rattle.fx_marks.specs.declared.marks.Mark.{Mark}
+use Rattle.fx_marks.specs.Bytes.{first_place}
+use Rattle.fx_marks.specs.Marks.{Marked, place_of}
+use Rattle.fx_marks.specs.Scanning.{Plain, scanned}
+use Rattle.fx_marks.proofs.Scans.{marks_scanned}
 use Rattle.fx_css.specs.declared.errors.SheetError.{SheetError}
 use Rattle.fx_css.specs.declared.errors.SheetError.TheVariants.{NotUtf8, Limit, Memory}
-use Rattle.fx_css.specs.Characters.{first_place}
-use Rattle.fx_css.specs.Marks.{Marked}
-use Rattle.fx_css.specs.Rules.{past_rules}
-use Rattle.fx_css.specs.Sheets.{IsSheetText, IsFirst, IsPast, AreRead, IsPastLimit, IsSheetRead, HasFault, IsGiven}
-use Rattle.fx_css.proofs.Turns.{Stops}
-use Rattle.fx_css.specs.declared.marks.Mode.TheVariants.{Plain}
+use Rattle.fx_css.specs.declared.errors.Stop.{Stop}
+use Rattle.fx_css.specs.declared.errors.Stop.TheVariants as stop
+use Rattle.fx_css.specs.declared.parts.Numbered.{Numbered}
+use Rattle.fx_css.specs.declared.rules.Draft.{Draft}
+use Rattle.fx_css.specs.declared.sheets.Form.{Form}
+use Rattle.fx_css.specs.declared.sheets.Form.TheVariants as form
+use Rattle.fx_css.specs.Numbered.{numbered_marks}
 use Rattle.fx_css.specs.Pieces.{kept_in, warnings_in, past_declarations}
-use Rattle.fx_css.specs.Scanning.{scanned}
-use Rattle.fx_css.specs.Sheets.{IsStyleText, style_rule, AreStyle, HasStyleFault, IsStyleRead}
-use Rattle.fx_css.proofs.Scans.{marks_scanned}
+use Rattle.fx_css.specs.Rules.{past_rules}
+use Rattle.fx_css.specs.Sheets.{places_of, IsSheetText, IsStyleText, style_rule, IsFirst, IsPast, IsFirstNumber, AreRead, AreStyle, AreReadAs, IsTold, IsReadAs, IsSheetRead, HasFault, IsGiven, HasStyleFault, IsStyleRead}
+use Rattle.fx_css.proofs.Turns.{Stops, Some_reading, some_reading}
 use Rattle.fx_css.proofs.OneReading.{one_text, one_style}
 
-stopped : (ms : List Mark) (e : SheetError) → Stops ms e → AreRead ms (Err e)
-stopped ms (Limit l c) s = (s.readings, s.warnings, s.reads, s.past)
-stopped ms (NotUtf8 n) s = s.past
-stopped ms Memory s = tt
-
-pub stops_read : (ms : List Mark) (r : Result Sheet SheetError) (e : SheetError) → IsErrAnd r (λ y. y ≡ e) → Stops ms e → AreRead ms r
+pub stops_read : (ms : List Numbered) (r : Result Draft Stop) (e : Stop) → IsErrAnd r (λ y. y ≡ e) → Stops ms e → AreRead ms r
 stops_read ms (Ok x) e h s = absurd h
-stops_read ms (Err y) e h s = subst (λ z. AreRead ms (Err z)) (sym h) (stopped ms e s)
+stops_read ms (Err y) e h s = subst (λ z. AreRead ms (Err z)) (sym h) (s.readings, s.warnings, s.reads, s.past)
 
-pub memory_read : (file : ℕ) (text : List ℕ) (r : Result Sheet SheetError) → IsErrAnd r (λ y. y ≡ Memory) → IsSheetRead file text r
-memory_read file text (Ok x) h = absurd h
-memory_read file text (Err y) h = subst (λ z. IsSheetRead file text (Err z)) (sym h) tt
+-- want of memory stops any reading
+memory_stops : (ms : List Numbered) → Stops ms stop.Memory
+memory_stops ms =
+    let r : Some_reading ms = some_reading ms in
+    record { readings = r.readings; warnings = r.warnings; reads = r.reads; past = tt }
 
-pub text_read : (file : ℕ) (text : List ℕ) (ms : List Mark) (r : Result Sheet SheetError) → Marked (first_place file) text ms → AreRead ms r → IsSheetRead file text r
-text_read file text ms (Ok sheet) m h = record { marks = ms; marked = m; readings = h.0; reads = h.1; are_rules = h.2; are_past = h.3 }
-text_read file text ms (Err (Limit l c)) m h = (map (λ r. r.rule) h.0, h.1, past_rules 0 h.0, record { marks = ms; marked = m; readings = h.0; reads = h.2; are_rules = refl; are_past = refl }, h.3)
-text_read file text ms (Err (NotUtf8 n)) m h = h
-text_read file text ms (Err Memory) m h = tt
+pub memory_read : (f : Form) (ms : List Numbered) (r : Result Draft Stop) → IsErrAnd r (λ y. y ≡ stop.Memory) → AreReadAs f ms r
+memory_read f ms (Ok x) h = absurd h
+memory_read form.Sheet ms (Err y) h = stops_read ms (Err y) stop.Memory h (memory_stops ms)
+memory_read form.Style ms (Err y) h = subst (λ z. AreStyle ms (Err z)) (sym h) tt
 
-pub read_by : (file : ℕ) (bytes text : List ℕ) (r : Result Sheet SheetError) → chars text ≡ chars bytes → IsSheetRead file (chars text) r → IfOk r (λ sheet. IsSheetText file (chars bytes) sheet.rules sheet.warnings [])
-read_by file bytes text (Ok sheet) e h = subst (λ y. IsSheetText file y sheet.rules sheet.warnings []) e h
-read_by file bytes text (Err x) e h = tt
+-- the place of the first number is the first place
+first_place_is : (file : ℕ) (marks : List Mark) (past : List ℕ) (n l c : ℕ) → IsFirstNumber past n → (place_of file marks n).line ≡ l → (place_of file marks n).column ≡ c → IsFirst (places_of file marks past) l c
+first_place_is file marks [] n l c h e f = absurd h
+first_place_is file marks (k ∷ past) n l c h e f = (ap (λ y. (place_of file marks y).line) h ∙ e, ap (λ y. (place_of file marks y).column) h ∙ f)
 
-pub fault_by : (file : ℕ) (bytes text : List ℕ) (r : Result Sheet SheetError) → IsUtf8 bytes → chars text ≡ chars bytes → IsSheetRead file (chars text) r → IfErr r (HasFault file bytes)
-fault_by file bytes text (Ok sheet) u e h = tt
-fault_by file bytes text (Err (Limit l c)) u e h = (u, subst (λ y. IsPastLimit file y l c) e h)
-fault_by file bytes text (Err (NotUtf8 n)) u e h = absurd h
-fault_by file bytes text (Err Memory) u e h = tt
+sheet_told : (file : ℕ) (text : List ℕ) (marks : List Mark) (r : Result Draft Stop) (answer : Result Sheet SheetError) → Marked (first_place file) text marks → AreRead (numbered_marks marks) r → IsTold file marks r answer → IsSheetRead file text answer
+sheet_told file text marks (Ok draft) (Ok sheet) m h t = record {
+  marks = marks;
+  marked = m;
+  readings = h.0;
+  dropped = draft.warnings.items;
+  reads = h.1;
+  are_rules = t.0 ∙ h.2;
+  are_warnings = t.1;
+  are_past = ap (places_of file marks) h.3;
+}
+sheet_told file text marks (Err (stop.Past n)) (Err (Limit l c)) m h t = (
+  map (λ r. r.rule) h.0,
+  places_of file marks h.1,
+  places_of file marks (past_rules 0 h.0),
+  record { marks = marks; marked = m; readings = h.0; dropped = h.1; reads = h.2; are_rules = refl; are_warnings = refl; are_past = refl },
+  first_place_is file marks (past_rules 0 h.0) n l c h.3 t.0 t.1,
+)
+sheet_told file text marks (Err stop.Memory) (Err (Limit l c)) m h t = absurd t
+sheet_told file text marks (Ok draft) (Err (Limit l c)) m h t = absurd t
+sheet_told file text marks (Ok draft) (Err Memory) m h t = tt
+sheet_told file text marks (Err e) (Err Memory) m h t = tt
+sheet_told file text marks (Ok draft) (Err (NotUtf8 n)) m h t = t
+sheet_told file text marks (Err (stop.Past k)) (Err (NotUtf8 n)) m h t = t
+sheet_told file text marks (Err stop.Memory) (Err (NotUtf8 n)) m h t = t
+sheet_told file text marks (Err (stop.Past n)) (Ok sheet) m h t = absurd t
+sheet_told file text marks (Err stop.Memory) (Ok sheet) m h t = absurd t
 
-given_first : (past beyond : List Place) (l c : ℕ) → past ≡ beyond → IsFirst past l c → IsFirst beyond l c
-given_first past beyond l c e h = subst (λ y. IsFirst y l c) e h
+-- whatever the marks are, they are those of the scan
+abbrev pub AnswersAs : Form → ℕ → List ℕ → Result Sheet SheetError → Type 0
+AnswersAs f file text answer = (marks : List Mark) → Marked (first_place file) text marks → IsReadAs f file marks answer
+
+sheet_read : (file : ℕ) (text : List ℕ) (answer : Result Sheet SheetError) → AnswersAs form.Sheet file text answer → IsSheetRead file text answer
+sheet_read file text answer h =
+    let marks : List Mark = scanned Plain (first_place file) text in
+    let m : Marked (first_place file) text marks = marks_scanned (first_place file) text in
+    let read = h marks m in
+    sheet_told file text marks read.0 answer m read.1 read.2
+
+read_of : (file : ℕ) (text : List ℕ) (r : Result Sheet SheetError) → IsSheetRead file text r → IfOk r (λ sheet. IsSheetText file text sheet.rules sheet.warnings [])
+read_of file text (Ok sheet) h = h
+read_of file text (Err e) h = tt
+
+pub read_by : (file : ℕ) (text : List ℕ) (r : Result Sheet SheetError) → AnswersAs form.Sheet file text r → IfOk r (λ sheet. IsSheetText file text sheet.rules sheet.warnings [])
+read_by file text r h = read_of file text r (sheet_read file text r h)
+
+fault_of : (file : ℕ) (text : List ℕ) (r : Result Sheet SheetError) → IsUtf8 text → IsSheetRead file text r → IfErr r (HasFault file text)
+fault_of file text (Ok sheet) u h = tt
+fault_of file text (Err (Limit l c)) u h = (u, h)
+fault_of file text (Err (NotUtf8 n)) u h = absurd h
+fault_of file text (Err Memory) u h = tt
+
+pub fault_by : (file : ℕ) (text : List ℕ) (r : Result Sheet SheetError) → IsUtf8 text → AnswersAs form.Sheet file text r → IfErr r (HasFault file text)
+fault_by file text r u h = fault_of file text r u (sheet_read file text r h)
 
 given : (file : ℕ) (text : List ℕ) (r : Result Sheet SheetError) (rules : List Rule) (warnings past : List Place) → IsSheetRead file text r → IsSheetText file text rules warnings past → IsGiven rules warnings past r
 given file text (Ok sheet) rules warnings past h t =
@@ -59,35 +107,65 @@ given file text (Ok sheet) rules warnings past h t =
     (o.0, o.1, sym o.2)
 given file text (Err (Limit l c)) rules warnings past h t =
     let o = one_text file text h.0 rules h.1 warnings h.2 past h.3 t in
-    given_first h.2 past l c o.2 h.4
+    subst (λ y. IsFirst y l c) o.2 h.4
 given file text (Err (NotUtf8 n)) rules warnings past h t = h
 given file text (Err Memory) rules warnings past h t = tt
 
-pub exact_by : (file : ℕ) (bytes text : List ℕ) (r : Result Sheet SheetError) → chars text ≡ chars bytes → IsSheetRead file (chars text) r → (rules : List Rule) (warnings past : List Place) → IsUtf8 bytes → IsSheetText file (chars bytes) rules warnings past → IsGiven rules warnings past r
-exact_by file bytes text r e h rules warnings past u t = given file (chars bytes) r rules warnings past (subst (λ y. IsSheetRead file y r) e h) t
+pub exact_by : (file : ℕ) (text : List ℕ) (r : Result Sheet SheetError) → AnswersAs form.Sheet file text r → (rules : List Rule) (warnings past : List Place) → IsUtf8 text → IsSheetText file text rules warnings past → IsGiven rules warnings past r
+exact_by file text r h rules warnings past u t = given file text r rules warnings past (sheet_read file text r h) t
 
 -- the same of a `style`
 
-some_marks : (text : List ℕ) → (past : List Place) → (e : SheetError) → IsPast past e → (rules : List Rule) (warnings : List Place) → IsStyleText text rules warnings past → HasStyleFault text e
-some_marks text past e h rules warnings t = (rules, warnings, past, t, h)
+style_fault : (text : List ℕ) (marks : List Mark) (e : SheetError) → Marked (first_place 0) text marks → IsPast (places_of 0 marks (past_declarations 0 (kept_in (numbered_marks marks)))) e → HasStyleFault text e
+style_fault text marks e m h = (
+  style_rule (numbered_marks marks) ∷ [],
+  places_of 0 marks (warnings_in (numbered_marks marks)),
+  places_of 0 marks (past_declarations 0 (kept_in (numbered_marks marks))),
+  record { marks = marks; marked = m; are_rules = refl; are_warnings = refl; are_past = refl },
+  h,
+)
 
-memory_fault : (text : List ℕ) → HasStyleFault text Memory
-memory_fault text =
-    let ms : List Mark = scanned Plain (first_place 0) text in
-    (style_rule ms ∷ [], warnings_in ms, past_declarations 0 (kept_in ms), record { marks = ms; marked = marks_scanned (first_place 0) text; are_rules = refl; are_warnings = refl; are_past = refl }, tt)
+style_told : (text : List ℕ) (marks : List Mark) (r : Result Draft Stop) (answer : Result Sheet SheetError) → Marked (first_place 0) text marks → AreStyle (numbered_marks marks) r → IsTold 0 marks r answer → IsStyleRead text answer
+style_told text marks (Ok draft) (Ok sheet) m h t = record { marks = marks; marked = m; are_rules = t.0 ∙ h.0; are_warnings = t.1 ∙ ap (places_of 0 marks) h.1; are_past = sym (ap (places_of 0 marks) h.2) }
+style_told text marks (Err (stop.Past n)) (Err (Limit l c)) m h t = style_fault text marks (Limit l c) m (first_place_is 0 marks (past_declarations 0 (kept_in (numbered_marks marks))) n l c h t.0 t.1)
+style_told text marks (Err stop.Memory) (Err (Limit l c)) m h t = absurd t
+style_told text marks (Ok draft) (Err (Limit l c)) m h t = absurd t
+style_told text marks (Ok draft) (Err Memory) m h t = style_fault text marks Memory m tt
+style_told text marks (Err e) (Err Memory) m h t = style_fault text marks Memory m tt
+style_told text marks (Ok draft) (Err (NotUtf8 n)) m h t = absurd t
+style_told text marks (Err (stop.Past k)) (Err (NotUtf8 n)) m h t = absurd t
+style_told text marks (Err stop.Memory) (Err (NotUtf8 n)) m h t = absurd t
+style_told text marks (Err (stop.Past n)) (Ok sheet) m h t = absurd t
+style_told text marks (Err stop.Memory) (Ok sheet) m h t = absurd t
 
-pub memory_style : (text : List ℕ) (r : Result Sheet SheetError) → IsErrAnd r (λ y. y ≡ Memory) → IsStyleRead text r
-memory_style text (Ok x) h = absurd h
-memory_style text (Err y) h = subst (λ z. HasStyleFault text z) (sym h) (memory_fault text)
+style_read : (text : List ℕ) (answer : Result Sheet SheetError) → AnswersAs form.Style 0 text answer → IsStyleRead text answer
+style_read text answer h =
+    let marks : List Mark = scanned Plain (first_place 0) text in
+    let m : Marked (first_place 0) text marks = marks_scanned (first_place 0) text in
+    let read = h marks m in
+    style_told text marks read.0 answer m read.1 read.2
 
-pub style_read : (text : List ℕ) (ms : List Mark) (r : Result Sheet SheetError) → Marked (first_place 0) text ms → AreStyle ms r → IsStyleRead text r
-style_read text ms (Ok sheet) m h = record { marks = ms; marked = m; are_rules = h.0; are_warnings = h.1; are_past = sym h.2 }
-style_read text ms (Err e) m h = (style_rule ms ∷ [], warnings_in ms, past_declarations 0 (kept_in ms), record { marks = ms; marked = m; are_rules = refl; are_warnings = refl; are_past = refl }, h)
+style_of : (text : List ℕ) (r : Result Sheet SheetError) → IsStyleRead text r → IfOk r (λ sheet. IsStyleText text sheet.rules sheet.warnings [])
+style_of text (Ok sheet) h = h
+style_of text (Err e) h = tt
 
-pub style_given : (text : List ℕ) (r : Result Sheet SheetError) → IsStyleRead text r → (rules : List Rule) (warnings past : List Place) → IsStyleText text rules warnings past → IsGiven rules warnings past r
-style_given text (Ok sheet) h rules warnings past t =
+pub style_by : (text : List ℕ) (r : Result Sheet SheetError) → AnswersAs form.Style 0 text r → IfOk r (λ sheet. IsStyleText text sheet.rules sheet.warnings [])
+style_by text r h = style_of text r (style_read text r h)
+
+style_fault_of : (text : List ℕ) (r : Result Sheet SheetError) → IsStyleRead text r → IfErr r (HasStyleFault text)
+style_fault_of text (Ok sheet) h = tt
+style_fault_of text (Err e) h = h
+
+pub style_fault_by : (text : List ℕ) (r : Result Sheet SheetError) → AnswersAs form.Style 0 text r → IfErr r (HasStyleFault text)
+style_fault_by text r h = style_fault_of text r (style_read text r h)
+
+style_given_of : (text : List ℕ) (r : Result Sheet SheetError) → IsStyleRead text r → (rules : List Rule) (warnings past : List Place) → IsStyleText text rules warnings past → IsGiven rules warnings past r
+style_given_of text (Ok sheet) h rules warnings past t =
     let o = one_style text sheet.rules rules sheet.warnings warnings [] past h t in
     (o.0, o.1, sym o.2)
-style_given text (Err e) h rules warnings past t =
+style_given_of text (Err e) h rules warnings past t =
     let o = one_style text h.0 rules h.1 warnings h.2 past h.3 t in
     subst (λ y. IsPast y e) o.2 h.4
+
+pub style_given : (text : List ℕ) (r : Result Sheet SheetError) → AnswersAs form.Style 0 text r → (rules : List Rule) (warnings past : List Place) → IsStyleText text rules warnings past → IsGiven rules warnings past r
+style_given text r h = style_given_of text r (style_read text r h)

@@ -13,15 +13,14 @@ use Rattle.std.specs.Result.{IsErrAnd}
 use Rattle.std.specs.Bool.{if◌then◌else◌}
 use Rattle.std.specs.List.{slice_split, flat_map, position_or_len, before_first, after_first}
 use Rattle.std.specs.Option.{option_to_list}
-use Rattle.fx_base.specs.declared.geometry.Place.{Place}
 use Rattle.fx_sheet.specs.declared.declarations.Declaration.{Declaration}
-use Rattle.fx_css.specs.declared.marks.Mark.{Mark}
-use Rattle.fx_css.specs.declared.errors.SheetError.{SheetError}
-use Rattle.fx_css.specs.declared.errors.SheetError.TheVariants.{NotUtf8, Limit, Memory}
+use Rattle.fx_css.specs.declared.parts.Numbered.{Numbered}
+use Rattle.fx_css.specs.declared.errors.Stop.{Stop}
+use Rattle.fx_css.specs.declared.errors.Stop.TheVariants.{Past, Memory}
 use Rattle.fx_css.specs.declared.declarations.Kept.{Kept}
 use Rattle.fx_css.specs.declared.declarations.Piece.{Piece}
 use Rattle.fx_css.specs.Pieces.{ends_declaration, piece_of, kept, warned, kept_in, warnings_in, past_declarations}
-use Rattle.fx_css.specs.Sheets.{IsPast}
+use Rattle.fx_css.specs.Sheets.{IsStop}
 
 pub suc_same : (a b : ℕ) → suc a ≡ 1 + b → a ≡ b
 suc_same a b e = omega arith
@@ -63,15 +62,15 @@ unfolding piece_of
 nothing_warned = refl
 
 -- the first piece of a body that is not empty, and what is behind it
-abbrev pub first_piece : List Mark → Piece
+abbrev pub first_piece : List Numbered → Piece
 first_piece ms = piece_of (before_first ends_declaration ms)
 
-kept_step : (ms : List Mark) → kept_in ms ≡ kept (first_piece ms) ++ kept_in (after_first ends_declaration ms)
+kept_step : (ms : List Numbered) → kept_in ms ≡ kept (first_piece ms) ++ kept_in (after_first ends_declaration ms)
 unfolding kept_in piece_of
 kept_step [] = refl
 kept_step (m ∷ ms) = split_step ends_declaration (λ x. kept (piece_of x)) (m ∷ ms) m (ltb (position_or_len ends_declaration (m ∷ ms)) (length (m ∷ ms))) nothing_kept refl
 
-warnings_step : (ms : List Mark) → warnings_in ms ≡ warned (first_piece ms) ++ warnings_in (after_first ends_declaration ms)
+warnings_step : (ms : List Numbered) → warnings_in ms ≡ warned (first_piece ms) ++ warnings_in (after_first ends_declaration ms)
 unfolding warnings_in piece_of
 warnings_step [] = refl
 warnings_step (m ∷ ms) = split_step ends_declaration (λ x. warned (piece_of x)) (m ∷ ms) m (ltb (position_or_len ends_declaration (m ∷ ms)) (length (m ∷ ms))) nothing_warned refl
@@ -92,27 +91,26 @@ suc_plus n k = omega arith
 pub past_append : (n : ℕ) (xs ys : List Kept) → past_declarations n (xs ++ ys) ≡ past_declarations n xs ++ past_declarations (n + length xs) ys
 past_append n [] ys = ap (λ y. past_declarations y ys) (let z : n ≡ n + 0 = omega arith in z)
 past_append n (k ∷ xs) ys =
-    let here : List Place = if nat_le 256 n then k.start ∷ [] else [] in
+    let here : List ℕ = if nat_le 256 n then k.start ∷ [] else [] in
     ap (λ y. here ++ (option_to_list k.past ++ y)) (past_append (suc n) xs ys ∙ ap (λ y. past_declarations (suc n) xs ++ past_declarations y ys) (suc_plus n (length xs)))
     ∙ sym (append_assoc here (option_to_list k.past ++ past_declarations (suc n) xs) (past_declarations (n + length (k ∷ xs)) ys)
     ∙ ap (λ y. here ++ y) (append_assoc (option_to_list k.past) (past_declarations (suc n) xs) (past_declarations (n + length (k ∷ xs)) ys)))
 
-pub first_more : (ps qs : List Place) (e : SheetError) → IsPast ps e → IsPast (ps ++ qs) e
-first_more ps qs (NotUtf8 n) h = h
+pub first_more : (ps qs : List ℕ) (e : Stop) → IsStop ps e → IsStop (ps ++ qs) e
 first_more ps qs Memory h = tt
-first_more [] qs (Limit l c) h = absurd h
-first_more (p ∷ ps) qs (Limit l c) h = h
+first_more [] qs (Past n) h = absurd h
+first_more (p ∷ ps) qs (Past n) h = h
 
 -- so far
 
-pub record IsSoFar (declarations : List Declaration) (warnings old : List Place) (rest body : List Mark) : Type 0 where
+pub record IsSoFar (declarations : List Declaration) (warnings old : List ℕ) (rest body : List Numbered) : Type 0 where
   pub done : List Kept
   pub are_kept : declarations ≡ map (λ k. k.declaration) done
   pub within : past_declarations 0 done ≡ []
   pub whole : kept_in body ≡ done ++ kept_in rest
   pub dropped : warnings ++ warnings_in rest ≡ old ++ warnings_in body
 
-pub so_far_none : (old : List Place) (body : List Mark) → IsSoFar [] old old body body
+pub so_far_none : (old : List ℕ) (body : List Numbered) → IsSoFar [] old old body body
 so_far_none old body = record { done = []; are_kept = refl; within = refl; whole = refl; dropped = refl }
 
 -- what is past a limit in the next pieces, in all
@@ -122,7 +120,7 @@ past_in_all declarations done more all e w f =
     let n : 0 + length done ≡ length declarations = omega arith in
     ap (λ y. past_declarations 0 y) f ∙ (past_append 0 done more ∙ (ap (λ y. y ++ past_declarations (0 + length done) more) w ∙ ap (λ y. past_declarations y more) n))
 
-pub so_far_more : (ds ds' : List Declaration) (ws ws' old : List Place) (rest rest' body : List Mark) → IsSoFar ds ws old rest body → rest' ≡ after_first ends_declaration rest → ds' ≡ ds ++ map (λ k. k.declaration) (kept (first_piece rest)) → ws' ≡ ws ++ warned (first_piece rest) → past_declarations (length ds) (kept (first_piece rest)) ≡ [] → IsSoFar ds' ws' old rest' body
+pub so_far_more : (ds ds' : List Declaration) (ws ws' old : List ℕ) (rest rest' body : List Numbered) → IsSoFar ds ws old rest body → rest' ≡ after_first ends_declaration rest → ds' ≡ ds ++ map (λ k. k.declaration) (kept (first_piece rest)) → ws' ≡ ws ++ warned (first_piece rest) → past_declarations (length ds) (kept (first_piece rest)) ≡ [] → IsSoFar ds' ws' old rest' body
 so_far_more ds ds' ws ws' old rest rest' body s r e f w =
     let more : List Kept = kept (first_piece rest) in
     record {
@@ -133,31 +131,31 @@ so_far_more ds ds' ws ws' old rest rest' body s r e f w =
       dropped = ap (λ y. y ++ warnings_in rest') f ∙ (append_assoc ws (warned (first_piece rest)) (warnings_in rest') ∙ (ap (λ y. ws ++ y) (sym (warnings_step rest ∙ ap (λ y. warned (first_piece rest) ++ warnings_in y) (sym r))) ∙ s.dropped));
     }
 
-pub so_far_stops : (ds : List Declaration) (ws old : List Place) (rest body : List Mark) (e : SheetError) → IsSoFar ds ws old rest body → IsPast (past_declarations (length ds) (kept (first_piece rest))) e → IsPast (past_declarations 0 (kept_in body)) e
+pub so_far_stops : (ds : List Declaration) (ws old : List ℕ) (rest body : List Numbered) (e : Stop) → IsSoFar ds ws old rest body → IsStop (past_declarations (length ds) (kept (first_piece rest))) e → IsStop (past_declarations 0 (kept_in body)) e
 so_far_stops ds ws old rest body e s h =
     let more : List Kept = kept (first_piece rest) in
     let left : List Kept = kept_in (after_first ends_declaration rest) in
-    subst (λ y. IsPast y e)
+    subst (λ y. IsStop y e)
     (sym (past_in_all ds s.done (more ++ left) (kept_in body) s.are_kept s.within (s.whole ∙ ap (λ y. s.done ++ y) (kept_step rest)) ∙ past_append (length ds) more left))
     (first_more (past_declarations (length ds) more) (past_declarations (length ds + length more) left) e h)
 
-none_left : (rest : List Mark) → length rest ≡ 0 → rest ≡ []
+none_left : (rest : List Numbered) → length rest ≡ 0 → rest ≡ []
 none_left [] e = refl
 none_left (m ∷ rest) e = absurd (no_suc (length rest) (sym e))
 
-pub so_far_kept : (ds : List Declaration) (ws old : List Place) (rest body : List Mark) → IsSoFar ds ws old rest body → length rest ≡ 0 → ds ≡ map (λ k. k.declaration) (kept_in body)
+pub so_far_kept : (ds : List Declaration) (ws old : List ℕ) (rest body : List Numbered) → IsSoFar ds ws old rest body → length rest ≡ 0 → ds ≡ map (λ k. k.declaration) (kept_in body)
 so_far_kept ds ws old rest body s e =
     s.are_kept ∙ sym (ap (λ y. map (λ k. k.declaration) y) (s.whole ∙ (ap (λ y. s.done ++ y) (ap kept_in (none_left rest e) ∙ kept_none) ∙ append-nil s.done)))
 
-pub so_far_dropped : (ds : List Declaration) (ws old : List Place) (rest body : List Mark) → IsSoFar ds ws old rest body → length rest ≡ 0 → ws ≡ old ++ warnings_in body
+pub so_far_dropped : (ds : List Declaration) (ws old : List ℕ) (rest body : List Numbered) → IsSoFar ds ws old rest body → length rest ≡ 0 → ws ≡ old ++ warnings_in body
 so_far_dropped ds ws old rest body s e =
     sym (ap (λ y. ws ++ y) (ap warnings_in (none_left rest e) ∙ warnings_none) ∙ append-nil ws) ∙ s.dropped
 
-pub so_far_within : (ds : List Declaration) (ws old : List Place) (rest body : List Mark) → IsSoFar ds ws old rest body → length rest ≡ 0 → past_declarations 0 (kept_in body) ≡ []
+pub so_far_within : (ds : List Declaration) (ws old : List ℕ) (rest body : List Numbered) → IsSoFar ds ws old rest body → length rest ≡ 0 → past_declarations 0 (kept_in body) ≡ []
 so_far_within ds ws old rest body s e =
     ap (λ y. past_declarations 0 y) (s.whole ∙ (ap (λ y. s.done ++ y) (ap kept_in (none_left rest e) ∙ kept_none) ∙ append-nil s.done)) ∙ s.within
 
 -- an error that is passed on
-pub passed : {A : Type 0} (ps : List Place) (r : Result A SheetError) (e : SheetError) → IsErrAnd r (λ y. y ≡ e) → IsPast ps e → IfErr r (IsPast ps)
+pub passed : {A : Type 0} (ps : List ℕ) (r : Result A Stop) (e : Stop) → IsErrAnd r (λ y. y ≡ e) → IsStop ps e → IfErr r (IsStop ps)
 passed ps (Ok x) e h p = absurd h
-passed ps (Err y) e h p = subst (IsPast ps) (sym h) p
+passed ps (Err y) e h p = subst (IsStop ps) (sym h) p

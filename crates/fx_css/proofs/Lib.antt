@@ -1,8 +1,6 @@
-pub mod Comments
-pub mod Places
-pub mod Scans
-pub mod RunLemmas
-pub mod Slices
+pub mod NumberedLemmas
+pub mod Finds
+pub mod Ends
 pub mod Blocks
 pub mod Bodies
 pub mod Turns

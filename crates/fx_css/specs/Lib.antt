@@ -1,9 +1,6 @@
-pub mod Characters
-pub mod Marks
-pub mod Scanning
+pub mod Numbered
 pub mod Pieces
 pub mod Rules
-pub mod Runs
 pub mod Cutting
 pub mod Sheets
 pub mod Agent

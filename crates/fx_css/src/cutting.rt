@@ -1,99 +1,98 @@
-//! Where the parts of a sheet end, in marks from the first one on.
+//! Where the parts of a sheet end, in bytes from the first one on.
 //! Rules and declarations are cut off at these ends.
-ghost use Rattle.std.specs.Prelude.{◌≡◌, ◌≤◌, length, take, drop};
+ghost use Rattle.std.specs.Prelude.{◌≡◌, ◌≤◌, ◌==◌, ◌||◌, length};
 ghost use Rattle.std.specs.List.{position_or_len};
+ghost use Rattle.fx_css.specs.Numbered.{shown};
 ghost use Rattle.fx_css.specs.Pieces.{ends_declaration};
 ghost use Rattle.fx_css.specs.Rules.{is_open, is_close};
 ghost use Rattle.fx_css.specs.Cutting.{block_length, at_rule_length};
 
-use crate::marks::Mark;
+use crate::parts::Part;
+use memchr::{memchr, memchr2};
 
-/// The first items, up to an end.
-pub fn front<T>(items: &[T], end: usize) -> &[T]
-    requires { end ≤ length items.now }
-    ensures { result.now ≡ take end items.now }
+/// Where the first of two bytes stands, or the length.
+fn first_of_two(one: u8, other: u8, signs: &[u8]) -> usize
+    ensures { result ≡ position_or_len (λ b. (b == one) || (b == other)) signs.now }
 {
-    &items[..end]
-}
-
-/// The items from a place on, none if it is behind them all.
-pub fn behind<T>(items: &[T], at: usize) -> &[T]
-    ensures { result.now ≡ drop at items.now }
-{
-    if at > items.len() {
-        return &[];
-    }
-    &items[at..]
-}
-
-impl Mark {
-    /// `;` and `}` end a declaration.
-    #[tactic(auto, unfolding(crate::specs::Pieces::ends_declaration, crate::specs::Characters::is_sign))]
-    fn ends_declaration(self) -> bool
-        ensures { result ≡ ends_declaration self }
-    {
-        (self.character == ';' || self.character == '}') && self.plain
+    match memchr2(one, other, signs) {
+        Some(at) => at,
+        None => signs.len(),
     }
 }
 
-/// Where the first declaration ends.
-pub fn declaration_end(marks: &[Mark]) -> usize
-    ensures at { result ≡ position_or_len ends_declaration marks.now }
-    ensures within { result ≤ length marks.now }
+/// Where the first such byte stands, or the length.
+fn first_of(sign: u8, signs: &[u8]) -> usize
+    ensures { result ≡ position_or_len (λ b. b == sign) signs.now }
 {
-    marks
-        .iter()
-        .take_while(|mark| !mark.ends_declaration())
-        .count()
+    match memchr(sign, signs) {
+        Some(at) => at,
+        None => signs.len(),
+    }
+}
+
+/// Where the first declaration ends, at a `;` or a `}`.
+pub fn declaration_end(part: Part<'_>) -> usize
+    ensures at { result ≡ position_or_len ends_declaration (shown part.entry) }
+    ensures within { result ≤ length (shown part.entry) }
+{
+    first_of_two(b';', b'}', part.signs)
 }
 
 /// Where the first `{` stands.
-pub fn opening(marks: &[Mark]) -> usize
-    ensures at { result ≡ position_or_len is_open marks.now }
-    ensures within { result ≤ length marks.now }
+pub fn opening(part: Part<'_>) -> usize
+    ensures at { result ≡ position_or_len is_open (shown part.entry) }
+    ensures within { result ≤ length (shown part.entry) }
 {
-    marks.iter().take_while(|mark| !mark.is_sign('{')).count()
+    first_of(b'{', part.signs)
 }
 
 /// Where the first `}` stands.
-pub fn closing(marks: &[Mark]) -> usize
-    ensures at { result ≡ position_or_len is_close marks.now }
-    ensures within { result ≤ length marks.now }
+pub fn closing(part: Part<'_>) -> usize
+    ensures at { result ≡ position_or_len is_close (shown part.entry) }
+    ensures within { result ≤ length (shown part.entry) }
 {
-    marks.iter().take_while(|mark| !mark.is_sign('}')).count()
+    first_of(b'}', part.signs)
 }
 
-/// The marks to the end of a block that is open before them.
-pub fn block_length(marks: &[Mark]) -> usize
-    ensures length { result ≡ block_length 0 marks.now }
-    ensures within { result ≤ length marks.now }
+/// The bytes to the end of a block that is open before them.
+pub fn block_length(part: Part<'_>) -> usize
+    ensures length { result ≡ block_length 0 (shown part.entry) }
+    ensures within { result ≤ length (shown part.entry) }
 {
     let mut open: usize = 0;
-    for (index, mark) in marks.iter().enumerate() {
-        if mark.is_sign('{') {
+    let mut taken: usize = 0;
+    let mut rest = part;
+    while let Some((first, behind)) = rest.split_first() {
+        taken += 1;
+        if first.is_sign(b'{') {
             open += 1;
-        } else if mark.is_sign('}') {
+        } else if first.is_sign(b'}') {
             if open == 0 {
-                return index + 1;
+                return taken;
             }
             open -= 1;
         }
+        rest = behind;
     }
-    marks.len()
+    taken
 }
 
-/// The marks behind an `@` to the end of its at-rule.
-pub fn at_rule_length(marks: &[Mark]) -> usize
-    ensures length { result ≡ at_rule_length marks.now }
-    ensures within { result ≤ length marks.now }
+/// The bytes behind an `@` to the end of its at-rule.
+pub fn at_rule_length(part: Part<'_>) -> usize
+    ensures length { result ≡ at_rule_length (shown part.entry) }
+    ensures within { result ≤ length (shown part.entry) }
 {
-    for (index, mark) in marks.iter().enumerate() {
-        if mark.is_sign(';') {
-            return index + 1;
+    let mut taken: usize = 0;
+    let mut rest = part;
+    while let Some((first, behind)) = rest.split_first() {
+        taken += 1;
+        if first.is_sign(b';') {
+            return taken;
         }
-        if mark.is_sign('{') {
-            return index + 1 + block_length(behind(marks, index + 1));
+        if first.is_sign(b'{') {
+            return taken + block_length(behind);
         }
+        rest = behind;
     }
-    marks.len()
+    taken
 }

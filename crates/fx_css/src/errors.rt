@@ -1,9 +1,5 @@
-//! Why a sheet isn't read. What is no rule or no declaration is never a reason: it is dropped with a warning.
+//! Why a sheet isn't read, and where its reading stops. What is no rule or no declaration is never a reason: it is dropped with a warning.
 //! Readers answer it, and loading names the file.
-ghost use Rattle.std.specs.Prelude.{◌≡◌};
-ghost use Rattle.fx_css.specs.declared.errors.SheetError.TheVariants.{Limit};
-
-use fx_base::Place;
 use std::alloc::{AllocError, AllocFailed};
 use thiserror::Error;
 
@@ -20,13 +16,12 @@ pub enum SheetError {
     Memory,
 }
 
-impl SheetError {
-    /// A part past its limit begins at this place.
-    pub fn past(place: Place) -> SheetError
-        ensures { result ≡ Limit place.line place.column }
-    {
-        SheetError::Limit(place.line, place.column)
-    }
+/// Why reading stops.
+#[derive(Drop)]
+pub enum Stop {
+    /// The byte with this number is the first past a limit.
+    Past(usize),
+    Memory,
 }
 
 impl From<AllocError> for SheetError {
@@ -48,5 +43,27 @@ impl<T: Drop> From<AllocFailed<T>> for SheetError {
 
     fn from(_e: AllocFailed<T>) -> SheetError {
         SheetError::Memory
+    }
+}
+
+impl From<AllocError> for Stop {
+    ghost use Rattle.std.specs.Prelude.{◌≡◌};
+    ghost use Rattle.fx_css.specs.declared.errors.Stop.TheVariants.{Memory};
+
+    ghost from_gives = { λ _ e. e ≡ Memory };
+
+    fn from(_e: AllocError) -> Stop {
+        Stop::Memory
+    }
+}
+
+impl<T: Drop> From<AllocFailed<T>> for Stop {
+    ghost use Rattle.std.specs.Prelude.{◌≡◌};
+    ghost use Rattle.fx_css.specs.declared.errors.Stop.TheVariants.{Memory};
+
+    ghost from_gives = { λ _ e. e ≡ Memory };
+
+    fn from(_e: AllocFailed<T>) -> Stop {
+        Stop::Memory
     }
 }

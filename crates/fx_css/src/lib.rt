@@ -8,10 +8,10 @@ mod declarations;
 mod errors;
 mod inline;
 mod laws;
-mod marks;
+mod parts;
 mod rules;
-mod runs;
 mod sheets;
+mod splitting;
 
 pub use agent::agent_sheet;
 pub use errors::SheetError;

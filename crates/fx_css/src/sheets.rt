@@ -1,52 +1,112 @@
 //! Sheets are read from bytes, and the `style` of a node from its text.
 //! What was dropped is told by its places; a limit is told by the first part past it.
 ghost use Rattle.std.specs.Prelude.{◌≡◌, ◌≤◌, List as Items, [], length, IfOk, IfErr, OnOk};
-ghost use Rattle.std.specs.Str.{chars, IsUtf8, IsValidUpTo};
-ghost use Rattle.fx_css.specs.Pieces.{characters};
+ghost use Rattle.std.specs.Str.{IsUtf8, IsValidUpTo};
 ghost use Rattle.fx_base.specs.declared.geometry.Place.{Place};
 ghost use Rattle.fx_sheet.specs.declared.sheets.Rule.{Rule};
-ghost use Rattle.fx_css.specs.Sheets.{AreRead, IsSheetRead, IsSheetText, HasFault, IsGiven, IsRefused};
+ghost use Rattle.fx_marks.specs.declared.marks.Mark.{Mark};
+ghost use Rattle.fx_marks.specs.Bytes.{first_place};
+ghost use Rattle.fx_marks.specs.Marks.{Marked};
+ghost use Rattle.fx_css.specs.Numbered.{shown, numbered_marks};
+ghost use Rattle.fx_css.specs.Sheets.{AreRead, AreReadAs, IsReadAs, IsToldStop, IsTold, IsSheetText, HasFault, IsGiven, IsRefused};
 
-use crate::cutting::behind;
-use crate::errors::SheetError;
-use crate::marks::{Mark, characters, marks_of};
+use crate::errors::{SheetError, Stop};
+use crate::inline::read_style;
+use crate::parts::Part;
 use crate::rules::{Draft, read_turn};
 use fx_base::List;
+use fx_marks::{is_bare, place, places, spoken};
 use fx_sheet::Sheet;
 use std::alloc::Global;
 use std::str;
 
-/// The rules of marks, whose characters are the text.
-fn read_marks(alloc: Global, marks: &[Mark], text: &[char]) -> Result<Sheet, SheetError>
-    requires { text.now ≡ characters marks.now }
-    ensures { AreRead marks.now result }
+/// What a text is read as.
+#[derive(Clone, Copy)]
+pub enum Form {
+    Sheet,
+    /// The body of one rule without selector.
+    Style,
+}
+
+/// The rules of a whole sheet.
+fn read_rules(alloc: Global, whole: Part<'_>) -> Result<Draft, Stop>
+    ensures { AreRead (shown whole.entry) result }
 {
     let mut draft = Draft {
         rules: Vec::new(alloc),
         warnings: Vec::new(alloc),
     };
-    let mut rest = marks;
-    let mut rest_text = text;
+    let mut rest = whole;
     while !rest.is_empty() {
-        let taken = read_turn(alloc, rest, rest_text, &mut draft)?;
-        rest = behind(rest, taken);
-        rest_text = behind(rest_text, taken);
+        let taken = read_turn(alloc, rest, &mut draft)?;
+        rest = rest.behind(taken);
     }
-    let Draft { rules, warnings } = draft;
-    Ok(Sheet {
-        rules: List::from_vec(rules),
-        warnings: List::from_vec(warnings),
-    })
+    Ok(draft)
 }
 
-/// The sheet of a text in this file.
-fn read_text(alloc: Global, text: &str, file: u32) -> Result<Sheet, SheetError>
-    requires { length text.now ≤ 4194304 }
-    ensures { IsSheetRead file (chars text.now) result }
+fn read_part(alloc: Global, form: Form, whole: Part<'_>) -> Result<Draft, Stop>
+    ensures { AreReadAs form (shown whole.entry) result }
 {
-    let marks = marks_of(alloc, text, file)?;
-    let characters = characters(alloc, marks.as_slice())?;
-    read_marks(alloc, marks.as_slice(), characters.as_slice())
+    match form {
+        Form::Sheet => read_rules(alloc, whole),
+        Form::Style => read_style(alloc, whole),
+    }
+}
+
+/// The rules of a text, with the numbers of what was dropped.
+fn read_text(alloc: Global, form: Form, text: &[u8]) -> Result<Draft, Stop>
+    ensures { (p : Place) (marks : Items Mark) → Marked p text.now marks → AreReadAs form (numbered_marks marks) result }
+{
+    if is_bare(text) {
+        return read_part(alloc, form, Part::whole(text, text));
+    }
+    let said = spoken(alloc, text)?;
+    let whole = Part::whole(said.bytes.as_slice(), said.signs.as_slice());
+    read_part(alloc, form, whole)
+}
+
+/// Why reading a text stopped, with a place for a number.
+fn told_stop(stop: Stop, text: &[u8], file: u32) -> SheetError
+    requires { length text.now ≤ 4194304 }
+    ensures { (marks : Items Mark) → Marked (first_place file) text.now marks → IsToldStop file marks stop result }
+{
+    match stop {
+        Stop::Past(number) => {
+            let start = place(text, file, number);
+            SheetError::Limit(start.line, start.column)
+        }
+        Stop::Memory => SheetError::Memory,
+    }
+}
+
+/// What was read of a text, with places for numbers.
+fn told(
+    alloc: Global,
+    read: Result<Draft, Stop>,
+    text: &[u8],
+    file: u32,
+) -> Result<Sheet, SheetError>
+    requires { length text.now ≤ 4194304 }
+    ensures { (marks : Items Mark) → Marked (first_place file) text.now marks → IsTold file marks read result }
+{
+    match read {
+        Ok(Draft { rules, warnings }) => {
+            let warnings = places(alloc, text, file, warnings.as_slice())?;
+            Ok(Sheet {
+                rules: List::from_vec(rules),
+                warnings: List::from_vec(warnings),
+            })
+        }
+        Err(stop) => Err(told_stop(stop, text, file)),
+    }
+}
+
+/// The text of this file, read as a sheet or a `style`.
+pub fn read_as(alloc: Global, form: Form, text: &[u8], file: u32) -> Result<Sheet, SheetError>
+    requires { length text.now ≤ 4194304 }
+    ensures { (marks : Items Mark) → Marked (first_place file) text.now marks → IsReadAs form file marks result }
+{
+    told(alloc, read_text(alloc, form, text), text, file)
 }
 
 /// The sheet of these bytes of a CSS file (JavaFX CSS Reference Guide 21), with the places of what was dropped, or why it can't be
@@ -54,16 +114,16 @@ fn read_text(alloc: Global, text: &str, file: u32) -> Result<Sheet, SheetError>
 /// 256 declarations of a rule and 8 layers of one.
 pub fn read_sheet(alloc: Global, bytes: &[u8], file: u32) -> Result<Sheet, SheetError>
     requires { length bytes.now ≤ 4194304 }
-    ensures read { IfOk result (λ sheet. IsSheetText file (chars bytes.now) sheet.rules sheet.warnings []) }
+    ensures read { IfOk result (λ sheet. IsSheetText file bytes.now sheet.rules sheet.warnings []) }
     ensures utf8 { OnOk result (IsUtf8 bytes.now) }
     ensures fault { IfErr result (HasFault file bytes.now) }
 
     // The other way round: every text is read, and in one way.
-    ensures exact { (rules : Items Rule) (warnings past : Items Place) → IsUtf8 bytes.now → IsSheetText file (chars bytes.now) rules warnings past → IsGiven rules warnings past result }
+    ensures exact { (rules : Items Rule) (warnings past : Items Place) → IsUtf8 bytes.now → IsSheetText file bytes.now rules warnings past → IsGiven rules warnings past result }
     ensures refused { (IsUtf8 bytes.now → ⊥) → IsRefused result }
 {
     match str::from_utf8(bytes) {
-        Ok(text) => read_text(alloc, text, file),
+        Ok(_) => read_as(alloc, Form::Sheet, bytes, file),
         Err(error) => Err(SheetError::NotUtf8(error.valid_up_to())),
     }
 }

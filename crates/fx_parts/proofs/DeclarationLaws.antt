@@ -25,7 +25,7 @@ use Rattle.fx_sheet.specs.declared.declarations.Paint.TheVariants as paint
 use Rattle.fx_sheet.specs.declared.declarations.Declared.{Declared}
 use Rattle.fx_sheet.specs.declared.declarations.Declared.TheVariants as declared
 use Rattle.fx_sheet.specs.declared.declarations.Declaration.{Declaration}
-use Rattle.fx_parts.specs.Texts.{utf8, is_later, is_ident, stops, trimmed, IsTrimmed}
+use Rattle.fx_parts.specs.Texts.{is_later, is_ident, stops, trimmed, IsTrimmed}
 use Rattle.fx_parts.specs.Layers.{separated_at}
 use Rattle.fx_parts.specs.Declaring.{IsPaint, color, named, AreSides, positions, IsStyled, insets, constant, size, yes, no, visible, hidden, collapse, painted, painted_layers, inset_layers, IsDeclared, inherited, styled, other, form_of, IsDeclaration, named_at, paint_at, insets_at, position_at, truth_at, visibility_at, styled_at, declared_at, declaration, with_value, not_colon, declaration_in}
 use Rattle.fx_parts.proofs.TrimLemmas.{trimmed_sound, trimmed_complete}
@@ -36,31 +36,31 @@ use Rattle.fx_parts.proofs.SelectorLaws.{ident_later, all_more, all_append}
 -- paints and sides
 
 paint_complete : (text : List ℕ) (p : Paint) → IsPaint text p → paint_at text ≡ Some p
-paint_complete text p (color t c i) = ap (λ y. option_map_or (λ c. Some (paint.Color c)) y (named_at t)) (color_complete (utf8 t) c i)
+paint_complete text p (color t c i) = ap (λ y. option_map_or (λ c. Some (paint.Color c)) y (named_at t)) (color_complete t c i)
 paint_complete text p (named t i n) =
-    ap (λ y. option_map_or (λ c. Some (paint.Color c)) y (named_at t)) (colorless (color_at (utf8 t)) refl)
+    ap (λ y. option_map_or (λ c. Some (paint.Color c)) y (named_at t)) (colorless (color_at t) refl)
     ∙ ap (λ b. cond b (Some (paint.Named t)) None) i
   where
-    colorless : (o : Option Rgba) → color_at (utf8 t) ≡ o → color_at (utf8 t) ≡ None
+    colorless : (o : Option Rgba) → color_at t ≡ o → color_at t ≡ None
     colorless None e = e
-    colorless (Some c) e = absurd (n c (color_sound (utf8 t) c e))
+    colorless (Some c) e = absurd (n c (color_sound t c e))
 
-paint_sound_by : (text : List ℕ) (o : Option Rgba) (p : Paint) → color_at (utf8 text) ≡ o → option_map_or (λ c. Some (paint.Color c)) o (named_at text) ≡ Some p → IsPaint text p
+paint_sound_by : (text : List ℕ) (o : Option Rgba) (p : Paint) → color_at text ≡ o → option_map_or (λ c. Some (paint.Color c)) o (named_at text) ≡ Some p → IsPaint text p
 paint_sound_by text None p e h =
     let good = then_gives (is_ident text) (Some (paint.Named text)) p h in
     let same : paint.Named text ≡ p = cc in
-    subst (λ y. IsPaint text y) same (named text good.0 (λ c i. let both : None ≡ Some c = sym e ∙ color_complete (utf8 text) c i in cc))
+    subst (λ y. IsPaint text y) same (named text good.0 (λ c i. let both : None ≡ Some c = sym e ∙ color_complete text c i in cc))
 paint_sound_by text (Some c) p e h =
     let same : paint.Color c ≡ p = cc in
-    subst (λ y. IsPaint text y) same (color text c (color_sound (utf8 text) c e))
+    subst (λ y. IsPaint text y) same (color text c (color_sound text c e))
 
-paints_read : IsReading IsPaint paint_at
-paints_read = record { sound = λ text p e. paint_sound_by text (color_at (utf8 text)) p refl e; complete = paint_complete }
+pub paints_read : IsReading IsPaint paint_at
+paints_read = record { sound = λ text p e. paint_sound_by text (color_at text) p refl e; complete = paint_complete }
 
-insets_read : IsReading AreSides insets_at
+pub insets_read : IsReading AreSides insets_at
 insets_read = record {
-  sound = λ text s e. sides_sound IsSize size_at sizes_read (utf8 text) s e;
-  complete = λ text s i. sides_complete IsSize size_at sizes_read (utf8 text) s i;
+  sound = λ text s e. sides_sound IsSize size_at sizes_read text s e;
+  complete = λ text s i. sides_complete IsSize size_at sizes_read text s i;
 }
 
 -- constants
@@ -117,9 +117,9 @@ visibility_cases word b e = elim (bytes_tell word (codes "visible")) [
 -- values
 
 styled_complete : (f : StyleForm) (text : List ℕ) (d : Declared) → IsStyled f text d → styled_at f text ≡ Some d
-styled_complete f text d (insets t s i) = ap (λ y. option_map (λ s. declared.Plain (value.Sides s)) y) (sides_complete IsSize size_at sizes_read (utf8 t) s i)
-styled_complete f text d (constant t place e) = ap (λ y. option_map (λ place. declared.Plain (value.Choice Pos place)) y) (position_complete place (utf8 t) e)
-styled_complete f text d (size t n i) = ap (λ y. option_map (λ n. declared.Plain (value.Int n)) y) (size_complete (utf8 t) n i)
+styled_complete f text d (insets t s i) = ap (λ y. option_map (λ s. declared.Plain (value.Sides s)) y) (sides_complete IsSize size_at sizes_read t s i)
+styled_complete f text d (constant t place e) = ap (λ y. option_map (λ place. declared.Plain (value.Choice Pos place)) y) (position_complete place t e)
+styled_complete f text d (size t n i) = ap (λ y. option_map (λ n. declared.Plain (value.Int n)) y) (size_complete t n i)
 styled_complete f text d (yes t e) = ap (λ y. option_map (λ b. declared.Plain (value.Bool b)) (truth_at y)) e
 styled_complete f text d (no t e) = ap (λ y. option_map (λ b. declared.Plain (value.Bool b)) (truth_at y)) e
 styled_complete f text d (visible t e) = ap (λ y. option_map (λ b. declared.Plain (value.Bool b)) (visibility_at y)) e
@@ -129,11 +129,11 @@ styled_complete f text d (painted t p i) = ap (λ y. option_map declared.Paint y
 styled_complete f text d (painted_layers t ps i) = ap (λ y. option_map declared.Paints y) ((separated_read IsPaint paint_at paints_read).complete t ps i)
 styled_complete f text d (inset_layers t ss i) = ap (λ y. option_map declared.SidesList y) ((separated_read AreSides insets_at insets_read).complete t ss i)
 
-truth_styled : (text : List ℕ) (b : Bool) → ((utf8 text ≡ codes "true") × (true ≡ b)) ⊎ ((utf8 text ≡ codes "false") × (false ≡ b)) → IsStyled form.Truth text (declared.Plain (value.Bool b))
+truth_styled : (text : List ℕ) (b : Bool) → ((text ≡ codes "true") × (true ≡ b)) ⊎ ((text ≡ codes "false") × (false ≡ b)) → IsStyled form.Truth text (declared.Plain (value.Bool b))
 truth_styled text b (inl h) = subst (λ y. IsStyled form.Truth text (declared.Plain (value.Bool y))) h.1 (yes text h.0)
 truth_styled text b (inr h) = subst (λ y. IsStyled form.Truth text (declared.Plain (value.Bool y))) h.1 (no text h.0)
 
-visibility_styled : (text : List ℕ) (b : Bool) → Seen (utf8 text) b → IsStyled form.Visibility text (declared.Plain (value.Bool b))
+visibility_styled : (text : List ℕ) (b : Bool) → Seen text b → IsStyled form.Visibility text (declared.Plain (value.Bool b))
 visibility_styled text b (inl h) = subst (λ y. IsStyled form.Visibility text (declared.Plain (value.Bool y))) h.1 (visible text h.0)
 visibility_styled text b (inr (inl h)) = subst (λ y. IsStyled form.Visibility text (declared.Plain (value.Bool y))) h.1 (hidden text h.0)
 visibility_styled text b (inr (inr h)) = subst (λ y. IsStyled form.Visibility text (declared.Plain (value.Bool y))) h.1 (collapse text h.0)
@@ -141,19 +141,19 @@ visibility_styled text b (inr (inr h)) = subst (λ y. IsStyled form.Visibility t
 styled_sound : (f : StyleForm) (text : List ℕ) (d : Declared) → styled_at f text ≡ Some d → IsStyled f text d
 styled_sound form.Sides text d e =
     let h = map_gives (λ (s : Insets). declared.Plain (value.Sides s)) (insets_at text) d e in
-    subst (λ y. IsStyled form.Sides text y) h.2 (insets text h.0 (sides_sound IsSize size_at sizes_read (utf8 text) h.0 h.1))
+    subst (λ y. IsStyled form.Sides text y) h.2 (insets text h.0 (sides_sound IsSize size_at sizes_read text h.0 h.1))
 styled_sound form.Position text d e =
-    let h = map_gives (λ (place : ℕ). declared.Plain (value.Choice Pos place)) (position_at (utf8 text)) d e in
-    subst (λ y. IsStyled form.Position text y) h.2 (constant text h.0 (position_sound (utf8 text) h.0 h.1))
+    let h = map_gives (λ (place : ℕ). declared.Plain (value.Choice Pos place)) (position_at text) d e in
+    subst (λ y. IsStyled form.Position text y) h.2 (constant text h.0 (position_sound text h.0 h.1))
 styled_sound form.Size text d e =
-    let h = map_gives (λ (n : ℤ). declared.Plain (value.Int n)) (size_at (utf8 text)) d e in
-    subst (λ y. IsStyled form.Size text y) h.2 (size text h.0 (size_sound (utf8 text) h.0 h.1))
+    let h = map_gives (λ (n : ℤ). declared.Plain (value.Int n)) (size_at text) d e in
+    subst (λ y. IsStyled form.Size text y) h.2 (size text h.0 (size_sound text h.0 h.1))
 styled_sound form.Truth text d e =
-    let h = map_gives (λ (b : Bool). declared.Plain (value.Bool b)) (truth_at (utf8 text)) d e in
-    subst (λ y. IsStyled form.Truth text y) h.2 (truth_styled text h.0 (truth_cases (utf8 text) h.0 h.1))
+    let h = map_gives (λ (b : Bool). declared.Plain (value.Bool b)) (truth_at text) d e in
+    subst (λ y. IsStyled form.Truth text y) h.2 (truth_styled text h.0 (truth_cases text h.0 h.1))
 styled_sound form.Visibility text d e =
-    let h = map_gives (λ (b : Bool). declared.Plain (value.Bool b)) (visibility_at (utf8 text)) d e in
-    subst (λ y. IsStyled form.Visibility text y) h.2 (visibility_styled text h.0 (visibility_cases (utf8 text) h.0 h.1))
+    let h = map_gives (λ (b : Bool). declared.Plain (value.Bool b)) (visibility_at text) d e in
+    subst (λ y. IsStyled form.Visibility text y) h.2 (visibility_styled text h.0 (visibility_cases text h.0 h.1))
 styled_sound form.Paint text d e =
     let h = map_gives declared.Paint (paint_at text) d e in
     subst (λ y. IsStyled form.Paint text y) h.2 (painted text h.0 (paints_read.sound text h.0 h.1))
@@ -165,27 +165,27 @@ styled_sound form.SidesList text d e =
     subst (λ y. IsStyled form.SidesList text y) h.2 (inset_layers text h.0 ((separated_read AreSides insets_at insets_read).sound text h.0 h.1))
 
 declared_complete : (o : Option StyleForm) (text : List ℕ) (d : Declared) → IsDeclared o text d → declared_at o text ≡ Some d
-declared_complete o text d (inherited f t e) = ap (λ b. cond b (Some declared.Inherit) (styled_at f t)) ((bytes_eq-Decides (utf8 t) (codes "inherit")).1 e)
+declared_complete o text d (inherited f t e) = ap (λ b. cond b (Some declared.Inherit) (styled_at f t)) ((bytes_eq-Decides t (codes "inherit")).1 e)
 declared_complete o text d (styled f t v n i) =
     ap (λ b. cond b (Some declared.Inherit) (styled_at f t)) other_word ∙ styled_complete f t v i
   where
-    other_word : bytes_eq (utf8 t) (codes "inherit") ≡ false
-    other_word = elim (bytes_tell (utf8 t) (codes "inherit")) [ inl u ↦ absurd (n u.1) | inr u ↦ u ]
+    other_word : bytes_eq t (codes "inherit") ≡ false
+    other_word = elim (bytes_tell t (codes "inherit")) [ inl u ↦ absurd (n u.1) | inr u ↦ u ]
 declared_complete o text d (other t p i) = ap (λ y. option_map declared.Paint y) (paint_complete t p i)
 
 declared_sound : (o : Option StyleForm) (text : List ℕ) (d : Declared) → declared_at o text ≡ Some d → IsDeclared o text d
 declared_sound None text d e =
     let h = map_gives declared.Paint (paint_at text) d e in
     subst (λ y. IsDeclared None text y) h.2 (other text h.0 (paints_read.sound text h.0 h.1))
-declared_sound (Some f) text d e = elim (bytes_tell (utf8 text) (codes "inherit")) [
+declared_sound (Some f) text d e = elim (bytes_tell text (codes "inherit")) [
   | inl t ↦ let g = rw t.0 at e in
       let same : declared.Inherit ≡ d = cc in
       subst (λ y. IsDeclared (Some f) text y) same (inherited f text t.1)
   | inr t ↦ let g = rw t at e in
-      styled f text d (λ i. let both : true ≡ false = sym ((bytes_eq-Decides (utf8 text) (codes "inherit")).1 i) ∙ t in cc) (styled_sound f text d g)
+      styled f text d (λ i. let both : true ≡ false = sym ((bytes_eq-Decides text (codes "inherit")).1 i) ∙ t in cc) (styled_sound f text d g)
 ]
 
-values_read : (o : Option StyleForm) → IsReading (IsDeclared o) (declared_at o)
+pub values_read : (o : Option StyleForm) → IsReading (IsDeclared o) (declared_at o)
 values_read o = record { sound = declared_sound o; complete = declared_complete o }
 
 -- declarations

@@ -1,8 +1,11 @@
 -- Texts are cut at their first comma outside parentheses, part by part.
-use Rattle.std.proofs.Common.{◌≡◌, ℕ, zero, suc, ◌+◌, ◌<◌, ◌≤◌, Bool, true, false, cond, List, [], ◌∷◌, ◌++◌, length, take, drop, append_assoc, Option, Some, None, refl, sym, ap, ◌∙◌, arith}
+use Rattle.std.proofs.Common.{◌≡◌, ℕ, zero, suc, ◌+◌, ◌<◌, ◌≤◌, Bool, true, false, cond, List, [], ◌∷◌, ◌++◌, length, take, drop, append_assoc, zero-add, Option, Some, None, refl, sym, ap, ◌∙◌, arith}
+use Rattle.std.specs.List.{prefix_len}
 use Rattle.std.specs.Option.{option_and_then, option_map}
+use Rattle.std.proofs.lemmas.Bool.Decides.{nat_tests}
 use Rattle.fx_parts.specs.Texts.{trimmed}
 use Rattle.fx_parts.specs.Layers.{depth_behind, separates, part_length, first_part, behind_comma, behind_part, onto_first, parts, each_at, separated_at, left_at}
+use Rattle.fx_parts.specs.Drafts.{is_flat}
 
 abbrev pub parts_left : Option (List ℕ) → List (List ℕ)
 parts_left None = []
@@ -70,3 +73,23 @@ pub depth_grows : (d c : ℕ) → depth_behind d c ≤ d + 1
 depth_grows d c = grind arith
 
 pub ruleset length_moves = (length_step, length_stop, depth_grows)
+
+-- the flat front of a part
+
+flat_on : (c : ℕ) → is_flat c ≡ true → separates 0 c ≡ false
+flat_on c e = grind (arith, nat_tests, e)
+
+flat_depth : (c : ℕ) → is_flat c ≡ true → depth_behind 0 c ≡ 0
+flat_depth c e = grind (arith, nat_tests, e)
+
+flat_by : (c : ℕ) (cs : List ℕ) (b : Bool) → is_flat c ≡ b → part_length 0 cs ≡ prefix_len is_flat cs + part_length 0 (drop (prefix_len is_flat cs) cs)
+    → part_length 0 (c ∷ cs) ≡ cond b (1 + prefix_len is_flat cs) 0 + part_length 0 (drop (cond b (1 + prefix_len is_flat cs) 0) (c ∷ cs))
+flat_by c cs true e h =
+    let one : 1 + prefix_len is_flat cs ≡ suc (prefix_len is_flat cs) = omega arith in
+    let here : part_length 0 (c ∷ cs) ≡ suc (part_length 0 cs) = length_step 0 c cs (flat_on c e) ∙ ap (λ d. suc (part_length d cs)) (flat_depth c e) in
+    rw one (here ∙ omega (arith, h))
+flat_by c cs false e h = sym (zero-add (part_length 0 (c ∷ cs)))
+
+pub flat_skip : (text : List ℕ) → part_length 0 text ≡ prefix_len is_flat text + part_length 0 (drop (prefix_len is_flat text) text)
+flat_skip [] = refl
+flat_skip (c ∷ cs) = flat_by c cs (is_flat c) refl (flat_skip cs)

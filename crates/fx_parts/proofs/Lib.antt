@@ -1,10 +1,10 @@
-pub mod AsciiLemmas
 pub mod TrimLemmas
 pub mod IdentLemmas
 pub mod LayerLemmas
 pub mod SelectorLemmas
-pub mod ValueLemmas
 pub mod DeclarationLemmas
 pub mod SeparatedLaws
 pub mod SelectorLaws
 pub mod DeclarationLaws
+pub mod PastSelectorLaws
+pub mod PastLayerLaws

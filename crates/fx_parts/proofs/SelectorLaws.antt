@@ -215,10 +215,10 @@ combinator_by gap before (c ∷ cs) k n e w h =
 combinator_sound : (gap : List ℕ) (k : Combinator) → (gap ≡ [] → ⊥) → combinator_at gap ≡ Some k → IsCombinator gap k
 combinator_sound gap k n e = let cut = front_cut gap in combinator_by gap cut.before (trim_front gap) k n cut.parts cut.white e
 
-white_gap : (c : ℕ) → is_white c ≡ true → is_gap c ≡ true
+pub white_gap : (c : ℕ) → is_white c ≡ true → is_gap c ≡ true
 white_gap c e = ap (λ b. b || (c == 62)) e
 
-combinator_gap : (gap : List ℕ) (k : Combinator) → IsCombinator gap k → list_all is_gap gap ≡ true
+pub combinator_gap : (gap : List ℕ) (k : Combinator) → IsCombinator gap k → list_all is_gap gap ≡ true
 combinator_gap gap k (white t some w) = all_more is_white is_gap white_gap t w
 combinator_gap gap k (child t before after e b a) =
     ap (list_all is_gap) e ∙ all_append is_gap before (62 ∷ after) (all_more is_white is_gap white_gap before b) (all_more is_white is_gap white_gap after a)
@@ -227,7 +227,7 @@ child_some : (before after : List ℕ) → before ++ (62 ∷ after) ≡ [] → �
 child_some [] after e = cc
 child_some (x ∷ xs) after e = cc
 
-combinator_some : (gap : List ℕ) (k : Combinator) → IsCombinator gap k → gap ≡ [] → ⊥
+pub combinator_some : (gap : List ℕ) (k : Combinator) → IsCombinator gap k → gap ≡ [] → ⊥
 combinator_some gap k (white t some w) n = some n
 combinator_some gap k (child t before after e b a) n = child_some before after (sym e ∙ n)
 

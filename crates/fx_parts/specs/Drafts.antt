@@ -1,7 +1,8 @@
--- A compound as far as it is read, and how far the parts of a text are counted.
-use Rattle.std.specs.Prelude.{ℕ, ◌+◌, ◌-◌, ◌||◌, true, false, ◌==◌, nat_le, if◌then◌else◌, List, [], ◌++◌, Option, Some, None, slice_get}
+-- A compound as far as it is read, and how far the parts of a text are cut and counted.
+use Rattle.std.specs.Prelude.{ℕ, ◌+◌, ◌-◌, Bool, not, ◌&&◌, ◌||◌, true, false, ◌==◌, nat_le, if◌then◌else◌, List, [], ◌++◌, length, Option, Some, None, slice_get}
 use Rattle.std.specs.List.{list_all, find}
 use Rattle.std.specs.Option.{option_map}
+use Rattle.fx_sheet.specs.declared.selectors.Selector.{Selector}
 use Rattle.fx_look.specs.Colors.{is_white}
 use Rattle.fx_parts.specs.declared.compounds.Names.{Names}
 use Rattle.fx_parts.specs.declared.limits.Count.{Count}
@@ -28,7 +29,7 @@ names_of n ps = if list_all is_part ps then Some (with_names n ps) else None
 abbrev pub no_names : NameLists
 no_names = record { classes = []; ids = []; pseudos = [] }
 
--- behind a character, or none at the first character of a part past its limit
+-- behind a byte, or none at the first byte of a part past its limit
 abbrev pub count_behind : Count → ℕ → Option Count
 count_behind n c = if c == 44 then Some (record { selector = n.selector + 1; compound = 0; within = false })
     else (if is_gap c then Some (record { selector = n.selector; compound = n.compound; within = false })
@@ -39,7 +40,7 @@ count_behind n c = if c == 44 then Some (record { selector = n.selector + 1; com
 abbrev pub past_from : Count → ℕ → List ℕ → Option ℕ
 past_from n place text = option_map (λ s. s.place) (find is_past (starts n.within n.selector n.compound place text))
 
--- behind a character, or none at the first character of the layer that is past the limit
+-- behind a byte, or none at the first byte of the layer that is past the limit
 abbrev pub layer_behind : LayerCount → ℕ → Option LayerCount
 layer_behind n c = if separates n.depth c then Some (record { within = false; depth = 0; left = n.left })
     else (if n.within || is_white c then Some (record { within = n.within; depth = depth_behind n.depth c; left = n.left })
@@ -48,3 +49,14 @@ layer_behind n c = if separates n.depth c then Some (record { within = false; de
 
 abbrev pub layer_from : LayerCount → ℕ → List ℕ → Option ℕ
 layer_from n place value = slice_get (layer_starts n.within n.depth place value) n.left
+
+-- before the first comma or parenthesis that opens, nothing is cut and nothing is nested
+abbrev pub is_flat : ℕ → Bool
+is_flat c = not (c == 44) && not (c == 40)
+
+-- selectors of which none is past a limit
+abbrev pub is_short : Selector → Bool
+is_short s = nat_le (length s.compounds) 16
+
+abbrev pub are_few : List Selector → Bool
+are_few selectors = nat_le (length selectors) 64 && list_all is_short selectors

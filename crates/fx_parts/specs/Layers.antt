@@ -4,7 +4,7 @@ use Rattle.std.specs.Prelude.{◌≡◌, ℕ, suc, ◌+◌, ◌-◌, Bool, true,
 use Rattle.std.specs.Option.{option_and_then, option_map}
 use Rattle.fx_parts.specs.Texts.{IsBetweenWhite, trimmed}
 
--- how many parentheses are open behind a character, and behind a text
+-- how many parentheses are open behind a byte, and behind a text
 abbrev pub depth_behind : ℕ → ℕ → ℕ
 depth_behind depth c = if c == 40 then depth + 1 else (if c == 41 then depth - 1 else depth)
 

@@ -5,5 +5,3 @@ pub mod Declaring
 pub mod Limits
 pub mod Parts
 pub mod Drafts
-pub mod Shorts
-pub mod Written

@@ -1,17 +1,20 @@
 -- Where the parts of a text begin, and the first of them that is past a limit.
-use Rattle.std.specs.Prelude.{ℕ, ◌+◌, Bool, true, false, ◌||◌, ◌==◌, nat_le, if◌then◌else◌, List, [], ◌∷◌, length, Option, Some, None, slice_get}
-use Rattle.std.specs.List.{find}
+use Rattle.std.specs.Prelude.{ℕ, ◌+◌, ◌≤◌, Bool, true, false, ◌||◌, ◌==◌, nat_le, if◌then◌else◌, List, [], ◌∷◌, length, Option, Some, None, slice_get}
+use Rattle.std.specs.List.{find, All}
 use Rattle.std.specs.Option.{option_map}
 use Rattle.fx_look.specs.declared.styles.StyleForm.{StyleForm}
 use Rattle.fx_look.specs.declared.styles.StyleForm.TheVariants as form
 use Rattle.fx_look.specs.Colors.{is_white}
 use Rattle.fx_look.specs.Decimals.{front, behind}
+use Rattle.fx_sheet.specs.declared.selectors.Selector.{Selector}
+use Rattle.fx_sheet.specs.declared.declarations.Declared.{Declared}
+use Rattle.fx_sheet.specs.declared.declarations.Declared.TheVariants as declared
 use Rattle.fx_parts.specs.Texts.{trimmed}
 use Rattle.fx_parts.specs.Layers.{separates, depth_behind}
 use Rattle.fx_parts.specs.Selecting.{is_gap}
 use Rattle.fx_parts.specs.Declaring.{form_of, not_colon}
 
--- the place of a compound's first character, the number of its selector and its own number in it, from 0
+-- the place of a compound's first byte, the number of its selector and its own number in it, from 0
 pub record Start : Type 0 where
   pub place : ℕ
   pub selector : ℕ
@@ -32,7 +35,7 @@ is_past s = nat_le 64 s.selector || nat_le 16 s.compound
 abbrev pub past_in_selectors : List ℕ → Option ℕ
 past_in_selectors text = option_map (λ s. s.place) (find is_past (starts false 0 0 0 text))
 
--- the places where layers begin: of each, its first character that isn't white
+-- the places where layers begin: of each, its first byte that isn't white
 abbrev pub layer_starts : Bool → ℕ → ℕ → List ℕ → List ℕ
 layer_starts within depth place [] = []
 layer_starts within depth place (c ∷ cs) = if separates depth c then layer_starts false 0 (place + 1) cs
@@ -58,3 +61,13 @@ past_behind f place (c ∷ cs) = past_in_value f (place + 1) cs
 
 abbrev pub past_in_declaration : List ℕ → Option ℕ
 past_in_declaration text = past_behind (form_of (trimmed (front not_colon text))) (length (front not_colon text)) (behind not_colon text)
+
+-- at most 64 selectors, of at most 16 compounds each
+abbrev pub AreFew : List Selector → Type 0
+AreFew selectors = (length selectors ≤ 64) × All (λ s. length s.compounds ≤ 16) selectors
+
+-- how many layers a value has that may have many
+abbrev pub layer_count : Declared → ℕ
+layer_count (declared.Paints ps) = length ps
+layer_count (declared.SidesList ss) = length ss
+layer_count _ = 0

@@ -1,12 +1,9 @@
--- Texts of characters: their bytes, the white at their ends, and the identifiers of style sheets.
-use Rattle.std.specs.Prelude.{◌≡◌, ℕ, Bool, true, false, not, ◌||◌, ◌&&◌, ◌==◌, nat_le, if◌then◌else◌, List, [], ◌∷◌, ◌++◌, length, Option, Some, None, IsTrue, encode_utf8_all}
+-- Texts in UTF-8, as lists of bytes: the white at their ends, and the identifiers of style sheets.
+-- White, marks and identifiers are ASCII, so no byte of a longer character is one of theirs.
+use Rattle.std.specs.Prelude.{◌≡◌, ℕ, Bool, true, false, not, ◌||◌, ◌&&◌, ◌==◌, nat_le, if◌then◌else◌, List, [], ◌∷◌, ◌++◌, length, Option, Some, None, IsTrue}
 use Rattle.std.specs.List.{list_all}
 use Rattle.fx_base.specs.Identifier.{is_letter, is_letter_or_digit}
 use Rattle.fx_look.specs.Colors.{is_white}
-
--- the bytes of the characters: values are spelled by bytes
-abbrev pub utf8 : List ℕ → List ℕ
-utf8 text = encode_utf8_all text
 
 abbrev pub is_later : ℕ → Bool
 is_later c = is_letter_or_digit c || (c == 45)
@@ -19,12 +16,12 @@ abbrev pub behind_dash : List ℕ → List ℕ
 behind_dash [] = []
 behind_dash (c ∷ cs) = if c == 45 then cs else c ∷ cs
 
--- the first character, if there is one, fails the test
+-- the first byte, if there is one, fails the test
 abbrev pub stops : (ℕ → Bool) → List ℕ → Bool
 stops test [] = true
 stops test (c ∷ cs) = not (test c)
 
--- an optional `-`, an ASCII letter or `_`, and then letters, digits, `_` and `-`: of at most 4,096 characters in all
+-- an optional `-`, an ASCII letter or `_`, and then letters, digits, `_` and `-`: of at most 4,096 bytes in all
 abbrev pub is_ident : List ℕ → Bool
 is_ident text = is_word (behind_dash text) && nat_le (length text) 4096
 

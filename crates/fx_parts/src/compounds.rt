@@ -32,13 +32,13 @@ impl Names {
         }
     }
 
-    fn push(&mut self, sign: char, name: Text) -> Result<(), AllocError>
+    fn push(&mut self, sign: u8, name: Text) -> Result<(), AllocError>
         ensures { OnOk result (name_lists self.new ≡ with_names (name_lists self.old) ((record { sign = sign; name = name }) ∷ [])) }
     {
         match sign {
-            '.' => push_name(&mut self.classes, name)?,
-            '#' => push_name(&mut self.ids, name)?,
-            ':' => push_name(&mut self.pseudos, name)?,
+            b'.' => push_name(&mut self.classes, name)?,
+            b'#' => push_name(&mut self.ids, name)?,
+            b':' => push_name(&mut self.pseudos, name)?,
             _ => {}
         }
         Ok(())
@@ -60,17 +60,18 @@ fn push_name(names: &mut Vec<Text>, name: Text) -> Result<(), AllocError>
 pub fn read_compound(
     alloc: Global,
     combinator: Option<Combinator>,
-    text: &[char],
+    text: &[u8],
 ) -> Result<Option<Compound>, AllocError>
     ensures { IfOk result (λ o. o ≡ compound_at combinator text.now) }
 {
     if text.is_empty() {
         return Ok(None);
     }
-    let Some(kind) = read_kind(alloc, word(text))? else {
+    let (word, signs) = split_word(text);
+    let Some(kind) = read_kind(alloc, word)? else {
         return Ok(None);
     };
-    let Some(names) = read_names(alloc, behind_word(text))? else {
+    let Some(names) = read_names(alloc, signs)? else {
         return Ok(None);
     };
     let Names {
@@ -88,7 +89,7 @@ pub fn read_compound(
 }
 
 /// The type that the word names, if it is one, or none for any type.
-fn read_kind(alloc: Global, word: &[char]) -> Result<Option<Option<Text>>, AllocError>
+fn read_kind(alloc: Global, word: &[u8]) -> Result<Option<Option<Text>>, AllocError>
     ensures { IfOk result (λ o. o ≡ kind_at word.now) }
 {
     if is_any(word) {
@@ -100,57 +101,50 @@ fn read_kind(alloc: Global, word: &[char]) -> Result<Option<Option<Text>>, Alloc
     }
 }
 
-fn is_any(word: &[char]) -> bool
+fn is_any(word: &[u8]) -> bool
     ensures { result ≡ is_any word.now }
 {
     match word {
         [] => true,
-        [c] => *c == '*',
+        [c] => *c == b'*',
         [_, _, ..] => false,
     }
 }
 
-fn read_names(alloc: Global, text: &[char]) -> Result<Option<Names>, AllocError>
+fn read_names(alloc: Global, text: &[u8]) -> Result<Option<Names>, AllocError>
     requires { stops not_sign text.now ≡ true }
     ensures { IfOk result (λ o. option_map name_lists o ≡ names_of no_names (parts_at text.now)) }
 {
     let mut names = Names::new(alloc);
     let mut rest = text;
     while let Some((sign, behind)) = rest.split_first() {
-        let Some(name) = read_ident(alloc, word(behind))? else {
+        let (word, others) = split_word(behind);
+        let Some(name) = read_ident(alloc, word)? else {
             return Ok(None);
         };
         names.push(*sign, name)?;
-        rest = behind_word(behind);
+        rest = others;
     }
     Ok(Some(names))
 }
 
-/// The text up to the first sign.
-fn word(text: &[char]) -> &[char]
-    ensures { result.now ≡ front not_sign text.now }
+/// The text up to the first sign, and from there on.
+fn split_word(text: &[u8]) -> (&[u8], &[u8])
+    ensures word { result.0.now ≡ front not_sign text.now }
+    ensures rest { result.1.now ≡ behind not_sign text.now }
 {
-    let (word, _) = text.split_at(word_length(text));
-    word
+    text.split_at(word_length(text))
 }
 
-/// The text from the first sign on.
-fn behind_word(text: &[char]) -> &[char]
-    ensures { result.now ≡ behind not_sign text.now }
-{
-    let (_, rest) = text.split_at(word_length(text));
-    rest
-}
-
-fn word_length(text: &[char]) -> usize
+fn word_length(text: &[u8]) -> usize
     ensures length { result ≡ prefix_len not_sign text.now }
     ensures within { result ≤ length text.now }
 {
     text.iter().take_while(|c| !is_sign(**c)).count()
 }
 
-fn is_sign(c: char) -> bool
+fn is_sign(c: u8) -> bool
     ensures { result ≡ is_sign c }
 {
-    matches!(c, '.' | '#' | ':')
+    matches!(c, b'.' | b'#' | b':')
 }

@@ -15,7 +15,7 @@ use fx_sheet::Declaration;
 use std::alloc::{AllocError, Global};
 
 /// The declaration that the text spells, or none where it is bad.
-pub fn read_declaration(alloc: Global, text: &[char]) -> Result<Option<ReadDeclaration>, AllocError>
+pub fn read_declaration(alloc: Global, text: &[u8]) -> Result<Option<ReadDeclaration>, AllocError>
     ensures { IfOk result (λ o. o ≡ declaration_at text.now) }
 {
     let (before, after) = split_name(text);
@@ -29,7 +29,7 @@ pub fn read_declaration(alloc: Global, text: &[char]) -> Result<Option<ReadDecla
     let Some(declared) = read_declared(alloc, form, trimmed(value))? else {
         return Ok(None);
     };
-    let past = past_in_value(form, before.len() + 1, value);
+    let past = past_in_value(&declared, form, before.len() + 1, value);
     Ok(Some(ReadDeclaration {
         declaration: Declaration {
             name,
@@ -48,7 +48,7 @@ fn form_of(name: &str) -> Option<StyleForm>
 }
 
 /// The text up to the first `:`, and from there on.
-fn split_name(text: &[char]) -> (&[char], &[char])
+fn split_name(text: &[u8]) -> (&[u8], &[u8])
     ensures name { result.0.now ≡ front not_colon text.now }
     ensures rest { result.1.now ≡ behind not_colon text.now }
     ensures whole { length result.0.now + length result.1.now ≡ length text.now }
@@ -56,9 +56,9 @@ fn split_name(text: &[char]) -> (&[char], &[char])
     text.split_at(name_length(text))
 }
 
-fn name_length(text: &[char]) -> usize
+fn name_length(text: &[u8]) -> usize
     ensures length { result ≡ prefix_len not_colon text.now }
     ensures within { result ≤ length text.now }
 {
-    text.iter().take_while(|c| **c != ':').count()
+    text.iter().take_while(|c| **c != b':').count()
 }

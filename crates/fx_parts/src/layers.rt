@@ -1,14 +1,16 @@
 //! Texts that are separated by commas outside parentheses.
 //! Selectors, paints and sides are read part by part.
 ghost use Rattle.std.specs.Prelude.{◌≡◌, ◌+◌, ◌^◌, ◌<◌, ◌≤◌, length};
+ghost use Rattle.std.specs.List.{prefix_len};
 ghost use Rattle.std.specs.Option.{option_map};
 ghost use Rattle.fx_parts.specs.Texts.{trimmed};
 ghost use Rattle.fx_parts.specs.Layers.{depth_behind, separates, part_length, first_part, behind_comma, behind_part};
+ghost use Rattle.fx_parts.specs.Drafts.{is_flat};
 
 use crate::texts::trimmed;
 
 /// The first part without the white at its ends, and the text behind its comma.
-pub fn split_part(text: &[char]) -> (&[char], Option<&[char]>)
+pub fn split_part(text: &[u8]) -> (&[u8], Option<&[u8]>)
     ensures part { result.0.now ≡ trimmed (first_part text.now) }
     ensures rest { option_map (λ rest. rest.now) result.1 ≡ behind_part text.now }
 {
@@ -16,7 +18,7 @@ pub fn split_part(text: &[char]) -> (&[char], Option<&[char]>)
     (trimmed(part), behind_comma(rest))
 }
 
-fn behind_comma(text: &[char]) -> Option<&[char]>
+fn behind_comma(text: &[u8]) -> Option<&[u8]>
     ensures { option_map (λ rest. rest.now) result ≡ behind_comma text.now }
 {
     match text {
@@ -25,7 +27,31 @@ fn behind_comma(text: &[char]) -> Option<&[char]>
     }
 }
 
-fn part_length(text: &[char]) -> usize
+/// Most parts have no parentheses, and end at the first mark.
+#[tactic(auto, using(crate::proofs::LayerLemmas::flat_skip))]
+fn part_length(text: &[u8]) -> usize
+    ensures length { result ≡ part_length 0 text.now }
+    ensures within { result ≤ length text.now }
+{
+    let (flat, rest) = text.split_at(flat_length(text));
+    flat.len() + nested_length(rest)
+}
+
+fn flat_length(text: &[u8]) -> usize
+    ensures length { result ≡ prefix_len is_flat text.now }
+    ensures within { result ≤ length text.now }
+{
+    text.iter().take_while(|c| is_flat(**c)).count()
+}
+
+/// Is it neither a comma nor a parenthesis that opens?
+fn is_flat(c: u8) -> bool
+    ensures { result ≡ is_flat c }
+{
+    c != b',' && c != b'('
+}
+
+fn nested_length(text: &[u8]) -> usize
     ensures length { result ≡ part_length 0 text.now }
     ensures within { result ≤ length text.now }
 {
@@ -44,21 +70,21 @@ fn part_length(text: &[char]) -> usize
     all
 }
 
-/// Does the character separate parts, inside so many parentheses?
-pub fn separates(depth: usize, c: char) -> bool
+/// Does the byte separate parts, inside so many parentheses?
+pub fn separates(depth: usize, c: u8) -> bool
     ensures { result ≡ separates depth c }
 {
-    c == ',' && depth == 0
+    c == b',' && depth == 0
 }
 
-/// How many parentheses are open behind the character.
-pub fn depth_behind(depth: usize, c: char) -> usize
+/// How many parentheses are open behind the byte.
+pub fn depth_behind(depth: usize, c: u8) -> usize
     requires { depth + 1 < 2 ^ 64 }
     ensures { result ≡ depth_behind depth c }
 {
     match c {
-        '(' => depth + 1,
-        ')' => depth.saturating_sub(1),
+        b'(' => depth + 1,
+        b')' => depth.saturating_sub(1),
         _ => depth,
     }
 }

@@ -1,13 +1,17 @@
 //! The first part of a text that is past its limit.
 //! Readings carry its place, and a reader of sheets refuses by it.
-ghost use Rattle.std.specs.Prelude.{◌≡◌, ◌+◌, ◌<◌, ◌^◌, length};
-ghost use Rattle.fx_parts.specs.Limits.{past_in_selectors, past_in_value, has_layers, is_layered};
-ghost use Rattle.fx_parts.specs.Drafts.{count_behind, layer_behind, layer_from};
+ghost use Rattle.std.specs.Prelude.{◌≡◌, ◌+◌, ◌<◌, ◌^◌, length, Some};
+ghost use Rattle.std.specs.List.{list_all};
+ghost use Rattle.fx_parts.specs.Texts.{trimmed};
+ghost use Rattle.fx_parts.specs.Selecting.{selectors_in};
+ghost use Rattle.fx_parts.specs.Declaring.{declared_at};
+ghost use Rattle.fx_parts.specs.Limits.{past_in_selectors, past_in_value, has_layers, is_layered, layer_count};
+ghost use Rattle.fx_parts.specs.Drafts.{are_few, is_short, count_behind, layer_behind, layer_from};
 
 use crate::layers::{depth_behind, separates};
 use crate::selecting::is_gap;
-use crate::texts::is_white;
-use fx_look::StyleForm;
+use fx_look::{StyleForm, is_white};
+use fx_sheet::{Declared, Selector};
 
 /// How many selectors have ended, and how many compounds of the present one have begun.
 #[derive(Clone, Copy)]
@@ -25,8 +29,37 @@ pub struct LayerCount {
     left: usize,
 }
 
-/// The place of the 65th selector, or of the 17th compound of a selector, whichever stands first.
-pub fn past_in_selectors(text: &[char]) -> Option<usize>
+/// The place of the 65th selector, or of the 17th compound of a selector, whichever stands first, in the text that
+/// spells these selectors. Where they are few, the text need not be looked at.
+pub fn past_in_selectors(selectors: &[Selector], text: &[u8]) -> Option<usize>
+    requires spelled { selectors_in text.now ≡ Some selectors.now }
+    ensures { result ≡ past_in_selectors text.now }
+{
+    if are_few(selectors) {
+        return None;
+    }
+    first_past(text)
+}
+
+fn are_few(selectors: &[Selector]) -> bool
+    ensures { result ≡ are_few selectors.now }
+{
+    selectors.len() <= 64 && are_short(selectors)
+}
+
+fn are_short(selectors: &[Selector]) -> bool
+    ensures { result ≡ list_all is_short selectors.now }
+{
+    selectors.iter().all(|selector| is_short(selector))
+}
+
+fn is_short(selector: &Selector) -> bool
+    ensures { result ≡ is_short selector.now }
+{
+    selector.compounds.as_slice().len() <= 16
+}
+
+fn first_past(text: &[u8]) -> Option<usize>
     ensures { result ≡ past_in_selectors text.now }
 {
     let all = text.len();
@@ -49,12 +82,12 @@ pub fn past_in_selectors(text: &[char]) -> Option<usize>
 }
 
 impl Count {
-    fn behind(self, c: char) -> Option<Count>
+    fn behind(self, c: u8) -> Option<Count>
         requires selectors { self.selector + 1 < 2 ^ 64 }
         requires compounds { self.compound + 1 < 2 ^ 64 }
         ensures { result ≡ count_behind self c }
     {
-        if c == ',' {
+        if c == b',' {
             return Some(Count {
                 selector: self.selector + 1,
                 compound: 0,
@@ -81,8 +114,35 @@ impl Count {
     }
 }
 
-/// The place of the ninth layer of a value that begins at a place, where values of this form have layers.
-pub fn past_in_value(form: Option<StyleForm>, place: usize, value: &[char]) -> Option<usize>
+/// The place of the ninth layer of a value that begins at a place, where values of this form have layers, and where the
+/// value is declared so. Where its layers are few, it need not be looked at.
+pub fn past_in_value(
+    declared: &Declared,
+    form: Option<StyleForm>,
+    place: usize,
+    value: &[u8],
+) -> Option<usize>
+    requires within { place + length value.now < 2 ^ 64 }
+    requires spelled { declared_at form (trimmed value.now) ≡ Some declared.now }
+    ensures { result ≡ past_in_value form place value.now }
+{
+    if layer_count(declared) <= 8 {
+        return None;
+    }
+    ninth_in_value(form, place, value)
+}
+
+fn layer_count(declared: &Declared) -> usize
+    ensures { result ≡ layer_count declared.now }
+{
+    match declared {
+        Declared::Paints(paints) => paints.as_slice().len(),
+        Declared::SidesList(layers) => layers.as_slice().len(),
+        _ => 0,
+    }
+}
+
+fn ninth_in_value(form: Option<StyleForm>, place: usize, value: &[u8]) -> Option<usize>
     requires { place + length value.now < 2 ^ 64 }
     ensures { result ≡ past_in_value form place value.now }
 {
@@ -94,7 +154,7 @@ pub fn past_in_value(form: Option<StyleForm>, place: usize, value: &[char]) -> O
         depth: 0,
         left: 8,
     };
-    first_past(first, place, value)
+    first_past_layer(first, place, value)
 }
 
 fn has_layers(form: Option<StyleForm>) -> bool
@@ -116,7 +176,7 @@ fn is_layered(form: StyleForm) -> bool
     }
 }
 
-fn first_past(first: LayerCount, from: usize, value: &[char]) -> Option<usize>
+fn first_past_layer(first: LayerCount, from: usize, value: &[u8]) -> Option<usize>
     requires within { from + length value.now < 2 ^ 64 }
     requires flat { first.depth ≡ 0 }
     ensures { result ≡ layer_from first from value.now }
@@ -136,7 +196,7 @@ fn first_past(first: LayerCount, from: usize, value: &[char]) -> Option<usize>
 }
 
 impl LayerCount {
-    fn behind(self, c: char) -> Option<LayerCount>
+    fn behind(self, c: u8) -> Option<LayerCount>
         requires { self.depth + 1 < 2 ^ 64 }
         ensures { result ≡ layer_behind self c }
     {

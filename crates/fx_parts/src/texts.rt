@@ -1,32 +1,26 @@
-//! Texts of characters: the white at their ends, and the identifiers of style sheets.
+//! Texts in UTF-8: the white at their ends, and the identifiers of style sheets.
 //! Selectors and declarations are cut into such texts.
 ghost use Rattle.std.specs.Prelude.{◌≡◌, ◌≤◌, IfOk, length, true};
 ghost use Rattle.std.specs.List.{list_all};
-ghost use Rattle.std.specs.String.{string_bytes};
 ghost use Rattle.fx_base.specs.Identifier.{is_letter, is_letter_or_digit};
 ghost use Rattle.fx_look.specs.Colors.{is_white};
-ghost use Rattle.fx_parts.specs.Texts.{utf8, is_later, is_word, behind_dash, is_ident, trim_front, trim_back, trimmed, ident_at};
+ghost use Rattle.fx_parts.specs.Texts.{is_later, is_word, behind_dash, is_ident, trim_front, trim_back, trimmed, ident_at};
 
 use fx_base::Text;
+use fx_look::is_white;
 use std::alloc::{AllocError, Global};
 
-/// The greatest number of characters of an identifier.
+/// The greatest number of bytes of an identifier.
 const IDENT_LIMIT: usize = 4096;
 
-pub fn is_white(c: char) -> bool
-    ensures { result ≡ is_white c }
-{
-    matches!(c, ' ' | '\t' | '\n' | '\r')
-}
-
-pub fn all_white(text: &[char]) -> bool
+pub fn all_white(text: &[u8]) -> bool
     ensures { result ≡ list_all is_white text.now }
 {
     text.iter().all(|c| is_white(*c))
 }
 
 #[tactic(auto, using(crate::proofs::TrimLemmas::front_moves))]
-pub fn without_front(text: &[char]) -> &[char]
+pub fn without_front(text: &[u8]) -> &[u8]
     ensures { result.now ≡ trim_front text.now }
 {
     let mut rest = text;
@@ -40,7 +34,7 @@ pub fn without_front(text: &[char]) -> &[char]
 }
 
 #[tactic(auto, using(crate::proofs::TrimLemmas::back_moves))]
-fn without_back(text: &[char]) -> &[char]
+fn without_back(text: &[u8]) -> &[u8]
     ensures { result.now ≡ trim_back text.now }
 {
     let mut rest = text;
@@ -54,29 +48,29 @@ fn without_back(text: &[char]) -> &[char]
 }
 
 /// The text without the white at its ends.
-pub fn trimmed(text: &[char]) -> &[char]
+pub fn trimmed(text: &[u8]) -> &[u8]
     ensures { result.now ≡ trimmed text.now }
 {
     without_back(without_front(text))
 }
 
 /// Is the text an identifier (JavaFX CSS Reference Guide, "ident")?
-pub fn is_ident(text: &[char]) -> bool
+pub fn is_ident(text: &[u8]) -> bool
     ensures { result ≡ is_ident text.now }
 {
     is_word(behind_dash(text)) && text.len() <= IDENT_LIMIT
 }
 
-fn behind_dash(text: &[char]) -> &[char]
+fn behind_dash(text: &[u8]) -> &[u8]
     ensures { result.now ≡ behind_dash text.now }
 {
     match text {
-        ['-', rest @ ..] => rest,
+        [b'-', rest @ ..] => rest,
         _ => text,
     }
 }
 
-fn is_word(text: &[char]) -> bool
+fn is_word(text: &[u8]) -> bool
     ensures { result ≡ is_word text.now }
 {
     match text {
@@ -85,49 +79,42 @@ fn is_word(text: &[char]) -> bool
     }
 }
 
-fn all_later(text: &[char]) -> bool
+fn all_later(text: &[u8]) -> bool
     ensures { result ≡ list_all is_later text.now }
 {
     text.iter().all(|c| is_later(*c))
 }
 
-fn is_letter(c: char) -> bool
+fn is_letter(c: u8) -> bool
     ensures { result ≡ is_letter c }
 {
-    matches!(c, 'A'..='Z' | 'a'..='z' | '_')
+    matches!(c, b'A'..=b'Z' | b'a'..=b'z' | b'_')
 }
 
 /// The letters that most names are made of are tried first.
-fn is_later(c: char) -> bool
+fn is_later(c: u8) -> bool
     ensures { result ≡ is_later c }
 {
-    matches!(c, 'a'..='z') || matches!(c, '-' | 'A'..='Z' | '0'..='9' | '_')
-}
-
-/// The text in UTF-8.
-pub fn text_of(alloc: Global, text: &[char]) -> Result<String, AllocError>
-    ensures { IfOk result (λ s. string_bytes s ≡ utf8 text.now) }
-{
-    let mut written = String::with_capacity(alloc, text.len())?;
-    written.extend(text.iter().copied())?;
-    Ok(written)
+    matches!(c, b'a'..=b'z') || matches!(c, b'-' | b'A'..=b'Z' | b'0'..=b'9' | b'_')
 }
 
 /// The text as a name, if it is an identifier.
-pub fn read_ident(alloc: Global, text: &[char]) -> Result<Option<Text>, AllocError>
+pub fn read_ident(alloc: Global, text: &[u8]) -> Result<Option<Text>, AllocError>
     ensures { IfOk result (λ o. o ≡ ident_at text.now) }
 {
     if !is_ident(text) {
         return Ok(None);
     }
-    Ok(named(text, text_of(alloc, text)?))
+    Ok(Some(named(alloc, text)?))
 }
 
-/// The identifier as a name, out of its UTF-8.
-pub fn named(text: &[char], written: String) -> Option<Text>
+/// The identifier as a name.
+fn named(alloc: Global, text: &[u8]) -> Result<Text, AllocError>
     requires ident { is_ident text.now ≡ true }
-    requires written { string_bytes written ≡ utf8 text.now }
-    ensures { result ≡ Some text.now }
+    ensures { IfOk result (λ name. name ≡ text.now) }
 {
-    Text::from_string(written)
+    match Text::from_ascii(alloc, text)? {
+        Some(name) => Ok(name),
+        None => unreachable!(),
+    }
 }

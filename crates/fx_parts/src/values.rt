@@ -6,19 +6,16 @@ ghost use Rattle.std.specs.Option.{option_map};
 ghost use Rattle.std.specs.Str.{bytes_eq};
 ghost use Rattle.fx_base.specs.declared.kinds.Family.TheVariants.{Pos as PosFamily};
 ghost use Rattle.fx_base.specs.declared.values.Value.TheVariants as value;
-ghost use Rattle.fx_look.specs.Colors.{color_at};
 ghost use Rattle.fx_look.specs.Numbers.{size_at};
 ghost use Rattle.fx_look.specs.Insets.{sides_at};
 ghost use Rattle.fx_sheet.specs.declared.declarations.Declared.TheVariants as declared;
-ghost use Rattle.fx_parts.specs.Texts.{utf8};
 ghost use Rattle.fx_parts.specs.Layers.{separated_at};
 ghost use Rattle.fx_parts.specs.Declaring.{positions, position_at, truth_at, visibility_at, insets_at, paint_at, styled_at, declared_at};
 
 use crate::layers::split_part;
 use crate::texts::read_ident;
-use crate::written::{as_str, in_utf8};
-use fx_base::{Color, Family, List, Sides, Value};
-use fx_look::{StyleForm, read_color, read_sides, read_size};
+use fx_base::{Family, List, Sides, Value};
+use fx_look::{StyleForm, color_at, size_at, sizes_at};
 use fx_sheet::{Declared, Paint};
 use std::alloc::{AllocError, Global};
 
@@ -39,101 +36,81 @@ static POSITIONS: [&str; 9] = [
 pub fn read_declared(
     alloc: Global,
     form: Option<StyleForm>,
-    text: &[char],
+    text: &[u8],
 ) -> Result<Option<Declared>, AllocError>
-    ensures { IfOk result (λ o. o ≡ declared_at form text.now) }
-{
-    let written = in_utf8(alloc, text)?;
-    read_written(alloc, form, text, as_str(&written))
-}
-
-fn read_written(
-    alloc: Global,
-    form: Option<StyleForm>,
-    text: &[char],
-    written: &str,
-) -> Result<Option<Declared>, AllocError>
-    requires { written.now ≡ utf8 text.now }
     ensures { IfOk result (λ o. o ≡ declared_at form text.now) }
 {
     match form {
-        None => paint_value(alloc, text, written),
+        None => paint_value(alloc, text),
         Some(form) => {
-            if written == "inherit" {
+            if text == b"inherit".as_slice() {
                 return Ok(Some(Declared::Inherit));
             }
-            read_styled(alloc, form, text, written)
+            read_styled(alloc, form, text)
         }
     }
 }
 
-fn read_styled(
-    alloc: Global,
-    form: StyleForm,
-    text: &[char],
-    written: &str,
-) -> Result<Option<Declared>, AllocError>
-    requires { written.now ≡ utf8 text.now }
+fn read_styled(alloc: Global, form: StyleForm, text: &[u8]) -> Result<Option<Declared>, AllocError>
     ensures { IfOk result (λ o. o ≡ styled_at form text.now) }
 {
     match form {
-        StyleForm::Sides => Ok(sides_value(written)),
-        StyleForm::Position => Ok(position_value(written)),
-        StyleForm::Size => Ok(size_value(written)),
-        StyleForm::Truth => Ok(truth_value(written)),
-        StyleForm::Visibility => Ok(visibility_value(written)),
-        StyleForm::Paint => paint_value(alloc, text, written),
+        StyleForm::Sides => Ok(sides_value(text)),
+        StyleForm::Position => Ok(position_value(text)),
+        StyleForm::Size => Ok(size_value(text)),
+        StyleForm::Truth => Ok(truth_value(text)),
+        StyleForm::Visibility => Ok(visibility_value(text)),
+        StyleForm::Paint => paint_value(alloc, text),
         StyleForm::Paints => paint_layers(alloc, text),
         StyleForm::SidesList => sides_layers(alloc, text),
     }
 }
 
-fn sides_value(text: &str) -> Option<Declared>
+fn sides_value(text: &[u8]) -> Option<Declared>
     ensures { result ≡ option_map (λ s. declared.Plain (value.Sides s)) (sides_at size_at text.now) }
 {
-    let sides = sides(text)?;
+    let sides = sizes_at(text)?;
     Some(Declared::Plain(Value::Sides(sides)))
 }
 
-fn position_value(text: &str) -> Option<Declared>
+fn position_value(text: &[u8]) -> Option<Declared>
     ensures { result ≡ option_map (λ place. declared.Plain (value.Choice PosFamily place)) (position_at text.now) }
 {
     let place = position_of(text)?;
     Some(Declared::Plain(Value::Choice(Family::Pos, place)))
 }
 
-fn size_value(text: &str) -> Option<Declared>
+fn size_value(text: &[u8]) -> Option<Declared>
     ensures { result ≡ option_map (λ n. declared.Plain (value.Int n)) (size_at text.now) }
 {
-    let size = size(text)?;
+    let size = size_at(text)?;
     Some(Declared::Plain(Value::Int(size)))
 }
 
-fn truth_value(text: &str) -> Option<Declared>
+fn truth_value(text: &[u8]) -> Option<Declared>
     ensures { result ≡ option_map (λ b. declared.Plain (value.Bool b)) (truth_at text.now) }
 {
     let truth = truth(text)?;
     Some(Declared::Plain(Value::Bool(truth)))
 }
 
-fn visibility_value(text: &str) -> Option<Declared>
+fn visibility_value(text: &[u8]) -> Option<Declared>
     ensures { result ≡ option_map (λ b. declared.Plain (value.Bool b)) (visibility_at text.now) }
 {
     let visible = visibility(text)?;
     Some(Declared::Plain(Value::Bool(visible)))
 }
 
-fn paint_value(alloc: Global, text: &[char], written: &str) -> Result<Option<Declared>, AllocError>
-    requires { written.now ≡ utf8 text.now }
+fn paint_value(alloc: Global, text: &[u8]) -> Result<Option<Declared>, AllocError>
     ensures { IfOk result (λ o. o ≡ option_map declared.Paint (paint_at text.now)) }
 {
-    match paint(alloc, text, written)? {
+    match read_paint(alloc, text)? {
         Some(paint) => Ok(Some(Declared::Paint(paint))),
         None => Ok(None),
     }
 }
 
-fn paint_layers(alloc: Global, text: &[char]) -> Result<Option<Declared>, AllocError>
+fn paint_layers(alloc: Global, text: &[u8]) -> Result<Option<Declared>, AllocError>
     ensures { IfOk result (λ o. o ≡ option_map declared.Paints (separated_at paint_at text.now)) }
 {
     match each_paint(alloc, text)? {
@@ -142,7 +119,7 @@ fn paint_layers(alloc: Global, text: &[char]) -> Result<Option<Declared>, AllocE
     }
 }
 
-fn sides_layers(alloc: Global, text: &[char]) -> Result<Option<Declared>, AllocError>
+fn sides_layers(alloc: Global, text: &[u8]) -> Result<Option<Declared>, AllocError>
     ensures { IfOk result (λ o. o ≡ option_map declared.SidesList (separated_at insets_at text.now)) }
 {
     match each_sides(alloc, text)? {
@@ -151,7 +128,7 @@ fn sides_layers(alloc: Global, text: &[char]) -> Result<Option<Declared>, AllocE
     }
 }
 
-fn each_paint(alloc: Global, text: &[char]) -> Result<Option<Vec<Paint>>, AllocError>
+fn each_paint(alloc: Global, text: &[u8]) -> Result<Option<Vec<Paint>>, AllocError>
     ensures { IfOk result (λ o. option_map (λ v. v.items) o ≡ separated_at paint_at text.now) }
 {
     let mut paints = Vec::new(alloc);
@@ -167,14 +144,14 @@ fn each_paint(alloc: Global, text: &[char]) -> Result<Option<Vec<Paint>>, AllocE
     Ok(Some(paints))
 }
 
-fn each_sides(alloc: Global, text: &[char]) -> Result<Option<Vec<Sides>>, AllocError>
+fn each_sides(alloc: Global, text: &[u8]) -> Result<Option<Vec<Sides>>, AllocError>
     ensures { IfOk result (λ o. option_map (λ v. v.items) o ≡ separated_at insets_at text.now) }
 {
     let mut layers = Vec::new(alloc);
     let mut left = Some(text);
     while let Some(rest) = left {
         let (part, behind) = split_part(rest);
-        let Some(layer) = read_layer(alloc, part)? else {
+        let Some(layer) = sizes_at(part) else {
             return Ok(None);
         };
         layers.push(layer)?;
@@ -183,26 +160,11 @@ fn each_sides(alloc: Global, text: &[char]) -> Result<Option<Vec<Sides>>, AllocE
     Ok(Some(layers))
 }
 
-fn read_paint(alloc: Global, text: &[char]) -> Result<Option<Paint>, AllocError>
-    ensures { IfOk result (λ o. o ≡ paint_at text.now) }
-{
-    let written = in_utf8(alloc, text)?;
-    paint(alloc, text, as_str(&written))
-}
-
-fn read_layer(alloc: Global, text: &[char]) -> Result<Option<Sides>, AllocError>
-    ensures { IfOk result (λ o. o ≡ insets_at text.now) }
-{
-    let written = in_utf8(alloc, text)?;
-    Ok(sides(as_str(&written)))
-}
-
 /// A colour, or else a name that is looked up.
-fn paint(alloc: Global, text: &[char], written: &str) -> Result<Option<Paint>, AllocError>
-    requires { written.now ≡ utf8 text.now }
+fn read_paint(alloc: Global, text: &[u8]) -> Result<Option<Paint>, AllocError>
     ensures { IfOk result (λ o. o ≡ paint_at text.now) }
 {
-    if let Some(color) = color(written) {
+    if let Some(color) = color_at(text) {
         return Ok(Some(Paint::Color(color)));
     }
     match read_ident(alloc, text)? {
@@ -211,50 +173,32 @@ fn paint(alloc: Global, text: &[char], written: &str) -> Result<Option<Paint>, A
     }
 }
 
-fn color(text: &str) -> Option<Color>
-    ensures { result ≡ color_at text.now }
-{
-    read_color(text)
-}
-
-fn sides(text: &str) -> Option<Sides>
-    ensures { result ≡ sides_at size_at text.now }
-{
-    read_sides(text)
-}
-
-fn size(text: &str) -> Option<i64>
-    ensures { result ≡ size_at text.now }
-{
-    read_size(text)
-}
-
-fn truth(text: &str) -> Option<bool>
+fn truth(text: &[u8]) -> Option<bool>
     ensures { result ≡ truth_at text.now }
 {
-    if text == "true" {
+    if text == b"true".as_slice() {
         return Some(true);
     }
-    if text == "false" {
+    if text == b"false".as_slice() {
         return Some(false);
     }
     None
 }
 
 /// Is a node of this visibility seen? A collapsed one is as a hidden one.
-fn visibility(text: &str) -> Option<bool>
+fn visibility(text: &[u8]) -> Option<bool>
     ensures { result ≡ visibility_at text.now }
 {
-    if text == "visible" {
+    if text == b"visible".as_slice() {
         return Some(true);
     }
-    if text == "hidden" || text == "collapse" {
+    if text == b"hidden".as_slice() || text == b"collapse".as_slice() {
         return Some(false);
     }
     None
 }
 
-fn position_of(text: &str) -> Option<u8>
+fn position_of(text: &[u8]) -> Option<u8>
     ensures { result ≡ position_at text.now }
 {
     let place = find_position(position_table(), text)?;
@@ -267,14 +211,16 @@ fn position_table() -> &'static [&'static str]
     &POSITIONS
 }
 
-fn find_position(constants: &[&str], text: &str) -> Option<usize>
+fn find_position(constants: &[&str], text: &[u8]) -> Option<usize>
     ensures { result ≡ position (λ constant. bytes_eq constant text.now) (map (λ constant. constant.now) constants.now) }
 {
     find_place(constants, text)
 }
 
-fn find_place(constants: &[&str], text: &str) -> Option<usize>
+fn find_place(constants: &[&str], text: &[u8]) -> Option<usize>
     ensures { result ≡ position (λ constant. bytes_eq constant.now text.now) constants.now }
 {
-    constants.iter().position(|constant| *constant == text)
+    constants
+        .iter()
+        .position(|constant| constant.as_bytes() == text)
 }

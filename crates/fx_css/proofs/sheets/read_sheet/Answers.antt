@@ -1,9 +1,13 @@
--- The other way round: what the text is read as is what was answered.
+-- What is answered is what the text is read as, and the other way round.
 -- It rests on the law of one reading.
-use Rattle.std.proofs.Common.{ap}
-use Rattle.std.specs.Str.{chars}
-use Rattle.fx_css.proofs.Answered.{exact_by}
+use Rattle.fx_css.proofs.Answered.{read_by, fault_by, exact_by}
 use Rattle.fx_css.proofs.sheets.read_sheet.Goals as goal
 
+pub returns-in-Ok-clause-read : goal.returns-in-Ok-clause-read
+returns-in-Ok-clause-read c = read_by c.args.file c.args.bytes.now c.read_as.result c.read_as.ensures
+
+pub returns-in-Ok-clause-fault : goal.returns-in-Ok-clause-fault
+returns-in-Ok-clause-fault c = fault_by c.args.file c.args.bytes.now c.read_as.result c.in-Ok.ensures.cases.1 c.read_as.ensures
+
 pub returns-in-Ok-clause-exact : goal.returns-in-Ok-clause-exact
-returns-in-Ok-clause-exact c = exact_by c.args.file c.args.bytes.now c.in-Ok.text.now c.read_text.result (ap chars c.in-Ok.ensures.cases.0) c.read_text.ensures
+returns-in-Ok-clause-exact c = exact_by c.args.file c.args.bytes.now c.read_as.result c.read_as.ensures

@@ -9,11 +9,11 @@ use Rattle.fx_parts.proofs.compounds.read_names.Goals as goal
 pub loop-sign-preserved : goal.loop-sign-preserved
 loop-sign-preserved c =
     let whole : c.loop-sign.rest.now ≡ c.in-Some.sign.now ∷ c.in-Some.behind.now = c.in-Some.ensures.cases.0 in
-    let ident : Some c.in-Some-2.name ≡ ident_at (front not_sign c.in-Some.behind.now) = sym c.in-Some-2.is ∙ c.in_ok-name.ensures ∙ ap ident_at c.word.ensures in
+    let ident : Some c.in-Some-2.name ≡ ident_at (front not_sign c.in-Some.behind.now) = sym c.in-Some-2.is ∙ c.in_ok-name.ensures ∙ ap ident_at c.split_word.ensures.word in
     let next : stops not_sign (c.in-Some.sign.now ∷ c.in-Some.behind.now) ≡ true = ap (stops not_sign) (sym whole) ∙ c.loop-sign.invariant.next in
     record {
-      next = stops_at not_sign c.in-Some.behind.now c.behind_word-rest.result.now c.behind_word-rest.ensures;
-      names = names_turn (name_lists c.loop-sign.names) (name_lists c.push.new.self) c.in-Some.sign.now c.in-Some.behind.now c.in-Some-2.name c.behind_word-rest.result.now next ident c.in_ok-push.ensures c.behind_word-rest.ensures
+      next = stops_at not_sign c.in-Some.behind.now c.split_word.result.1.now c.split_word.ensures.rest;
+      names = names_turn (name_lists c.loop-sign.names) (name_lists c.push.new.self) c.in-Some.sign.now c.in-Some.behind.now c.in-Some-2.name c.split_word.result.1.now next ident c.in_ok-push.ensures c.split_word.ensures.rest
           ∙ ap (λ y. names_of (name_lists c.loop-sign.names) (parts_at y)) (sym whole)
           ∙ c.loop-sign.invariant.names;
     }

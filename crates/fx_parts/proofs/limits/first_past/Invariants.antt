@@ -1,13 +1,15 @@
--- the rest gives what the whole does
+-- the rest gives what the whole does, and the counts are at most the bytes that are taken
 use Rattle.std.proofs.Common.{◌≡◌, ◌+◌, ◌≤◌, length}
-use Rattle.fx_parts.specs.Drafts.{layer_from}
+use Rattle.fx_parts.specs.Limits.{past_in_selectors}
+use Rattle.fx_parts.specs.Drafts.{past_from}
 use Rattle.fx_parts.proofs.limits.first_past.Given as goal
 
 abbrev pub invariant-loop-c : goal.invariant-loop-c
 invariant-loop-c l = record {
-  past : layer_from l.count l.place l.rest ≡ layer_from l.fn.first l.fn.from l.value;
-  left : l.place + length l.rest ≡ l.from + length l.value;
-  nested : l.count.depth ≤ l.place;
+  past : past_from l.count l.place l.rest ≡ past_in_selectors l.text;
+  left : l.place + length l.rest ≡ l.all;
+  selectors : l.count.selector ≤ l.place;
+  compounds : l.count.compound ≤ l.place;
 }
 
 abbrev pub decreases-loop-c : goal.decreases-loop-c

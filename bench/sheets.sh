@@ -1,18 +1,18 @@
 #!/bin/bash
-# Counts the instructions that style sheets take: for each byte of a sheet of 4,096 rules that is read and dropped, and for each
-# search of the rules that match a node of three classes. Each class is named by so many rules, which are the candidates; three
+# Counts the instructions that style sheets take: for each byte of a sheet of 4,096 rules that is read and dropped, without comments
+# and with one before each rule, and for each search of the rules that match a node of three classes. Each class is named by so many rules, which are the candidates; three
 # of four match. A search grows with the candidates, and not with the rules of the sheet.
 # It builds crates/sheets_bench with `rt run`, and needs valgrind.
 set -euo pipefail
 source "$(dirname "$0")/program.sh" sheets_bench 8 4 1 2
 
-# words: rules, rules that share a class, readings and searches
-written=$(instructions 4096 4 0 0)
-read=$(instructions 4096 4 1 0)
-bytes=$(sed 's/ .*//' "$counts/told")
-awk -v written="$written" -v read="$read" -v bytes="$bytes" 'BEGIN {
-    printf "read and dropped %.1f instructions a byte (%d bytes)\n", (read - written) / bytes, bytes
-}'
+# words: rules, rules that share a class, readings, searches, and whether there are comments
+for comments in "" commented; do
+    written=$(instructions 4096 4 0 0 $comments)
+    read=$(instructions 4096 4 1 0 $comments)
+    bytes=$(sed 's/ .*//' "$counts/told")
+    printf "read and dropped %s instructions a byte (%d bytes%s)\n" "$(per "$bytes" "$read" "$written")" "$bytes" "${comments:+, $comments}"
+done
 
 for sizes in "1024 4" "4096 4" "1024 64" "4096 64" "4096 1024"; do
     set -- $sizes

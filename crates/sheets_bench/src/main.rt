@@ -22,6 +22,7 @@ struct Work {
     sharing: usize,
     reads: usize,
     searches: usize,
+    commented: bool,
 }
 
 fn main(rt: HostRuntime) -> anyhow::Result<()> {
@@ -33,13 +34,14 @@ fn main(rt: HostRuntime) -> anyhow::Result<()> {
         words.next(),
         words.next(),
     ) else {
-        bail!("usage: sheets_bench RULES SHARING READS SEARCHES");
+        bail!("usage: sheets_bench RULES SHARING READS SEARCHES [commented]");
     };
     let work = Work {
         rules: rules.as_str().parse::<usize>()?,
         sharing: sharing.as_str().parse::<usize>()?,
         reads: reads.as_str().parse::<usize>()?,
         searches: searches.as_str().parse::<usize>()?,
+        commented: words.next().is_some(),
     };
     let (bytes, read, found) = run(rt.alloc(), work)?;
     println!(rt; "{bytes} bytes, {read} declarations read, {found} rules found")?;
@@ -48,7 +50,7 @@ fn main(rt: HostRuntime) -> anyhow::Result<()> {
 
 /// The bytes of the sheet, the declarations that were read and the rules that were found.
 fn run(alloc: Global, work: Work) -> anyhow::Result<(usize, usize, usize)> {
-    let text = sheet_text(alloc, work.rules, work.sharing)?;
+    let text = sheet_text(alloc, work.rules, work.sharing, work.commented)?;
     let mut declarations = 0usize;
     for _ in 0..work.reads {
         let sheet = read(alloc, text.as_str())?;

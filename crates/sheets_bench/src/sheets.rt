@@ -8,11 +8,22 @@ use fx_css::read_sheet;
 use fx_sheet::{Rule, Selector, SheetAt, SheetOrigin};
 use std::alloc::{AllocError, Global};
 
-/// The text of so many rules, of which so many name the same class.
-pub fn sheet_text(alloc: Global, rules: usize, sharing: usize) -> Result<String, AllocError> {
+/// What stands before each rule of a sheet with comments.
+const COMMENT: &str = "/* one of many; {not a rule} */\n";
+
+/// The text of so many rules, of which so many name the same class, with comments or without.
+pub fn sheet_text(
+    alloc: Global,
+    rules: usize,
+    sharing: usize,
+    commented: bool,
+) -> Result<String, AllocError> {
     let mut text = String::new(alloc);
     for rule in 0..rules {
         let class = if sharing == 0 { rule } else { rule / sharing };
+        if commented {
+            text.push_str(COMMENT)?;
+        }
         text.push_str(heading(alloc, rule, class)?.as_str())?;
         text.push_str(body(rule))?;
     }

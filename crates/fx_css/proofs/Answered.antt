@@ -4,13 +4,13 @@ use Rattle.std.proofs.Common.{◌≡◌, ℕ, List, [], ◌∷◌, map, refl, sy
 use Rattle.std.specs.Result.{IsErrAnd}
 use Rattle.std.specs.Str.{IsUtf8}
 use Rattle.fx_base.specs.declared.geometry.Place.{Place}
-use Rattle.fx_sheet.specs.declared.sheets.Rule.{Rule}
-use Rattle.fx_sheet.specs.declared.sheets.Sheet.{Sheet}
-use Rattle.fx_marks.specs.declared.marks.Mark.{Mark}
-use Rattle.fx_marks.specs.Bytes.{first_place}
-use Rattle.fx_marks.specs.Marks.{Marked, place_of}
-use Rattle.fx_marks.specs.Scanning.{Plain, scanned}
-use Rattle.fx_marks.proofs.Scans.{marks_scanned}
+use Rattle.fx_css_types.specs.declared.sheets.Rule.{Rule}
+use Rattle.fx_css_types.specs.declared.sheets.Sheet.{Sheet}
+use Rattle.fx_css_marks.specs.declared.marks.Mark.{Mark}
+use Rattle.fx_css_marks.specs.Bytes.{first_place}
+use Rattle.fx_css_marks.specs.Marks.{Marked, place_of}
+use Rattle.fx_css_marks.specs.Scanning.{Plain, scanned}
+use Rattle.fx_css_marks.proofs.Scans.{marks_scanned}
 use Rattle.fx_css.specs.declared.errors.SheetError.{SheetError}
 use Rattle.fx_css.specs.declared.errors.SheetError.TheVariants.{NotUtf8, Limit, Memory}
 use Rattle.fx_css.specs.declared.errors.Stop.{Stop}

@@ -10,7 +10,7 @@ use Rattle.fx_css.specs.declared.parts.Numbered.{Numbered}
 use Rattle.fx_css.specs.Numbered.{is_sign}
 use Rattle.fx_css.specs.Rules.{is_open, is_close, is_semicolon, IsOpen, Block, Closed, Unclosed, ends_prelude, AtRule, Statement, WithBlock, Unended}
 use Rattle.fx_css.specs.Cutting.{block_length, at_rule_length}
-use Rattle.fx_marks.proofs.Comments.{or_left, or_right, or_both}
+use Rattle.fx_css_marks.proofs.Comments.{or_left, or_right, or_both}
 
 signs_differ : (c d : ℕ) (m : Numbered) (b : Bool) → is_sign c m ≡ true → eqb c d ≡ false → is_sign d m ≡ b → b ≡ false
 unfolding is_sign

@@ -13,7 +13,7 @@ use Rattle.std.specs.Result.{IsErrAnd}
 use Rattle.std.specs.Bool.{if◌then◌else◌}
 use Rattle.std.specs.List.{slice_split, flat_map, position_or_len, before_first, after_first}
 use Rattle.std.specs.Option.{option_to_list}
-use Rattle.fx_sheet.specs.declared.declarations.Declaration.{Declaration}
+use Rattle.fx_css_types.specs.declared.declarations.Declaration.{Declaration}
 use Rattle.fx_css.specs.declared.parts.Numbered.{Numbered}
 use Rattle.fx_css.specs.declared.errors.Stop.{Stop}
 use Rattle.fx_css.specs.declared.errors.Stop.TheVariants.{Past, Memory}

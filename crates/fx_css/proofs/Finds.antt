@@ -4,8 +4,8 @@ use Rattle.std.proofs.Common.{◌≡◌, ℕ, suc, ◌+◌, Bool, true, false, c
 use Rattle.std.specs.Bool.{if◌then◌else◌}
 use Rattle.std.specs.List.{position_or_len}
 use Rattle.memchr.specs.Find.{IsFirstByte}
-use Rattle.fx_marks.specs.Lengths.{run_length}
-use Rattle.fx_marks.proofs.Finds.{run_found, run_missed}
+use Rattle.fx_css_marks.specs.Lengths.{run_length}
+use Rattle.fx_css_marks.proofs.Finds.{run_found, run_missed}
 
 one_more : (passes : Bool) (run at : ℕ) → run ≡ at → (if passes then 0 else suc run) ≡ cond (not passes) (1 + at) 0
 one_more true run at e = refl

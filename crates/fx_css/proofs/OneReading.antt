@@ -2,11 +2,11 @@
 -- Below the laws and the public answers.
 use Rattle.std.proofs.Common.{◌≡◌, ℕ, List, [], ◌∷◌, map, refl, sym, ◌∙◌, ap, subst}
 use Rattle.fx_base.specs.declared.geometry.Place.{Place}
-use Rattle.fx_sheet.specs.declared.sheets.Rule.{Rule}
-use Rattle.fx_marks.specs.declared.marks.Mark.{Mark}
-use Rattle.fx_marks.specs.Bytes.{first_place}
-use Rattle.fx_marks.specs.Scanning.{Plain, scanned}
-use Rattle.fx_marks.proofs.Scans.{marks_scanned, one_marking}
+use Rattle.fx_css_types.specs.declared.sheets.Rule.{Rule}
+use Rattle.fx_css_marks.specs.declared.marks.Mark.{Mark}
+use Rattle.fx_css_marks.specs.Bytes.{first_place}
+use Rattle.fx_css_marks.specs.Scanning.{Plain, scanned}
+use Rattle.fx_css_marks.proofs.Scans.{marks_scanned, one_marking}
 use Rattle.fx_css.specs.Numbered.{numbered_marks}
 use Rattle.fx_css.specs.Rules.{Reads, past_rules}
 use Rattle.fx_css.specs.Pieces.{kept_in, warnings_in, past_declarations}

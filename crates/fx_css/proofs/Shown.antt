@@ -3,8 +3,8 @@
 use Rattle.std.proofs.Common.{◌≡◌, ℕ, ◌+◌, Bool, true, false, cond, not, List, [], ◌∷◌, suc, length, take, drop, refl, sym, ◌∙◌, ap, arith, Option, Some}
 use Rattle.std.specs.Bool.{if◌then◌else◌}
 use Rattle.std.specs.List.{list_any, before_first, after_first, position_or_len}
-use Rattle.fx_parts.specs.Parts.{selectors_at}
-use Rattle.fx_parts.specs.declared.Selectors.{Selectors}
+use Rattle.fx_css_parts.specs.Parts.{selectors_at}
+use Rattle.fx_css_parts.specs.declared.Selectors.{Selectors}
 use Rattle.fx_css.specs.declared.parts.Numbered.{Numbered}
 use Rattle.fx_css.specs.Numbered.{bytes_of}
 use Rattle.fx_css.specs.Pieces.{warnings_in}

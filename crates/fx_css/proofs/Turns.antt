@@ -5,8 +5,8 @@ use Rattle.std.proofs.lemmas.List.{length-map, map-append, length-drop}
 use Rattle.std.proofs.Math.Nat.{le_refl, le_trans}
 use Rattle.std.specs.Bool.{if◌then◌else◌, nat_le}
 use Rattle.std.specs.List.{list_any, before_first, after_first, position_or_len}
-use Rattle.fx_sheet.specs.declared.sheets.Rule.{Rule}
-use Rattle.fx_parts.specs.declared.Selectors.{Selectors}
+use Rattle.fx_css_types.specs.declared.sheets.Rule.{Rule}
+use Rattle.fx_css_parts.specs.declared.Selectors.{Selectors}
 use Rattle.fx_css.specs.declared.parts.Numbered.{Numbered}
 use Rattle.fx_css.specs.Numbered.{is_white}
 use Rattle.fx_css.specs.declared.errors.Stop.{Stop}

@@ -4,12 +4,12 @@ use Rattle.fx_base.specs.declared.color.Color.{Color}
 use Rattle.fx_base.specs.declared.geometry.Sides.{Sides}
 use Rattle.fx_base.specs.declared.kinds.Family.TheVariants.{Pos}
 use Rattle.fx_base.specs.declared.values.Value.TheVariants as value
-use Rattle.fx_sheet.specs.declared.declarations.Declaration.{Declaration}
-use Rattle.fx_sheet.specs.declared.declarations.Declared.{Declared}
-use Rattle.fx_sheet.specs.declared.declarations.Declared.TheVariants as declared
-use Rattle.fx_sheet.specs.declared.declarations.Paint.TheVariants as paint
-use Rattle.fx_sheet.specs.declared.selectors.Selector.{Selector}
-use Rattle.fx_sheet.specs.declared.sheets.Rule.{Rule}
+use Rattle.fx_css_types.specs.declared.declarations.Declaration.{Declaration}
+use Rattle.fx_css_types.specs.declared.declarations.Declared.{Declared}
+use Rattle.fx_css_types.specs.declared.declarations.Declared.TheVariants as declared
+use Rattle.fx_css_types.specs.declared.declarations.Paint.TheVariants as paint
+use Rattle.fx_css_types.specs.declared.selectors.Selector.{Selector}
+use Rattle.fx_css_types.specs.declared.sheets.Rule.{Rule}
 
 -- a selector of one compound with these classes and pseudo-classes
 unfoldable pub selector_of : List (List ℕ) → List (List ℕ) → Selector

@@ -1,7 +1,7 @@
 -- What is cut off at a time, as a function: the lengths of blocks and at-rules, and what a turn reads.
 use Rattle.std.specs.Prelude.{ℕ, ◌+◌, ◌-◌, ◌==◌, List, [], ◌∷◌, drop, suc, Option, Some, None, if◌then◌else◌}
 use Rattle.std.specs.List.{list_any, before_first, after_first}
-use Rattle.fx_parts.specs.declared.Selectors.{Selectors}
+use Rattle.fx_css_parts.specs.declared.Selectors.{Selectors}
 use Rattle.fx_css.specs.declared.parts.Numbered.{Numbered}
 use Rattle.fx_css.specs.Numbered.{is_white}
 use Rattle.fx_css.specs.Pieces.{warnings_in}

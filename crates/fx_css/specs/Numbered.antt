@@ -1,8 +1,8 @@
 -- What cutting looks at: bytes, each with what it means (itself, or nothing where it is quoted), numbered from the front of the text.
 use Rattle.std.specs.Prelude.{ℕ, ◌||◌, Bool, List, [], ◌∷◌, map, suc}
 use lib.Dec.{eqb}
-use Rattle.fx_marks.specs.declared.marks.Mark.{Mark}
-use Rattle.fx_marks.specs.Marks.{bytes, signs}
+use Rattle.fx_css_marks.specs.declared.marks.Mark.{Mark}
+use Rattle.fx_css_marks.specs.Marks.{bytes, signs}
 use Rattle.fx_css.specs.declared.parts.Numbered.{Numbered}
 use Rattle.fx_css.specs.declared.parts.Part.{Part as Held}
 

@@ -2,8 +2,8 @@
 use Rattle.std.specs.Prelude.{ℕ, Bool, ◌||◌, List, [], ◌∷◌, ◌++◌, suc, Option, Some, None, nat_le, slice_get, if◌then◌else◌}
 use Rattle.std.specs.List.{slice_split, flat_map}
 use Rattle.std.specs.Option.{option_and_then, option_map, option_to_list}
-use Rattle.fx_parts.specs.Parts.{declaration_at}
-use Rattle.fx_parts.specs.declared.ReadDeclaration.{ReadDeclaration}
+use Rattle.fx_css_parts.specs.Parts.{declaration_at}
+use Rattle.fx_css_parts.specs.declared.ReadDeclaration.{ReadDeclaration}
 use Rattle.fx_css.specs.declared.parts.Numbered.{Numbered}
 use Rattle.fx_css.specs.Numbered.{bytes_of, is_sign, is_white}
 use Rattle.fx_css.specs.declared.declarations.Kept.{Kept}

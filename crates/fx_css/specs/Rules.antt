@@ -3,9 +3,9 @@
 use Rattle.std.specs.Prelude.{◌≡◌, ◌≤◌, ℕ, Bool, true, false, ◌||◌, List, [], ◌∷◌, ◌++◌, map, suc, Option, Some, None, count_by, nat_le, if◌then◌else◌}
 use Rattle.std.specs.List.{list_any, before_first, after_first}
 use Rattle.std.specs.Option.{option_to_list}
-use Rattle.fx_sheet.specs.declared.sheets.Rule.{Rule}
-use Rattle.fx_parts.specs.Parts.{selectors_at}
-use Rattle.fx_parts.specs.declared.Selectors.{Selectors}
+use Rattle.fx_css_types.specs.declared.sheets.Rule.{Rule}
+use Rattle.fx_css_parts.specs.Parts.{selectors_at}
+use Rattle.fx_css_parts.specs.declared.Selectors.{Selectors}
 use Rattle.fx_css.specs.declared.parts.Numbered.{Numbered}
 use Rattle.fx_css.specs.Numbered.{bytes_of, is_sign, is_white}
 use Rattle.fx_css.specs.Pieces.{number_at, kept_in, warnings_in, past_declarations}

@@ -2,11 +2,11 @@
 use Rattle.std.specs.Prelude.{◌≡◌, ℕ, List, [], ◌∷◌, map, Result, Ok, Err}
 use Rattle.std.specs.Str.{IsUtf8, IsValidUpTo}
 use Rattle.fx_base.specs.declared.geometry.Place.{Place}
-use Rattle.fx_sheet.specs.declared.sheets.Rule.{Rule}
-use Rattle.fx_sheet.specs.declared.sheets.Sheet.{Sheet}
-use Rattle.fx_marks.specs.declared.marks.Mark.{Mark}
-use Rattle.fx_marks.specs.Bytes.{first_place}
-use Rattle.fx_marks.specs.Marks.{Marked, place_of}
+use Rattle.fx_css_types.specs.declared.sheets.Rule.{Rule}
+use Rattle.fx_css_types.specs.declared.sheets.Sheet.{Sheet}
+use Rattle.fx_css_marks.specs.declared.marks.Mark.{Mark}
+use Rattle.fx_css_marks.specs.Bytes.{first_place}
+use Rattle.fx_css_marks.specs.Marks.{Marked, place_of}
 use Rattle.fx_css.specs.declared.errors.SheetError.{SheetError}
 use Rattle.fx_css.specs.declared.errors.SheetError.TheVariants.{NotUtf8, Limit, Memory}
 use Rattle.fx_css.specs.declared.errors.Stop.{Stop}

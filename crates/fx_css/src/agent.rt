@@ -4,7 +4,7 @@ ghost use Rattle.std.specs.Prelude.{◌≡◌, ◌≤◌, [], ◌∷◌, length,
 ghost use Rattle.fx_css.specs.Agent.{selector_of, rule_of, declaration_of, text_fill, background, alignment, root_rule, label_rule, button_insets, button_padding, button_rule, state_rule, agent_rules};
 
 use fx_base::{Color, Family, List, Sides, Text, Value};
-use fx_sheet::{Compound, Declaration, Declared, Paint, Rule, Selector, Sheet};
+use fx_css_types::{Compound, Declaration, Declared, Paint, Rule, Selector, Sheet};
 use std::alloc::{AllocError, Global};
 
 const BLACK: Color = Color {

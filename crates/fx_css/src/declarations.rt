@@ -8,8 +8,8 @@ ghost use Rattle.fx_css.specs.Sheets.{IsStop};
 use crate::cutting::declaration_end;
 use crate::errors::Stop;
 use crate::parts::Part;
-use fx_parts::read_declaration;
-use fx_sheet::Declaration;
+use fx_css_parts::read_declaration;
+use fx_css_types::Declaration;
 use std::alloc::{AllocError, Global};
 
 /// The greatest number of declarations of a rule.

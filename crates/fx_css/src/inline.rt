@@ -2,7 +2,7 @@
 //! A script or a document gives the text, the cascade takes the rule.
 ghost use Rattle.std.specs.Prelude.{◌≡◌, ◌≤◌, List as Items, [], length, IfOk, IfErr};
 ghost use Rattle.fx_base.specs.declared.geometry.Place.{Place};
-ghost use Rattle.fx_sheet.specs.declared.sheets.Rule.{Rule};
+ghost use Rattle.fx_css_types.specs.declared.sheets.Rule.{Rule};
 ghost use Rattle.fx_css.specs.Numbered.{shown};
 ghost use Rattle.fx_css.specs.Sheets.{AreStyle, IsStyleText, HasStyleFault, IsGiven};
 
@@ -12,7 +12,7 @@ use crate::parts::Part;
 use crate::rules::Draft;
 use crate::sheets::{Form, read_as};
 use fx_base::List;
-use fx_sheet::{Rule, Sheet};
+use fx_css_types::{Rule, Sheet};
 use std::alloc::Global;
 
 /// The one rule of a whole `style`.

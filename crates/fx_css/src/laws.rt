@@ -2,7 +2,7 @@
 //! The layers above may take what is read as a function of the text.
 ghost use Rattle.std.specs.Prelude.{◌≡◌, ℕ, List};
 ghost use Rattle.fx_base.specs.declared.geometry.Place.{Place};
-ghost use Rattle.fx_sheet.specs.declared.sheets.Rule.{Rule};
+ghost use Rattle.fx_css_types.specs.declared.sheets.Rule.{Rule};
 ghost use Rattle.fx_css.specs.Sheets.{IsSheetText};
 
 /// A text is read as one list of rules, with one list of what is dropped and one of what is past a limit.

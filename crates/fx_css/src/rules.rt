@@ -12,8 +12,8 @@ use crate::declarations::read_declarations;
 use crate::errors::Stop;
 use crate::parts::Part;
 use fx_base::List;
-use fx_parts::{Selectors, read_selectors};
-use fx_sheet::Rule;
+use fx_css_parts::{Selectors, read_selectors};
+use fx_css_types::Rule;
 use std::alloc::Global;
 
 /// The greatest number of rules of a sheet.

@@ -3,10 +3,10 @@
 ghost use Rattle.std.specs.Prelude.{◌≡◌, ◌≤◌, List as Items, [], length, IfOk, IfErr, OnOk};
 ghost use Rattle.std.specs.Str.{IsUtf8, IsValidUpTo};
 ghost use Rattle.fx_base.specs.declared.geometry.Place.{Place};
-ghost use Rattle.fx_sheet.specs.declared.sheets.Rule.{Rule};
-ghost use Rattle.fx_marks.specs.declared.marks.Mark.{Mark};
-ghost use Rattle.fx_marks.specs.Bytes.{first_place};
-ghost use Rattle.fx_marks.specs.Marks.{Marked};
+ghost use Rattle.fx_css_types.specs.declared.sheets.Rule.{Rule};
+ghost use Rattle.fx_css_marks.specs.declared.marks.Mark.{Mark};
+ghost use Rattle.fx_css_marks.specs.Bytes.{first_place};
+ghost use Rattle.fx_css_marks.specs.Marks.{Marked};
 ghost use Rattle.fx_css.specs.Numbered.{shown, numbered_marks};
 ghost use Rattle.fx_css.specs.Sheets.{AreRead, AreReadAs, IsReadAs, IsToldStop, IsTold, IsSheetText, HasFault, IsGiven, IsRefused};
 
@@ -15,8 +15,8 @@ use crate::inline::read_style;
 use crate::parts::Part;
 use crate::rules::{Draft, read_turn};
 use fx_base::List;
-use fx_marks::{is_bare, place, places, spoken};
-use fx_sheet::Sheet;
+use fx_css_marks::{is_bare, place, places, spoken};
+use fx_css_types::Sheet;
 use std::alloc::Global;
 use std::str;
 

@@ -5,10 +5,10 @@ use lib.Dec.{eqb}
 use lib.Utf8.{encode, scalar}
 use Rattle.std.specs.Str.{chars, IsUtf8}
 use Rattle.std.proofs.lemmas.Str.{chars-append, chars-encodes, chars-nil, IsUtf8-encode}
-use Rattle.fx_markup.specs.Grammar.{Spells}
-use Rattle.fx_markup.specs.Beginnings.{IsWithinLimits}
-use Rattle.fx_markup.specs.Verdicts.{Verdict, Reads, Stops, Deep, Long as TooLong, IsVerdict}
-use Rattle.fx_markup.proofs.Verdicts.{one_verdict}
+use Rattle.fx_doc_grammar.specs.Grammar.{Spells}
+use Rattle.fx_doc_grammar.specs.Beginnings.{IsWithinLimits}
+use Rattle.fx_doc_grammar.specs.Verdicts.{Verdict, Reads, Stops, Deep, Long as TooLong, IsVerdict}
+use Rattle.fx_doc_grammar.proofs.Verdicts.{one_verdict}
 use Rattle.fx_doc.specs.Views.{reading}
 use Rattle.fx_doc.specs.Reads.{IsRead, HasFault, IsGiven, IsRefused, IsAnswer, place_of, unmarked, document_text}
 use Rattle.fx_doc.specs.declared.document.Document.{Document}

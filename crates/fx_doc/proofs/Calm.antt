@@ -4,20 +4,20 @@ use Rattle.std.proofs.Common.{◌≡◌, ℕ, ◌+◌, ◌≤◌, ◌<◌, Bool,
 use Rattle.std.specs.List.{list_all}
 use lib.Dec.{eqb, ltb, leb}
 use Rattle.std.proofs.lemmas.Str.{encode_ascii}
-use Rattle.fx_markup.specs.Characters.{class_of, is_white, is_letter, is_later, in_name, starts_name, start, after, after_all}
-use Rattle.fx_markup.specs.Grammar.{Head, is_quote, value_byte}
-use Rattle.fx_markup.specs.Machine.{State, Held, Mode, Spaced, Tight, Keyed, Signed, Quoted, at, some_if, initial, step, next, run, is_fresh, with_attribute, is_deep, is_long, level_long, mode_long, in_spaced, in_keyed, in_quoted, in_value}
-use Rattle.fx_markup.specs.Beginnings.{IsWithinLimits}
-use Rattle.fx_markup.specs.declared.Class.{Class}
-use Rattle.fx_markup.specs.declared.Class.TheVariants.{White, Less, Greater, Slash, Equals, Bang, Question, Dash, Quotation, Apostrophe, Ampersand, Letter, Digit, Other}
-use Rattle.fx_markup.specs.declared.Place.{Place}
-use Rattle.fx_markup.specs.declared.Quote.{Quote}
-use Rattle.fx_markup.specs.declared.Quote.TheVariants.{Double}
-use Rattle.fx_markup.proofs.Marks.{as_state}
-use Rattle.fx_markup.proofs.Runs.{fits_at}
-use Rattle.fx_markup.proofs.TagGoes.{keyed_on, quote_ends}
-use Rattle.fx_markup.proofs.Turns.{run_more, limits_more, place_more}
-use Rattle.fx_drafts.specs.Ahead.{IsAhead, is_named, is_plain, begins_name}
+use Rattle.fx_doc_grammar.specs.Characters.{class_of, is_white, is_letter, is_later, in_name, starts_name, start, after, after_all}
+use Rattle.fx_doc_grammar.specs.Grammar.{Head, is_quote, value_byte}
+use Rattle.fx_doc_grammar.specs.Machine.{State, Held, Mode, Spaced, Tight, Keyed, Signed, Quoted, at, some_if, initial, step, next, run, is_fresh, with_attribute, is_deep, is_long, level_long, mode_long, in_spaced, in_keyed, in_quoted, in_value}
+use Rattle.fx_doc_grammar.specs.Beginnings.{IsWithinLimits}
+use Rattle.fx_doc_grammar.specs.declared.Class.{Class}
+use Rattle.fx_doc_grammar.specs.declared.Class.TheVariants.{White, Less, Greater, Slash, Equals, Bang, Question, Dash, Quotation, Apostrophe, Ampersand, Letter, Digit, Other}
+use Rattle.fx_doc_grammar.specs.declared.Place.{Place}
+use Rattle.fx_doc_grammar.specs.declared.Quote.{Quote}
+use Rattle.fx_doc_grammar.specs.declared.Quote.TheVariants.{Double}
+use Rattle.fx_doc_grammar.proofs.Marks.{as_state}
+use Rattle.fx_doc_grammar.proofs.Runs.{fits_at}
+use Rattle.fx_doc_grammar.proofs.TagGoes.{keyed_on, quote_ends}
+use Rattle.fx_doc_grammar.proofs.Turns.{run_more, limits_more, place_more}
+use Rattle.fx_doc_drafts.specs.Ahead.{IsAhead, is_named, is_plain, begins_name}
 use Rattle.fx_doc.specs.Reached.{Calm, Said}
 use Rattle.fx_doc.proofs.Defaults.{quoted_rest}
 

@@ -2,14 +2,14 @@
 -- Code's last arms cite these.
 use Rattle.std.proofs.Common.{◌≡◌, ◌≢◌, ℕ, Bool, true, List, [], ◌∷◌, ◌++◌, refl, ap, ◌∙◌, ◌||◌, ◌+◌, length, length-append, arith}
 use lib.Dec.{ltb}
-use Rattle.fx_markup.specs.Characters.{in_name}
-use Rattle.fx_markup.specs.Grammar.{Head}
-use Rattle.fx_markup.specs.Machine.{Held, at, some_if, is_open, with_sign, Inside, Instructing, Naming, Keyed, in_inside, in_instructing, in_naming, in_keyed, in_quoted, in_value}
-use Rattle.fx_markup.specs.Grammar.{is_quote}
-use Rattle.fx_markup.specs.declared.Quote.{Quote}
-use Rattle.fx_markup.specs.declared.Place.{Place}
-use Rattle.fx_markup.specs.declared.Class.{Class}
-use Rattle.fx_markup.specs.declared.Class.TheVariants.{White, Less, Greater, Slash, Equals, Question, Ampersand}
+use Rattle.fx_doc_grammar.specs.Characters.{in_name}
+use Rattle.fx_doc_grammar.specs.Grammar.{Head}
+use Rattle.fx_doc_grammar.specs.Machine.{Held, at, some_if, is_open, with_sign, Inside, Instructing, Naming, Keyed, in_inside, in_instructing, in_naming, in_keyed, in_quoted, in_value}
+use Rattle.fx_doc_grammar.specs.Grammar.{is_quote}
+use Rattle.fx_doc_grammar.specs.declared.Quote.{Quote}
+use Rattle.fx_doc_grammar.specs.declared.Place.{Place}
+use Rattle.fx_doc_grammar.specs.declared.Class.{Class}
+use Rattle.fx_doc_grammar.specs.declared.Class.TheVariants.{White, Less, Greater, Slash, Equals, Question, Ampersand}
 
 pub inside_rest : (p : Place) (h : Held) (c : ℕ) (k : Class) → k ≢ White → k ≢ Less → k ≢ Ampersand → in_inside p h c k ≡ some_if (is_open h.stack) (at (with_sign p c h) Inside)
 inside_rest p h c White a b d = absurd (a refl)

@@ -6,8 +6,8 @@ use Rattle.std.specs.Char.{IsScalar}
 use lib.Dec.{eqb, ltb}
 use lib.Utf8.{encode, encodes, scalar, scalars}
 use Rattle.std.proofs.lemmas.Str.{chars-append, chars-encodes, length-le-encodes, IsUtf8-encode, IsUtf8-past_char, IsUtf8-from_ascii, chars-IsAscii, encode_ascii}
-use Rattle.fx_markup.specs.Characters.{after_all}
-use Rattle.fx_markup.specs.declared.Place.{Place}
+use Rattle.fx_doc_grammar.specs.Characters.{after_all}
+use Rattle.fx_doc_grammar.specs.declared.Place.{Place}
 use Rattle.fx_doc.specs.Reached.{is_flat}
 
 alone : (c : ℕ) → IsScalar c → chars (encode c) ≡ c ∷ []

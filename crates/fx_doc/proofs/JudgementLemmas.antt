@@ -2,10 +2,10 @@
 use Rattle.std.proofs.Common.{◌≡◌, ℕ, true, false, List, refl, ap, Result, Ok, Err}
 use Rattle.std.specs.Str.{IsUtf8, is_utf8, IsValidUpTo}
 use Rattle.std.proofs.lemmas.Str.{IsUtf8-from_is_utf8, is_utf8-from_IsUtf8, utf8_valid_len-IsValidUpTo}
-use Rattle.fx_markup.specs.Judging.{verdict_of}
-use Rattle.fx_markup.specs.Verdicts.{Verdict, Reads, Stops, Deep, Long as TooLong, IsVerdict}
-use Rattle.fx_markup.proofs.JudgingLemmas.{judging}
-use Rattle.fx_markup.proofs.Verdicts.{one_verdict}
+use Rattle.fx_doc_grammar.specs.Judging.{verdict_of}
+use Rattle.fx_doc_grammar.specs.Verdicts.{Verdict, Reads, Stops, Deep, Long as TooLong, IsVerdict}
+use Rattle.fx_doc_grammar.proofs.JudgingLemmas.{judging}
+use Rattle.fx_doc_grammar.proofs.Verdicts.{one_verdict}
 use Rattle.fx_doc.specs.Judgements.{NoText, Judged, judgement, Tells}
 use Rattle.fx_doc.specs.Reads.{document_text, place_of, IsAnswer}
 use Rattle.fx_doc.specs.Views.{reading}

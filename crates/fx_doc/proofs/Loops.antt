@@ -4,14 +4,14 @@ use Rattle.std.proofs.Common.{◌≡◌, ℕ, ◌+◌, ◌<◌, ◌≤◌, ◌^�
 use Rattle.std.proofs.lemmas.List.{take-append-drop, map-id}
 use Rattle.std.specs.Result.{IsErrAnd}
 use lib.Dec.{leb, ltb}
-use Rattle.fx_markup.specs.Characters.{start, after_all}
-use Rattle.fx_markup.specs.Grammar.{Spells}
-use Rattle.fx_markup.specs.Machine.{Mode, Naming, initial, run, answer, is_long, mode_long, level_long, stack_depth}
-use Rattle.fx_markup.specs.Beginnings.{IsWithinLimits, IsStopped}
-use Rattle.fx_markup.proofs.Advance.{sound}
-use Rattle.fx_markup.proofs.Roots.{line_bound, column_bound}
-use Rattle.fx_markup.proofs.Turns.{run_more, limits_more, stopped_here, stopped_end, too_long, too_deep}
-use Rattle.fx_markup.specs.declared.Place.{Place}
+use Rattle.fx_doc_grammar.specs.Characters.{start, after_all}
+use Rattle.fx_doc_grammar.specs.Grammar.{Spells}
+use Rattle.fx_doc_grammar.specs.Machine.{Mode, Naming, initial, run, answer, is_long, mode_long, level_long, stack_depth}
+use Rattle.fx_doc_grammar.specs.Beginnings.{IsWithinLimits, IsStopped}
+use Rattle.fx_doc_grammar.proofs.Advance.{sound}
+use Rattle.fx_doc_grammar.proofs.Roots.{line_bound, column_bound}
+use Rattle.fx_doc_grammar.proofs.Turns.{run_more, limits_more, stopped_here, stopped_end, too_long, too_deep}
+use Rattle.fx_doc_grammar.specs.declared.Place.{Place}
 use Rattle.fx_doc.specs.Views.{view, reading, IsDeepMode, mode_view, stack_view}
 use Rattle.fx_doc.specs.Reads.{IsNext, IsRead, place_of}
 use Rattle.fx_doc.specs.declared.document.Document.{Document}

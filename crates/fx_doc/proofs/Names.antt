@@ -6,8 +6,8 @@ use lib.Pointwise.{pointwise}
 use Rattle.std.proofs.Math.Seq.{take-suc}
 use Rattle.std.proofs.lemmas.List.{take-append-drop}
 use Rattle.std.proofs.Common.{zero, drop-cons, add-one, ◌≤◌, IsTrue, ◌↔◌, not, ℕ, ◌+◌, ◌<◌, suc, length, take, drop, get_or}
-use Rattle.fx_markup.specs.Grammar.{same_name, is_among}
-use Rattle.fx_markup.specs.Machine.{keys_of}
+use Rattle.fx_doc_grammar.specs.Grammar.{same_name, is_among}
+use Rattle.fx_doc_grammar.specs.Machine.{keys_of}
 use Rattle.fx_doc.specs.Views.{attr_view}
 use Rattle.fx_doc.specs.declared.document.Attribute.{Attribute}
 

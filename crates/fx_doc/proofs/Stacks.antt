@@ -1,17 +1,17 @@
 -- The innermost open name, and one more attribute in a tag.
 -- Below the answers on values and end tags.
 use Rattle.std.proofs.Common.{◌≡◌, ℕ, ◌+◌, ◌-◌, ◌<◌, ◌≤◌, List, [], ◌∷◌, ◌++◌, zero, suc, map, length, drop, get_or, refl, sym, ◌∙◌, ap, subst, add-one, drop-cons, arith}
-use Rattle.fx_markup.specs.declared.Place.{Place}
-use Rattle.fx_markup.specs.Grammar.{Attr, Head as HeadView}
+use Rattle.fx_doc_grammar.specs.declared.Place.{Place}
+use Rattle.fx_doc_grammar.specs.Grammar.{Attr, Head as HeadView}
 use Rattle.std.proofs.Common.{Bool, true, false, ◌&&◌}
 use lib.Dec.{leb}
-use Rattle.fx_markup.specs.Machine.{Stack, Bottom, Opened, stack_depth, is_deep, is_naming, State, is_long}
+use Rattle.fx_doc_grammar.specs.Machine.{Stack, Bottom, Opened, stack_depth, is_deep, is_naming, State, is_long}
 use Rattle.std.proofs.Common.{Option, Some, None}
 use Rattle.fx_doc.specs.Views.{view, mode_view, IsDeepAt, IsDeepMode, IsLongStep}
 use Rattle.fx_doc.specs.declared.modes.Mode.{Mode}
 use Rattle.fx_doc.specs.declared.modes.Mode.TheVariants as v
 use Rattle.fx_doc.specs.declared.modes.Reader.{Reader}
-use Rattle.fx_drafts.specs.declared.drafts.Word.{Word}
+use Rattle.fx_doc_drafts.specs.declared.drafts.Word.{Word}
 use Rattle.fx_doc.specs.Views.{attr_view, head_view, level_view, stack_from, stack_view, open_name}
 use Rattle.fx_doc.specs.declared.document.Attribute.{Attribute}
 use Rattle.fx_doc.specs.declared.modes.Open.{Open}

@@ -2,10 +2,10 @@
 -- Below the answers on levels.
 use Rattle.std.proofs.Common.{◌≡◌, ℕ, Bool, true, false, not, List, [], ◌∷◌, ◌++◌, map, length, refl, sym, ◌∙◌, ap, subst, nat_eq, arith}
 use Rattle.std.proofs.lemmas.Grind.{common_steps}
-use Rattle.fx_markup.specs.declared.Place.{Place}
-use Rattle.fx_markup.specs.Grammar.{IsRoot, Nodes, Nothing, Letters, Node, Reading as ReadingView, Level as LevelView, Head as HeadView}
-use Rattle.fx_markup.specs.Machine.{Stack, Bottom, Opened, Held as HeldView, is_nothing, is_open, close_in, at, Inside, State, answer, answer_of}
-use Rattle.fx_markup.specs.Grammar.{one_child, closed, with_run}
+use Rattle.fx_doc_grammar.specs.declared.Place.{Place}
+use Rattle.fx_doc_grammar.specs.Grammar.{IsRoot, Nodes, Nothing, Letters, Node, Reading as ReadingView, Level as LevelView, Head as HeadView}
+use Rattle.fx_doc_grammar.specs.Machine.{Stack, Bottom, Opened, Held as HeldView, is_nothing, is_open, close_in, at, Inside, State, answer, answer_of}
+use Rattle.fx_doc_grammar.specs.Grammar.{one_child, closed, with_run}
 use Rattle.std.proofs.Common.{Option, Some, None, suc}
 use Rattle.fx_doc.specs.Views.{Onto, built, onto, nodes_of, onto_element, node_of, IsRun, AnswersRoot, content_step, element_step, attr_view, head_view, level_view, level_behind, stack_from, stack_view}
 use Rattle.fx_doc.specs.declared.document.Content.{Content}

@@ -4,8 +4,8 @@ use Rattle.std.proofs.Common.{◌≡◌, ℕ, ◌+◌, ◌/◌, ◌%◌, ◌≤�
 use Rattle.std.specs.Str.{IsUtf8}
 use lib.Utf8.{encode, encodes, scalars, scalar}
 use lib.Dec.{ltb}
-use Rattle.fx_markup.specs.Characters.{is_white}
-use Rattle.fx_markup.specs.Grammar.{trim_front, trim_back, trim_last}
+use Rattle.fx_doc_grammar.specs.Characters.{is_white}
+use Rattle.fx_doc_grammar.specs.Grammar.{trim_front, trim_back, trim_last}
 
 white_low : (c : ℕ) → is_white c ≡ true → ltb c 128 ≡ true
 unfolding is_white

@@ -5,13 +5,13 @@ use Rattle.std.specs.List.{list_all}
 use Rattle.std.specs.Result.{IsErrAnd}
 use Rattle.std.specs.Str.{chars, IsUtf8}
 use Rattle.std.proofs.lemmas.Str.{chars-nil, IsUtf8-had}
-use Rattle.fx_markup.specs.Characters.{start, after, after_all}
-use Rattle.fx_markup.specs.Grammar.{Reading as ReadingView, IsRoot}
-use Rattle.fx_markup.specs.Machine.{State, initial, answer}
-use Rattle.fx_markup.specs.Beginnings.{IsStopped}
-use Rattle.fx_markup.specs.declared.Place.{Place}
-use Rattle.fx_markup.proofs.Bounds.{within_start}
-use Rattle.fx_markup.proofs.Roots.{line_bound, column_bound, answered_root}
+use Rattle.fx_doc_grammar.specs.Characters.{start, after, after_all}
+use Rattle.fx_doc_grammar.specs.Grammar.{Reading as ReadingView, IsRoot}
+use Rattle.fx_doc_grammar.specs.Machine.{State, initial, answer}
+use Rattle.fx_doc_grammar.specs.Beginnings.{IsStopped}
+use Rattle.fx_doc_grammar.specs.declared.Place.{Place}
+use Rattle.fx_doc_grammar.proofs.Bounds.{within_start}
+use Rattle.fx_doc_grammar.proofs.Roots.{line_bound, column_bound, answered_root}
 use Rattle.fx_doc.specs.Reads.{IsNext, IsRead}
 use Rattle.fx_doc.specs.Reached.{Calm, Said, TookFlat, IsReached, is_flat}
 use Rattle.fx_doc.specs.Views.{view, reading}
@@ -21,7 +21,7 @@ use Rattle.fx_doc.specs.declared.modes.Reader.{Reader}
 use Rattle.fx_doc.proofs.Calm.{said_more}
 use Rattle.fx_doc.proofs.Firsts.{flat_chars, utf8_behind, along_is}
 use Rattle.fx_doc.proofs.Loops.{goes_on, within_on, stops, passed, ends_read, ends_stopped}
-use Rattle.fx_markup.proofs.Turns.{place_more}
+use Rattle.fx_doc_grammar.proofs.Turns.{place_more}
 
 pub begins : (text : List ℕ) (r : Reader) → IsUtf8 text → view r ≡ initial → IsReached text text start (view r)
 begins text r u e = record {

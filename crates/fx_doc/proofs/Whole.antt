@@ -3,12 +3,12 @@
 use Rattle.std.proofs.Common.{◌≡◌, ℕ, ◌+◌, ◌<◌, ◌≤◌, Bool, true, false, ◌&&◌, not, List, [], ◌∷◌, ◌++◌, length, refl, sym, ◌∙◌, ap, subst, append_assoc, arith}
 use Rattle.std.specs.List.{list_all}
 use lib.Dec.{eqb, ltb}
-use Rattle.fx_markup.specs.Characters.{class_of, is_white, is_letter, is_later, in_name}
-use Rattle.fx_markup.specs.Grammar.{Head as HeadView}
-use Rattle.fx_markup.specs.Machine.{State, Mode, Spaced, Tight, is_fresh, with_attribute}
-use Rattle.fx_markup.specs.declared.Place.{Place}
-use Rattle.fx_markup.proofs.Marks.{as_state}
-use Rattle.fx_drafts.specs.Ahead.{IsAhead, is_named, is_plain}
+use Rattle.fx_doc_grammar.specs.Characters.{class_of, is_white, is_letter, is_later, in_name}
+use Rattle.fx_doc_grammar.specs.Grammar.{Head as HeadView}
+use Rattle.fx_doc_grammar.specs.Machine.{State, Mode, Spaced, Tight, is_fresh, with_attribute}
+use Rattle.fx_doc_grammar.specs.declared.Place.{Place}
+use Rattle.fx_doc_grammar.proofs.Marks.{as_state}
+use Rattle.fx_doc_drafts.specs.Ahead.{IsAhead, is_named, is_plain}
 use Rattle.fx_doc.specs.Reached.{Calm, TookFlat, is_flat}
 use Rattle.fx_doc.specs.Views.{view, head_view, held_view, mode_view, stack_view}
 use Rattle.fx_doc.specs.declared.modes.Head.{Head}

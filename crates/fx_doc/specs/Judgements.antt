@@ -3,8 +3,8 @@
 use Rattle.std.specs.Prelude.{◌≡◌, ℕ, List, Result, Ok, Err, if◌then◌else◌}
 use Rattle.std.specs.Str.{is_utf8}
 use Rattle.std.specs.Str.Lossy.{utf8_valid_len}
-use Rattle.fx_markup.specs.Judging.{verdict_of}
-use Rattle.fx_markup.specs.Verdicts.{Verdict, Reads, Stops, Deep, Long as TooLong}
+use Rattle.fx_doc_grammar.specs.Judging.{verdict_of}
+use Rattle.fx_doc_grammar.specs.Verdicts.{Verdict, Reads, Stops, Deep, Long as TooLong}
 use Rattle.fx_doc.specs.Reads.{document_text, place_of}
 use Rattle.fx_doc.specs.Views.{reading}
 use Rattle.fx_doc.specs.declared.document.Document.{Document}

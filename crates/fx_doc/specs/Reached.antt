@@ -4,10 +4,10 @@ use Rattle.std.specs.Prelude.{◌≡◌, ◌≤◌, ◌<◌, ◌+◌, ℕ, Bool,
 use Rattle.std.specs.List.{list_all}
 use Rattle.std.specs.Str.{chars, IsUtf8}
 use lib.Dec.{eqb, ltb}
-use Rattle.fx_markup.specs.Characters.{start, after, after_all}
-use Rattle.fx_markup.specs.Machine.{State, initial, step, run, is_deep, is_long}
-use Rattle.fx_markup.specs.Beginnings.{IsWithinLimits}
-use Rattle.fx_markup.specs.declared.Place.{Place}
+use Rattle.fx_doc_grammar.specs.Characters.{start, after, after_all}
+use Rattle.fx_doc_grammar.specs.Machine.{State, initial, step, run, is_deep, is_long}
+use Rattle.fx_doc_grammar.specs.Beginnings.{IsWithinLimits}
+use Rattle.fx_doc_grammar.specs.declared.Place.{Place}
 
 -- the machine goes over these characters within the limits
 abbrev pub Calm : Place → State → List ℕ → State → Type 0

@@ -1,13 +1,13 @@
 -- What the reader answers: of one character, of a text, and of bytes.
--- The public contract cites these, over the grammar of `fx_markup`.
+-- The public contract cites these, over the grammar of `fx_doc_grammar`.
 use Rattle.std.specs.Prelude.{◌≡◌, ℕ, true, false, cond, List, [], ◌∷◌, Option, Some, None, Result, Ok, Err}
 use lib.Dec.{eqb}
 use Rattle.std.specs.Str.{chars, IsUtf8, IsValidUpTo}
-use Rattle.fx_markup.specs.declared.Place.{Place}
-use Rattle.fx_markup.specs.Grammar.{Spells}
-use Rattle.fx_markup.specs.Machine.{State, step, is_deep, is_long, sign_place}
-use Rattle.fx_markup.specs.Beginnings.{IsWithinLimits, IsTooDeep, IsTooLong, IsStopped}
-use Rattle.fx_markup.specs.Verdicts.{Verdict, Reads, Stops, Deep, Long as TooLong}
+use Rattle.fx_doc_grammar.specs.declared.Place.{Place}
+use Rattle.fx_doc_grammar.specs.Grammar.{Spells}
+use Rattle.fx_doc_grammar.specs.Machine.{State, step, is_deep, is_long, sign_place}
+use Rattle.fx_doc_grammar.specs.Beginnings.{IsWithinLimits, IsTooDeep, IsTooLong, IsStopped}
+use Rattle.fx_doc_grammar.specs.Verdicts.{Verdict, Reads, Stops, Deep, Long as TooLong}
 use Rattle.fx_doc.specs.Views.{view, reading, IsDeepAt}
 use Rattle.fx_doc.specs.declared.document.Document.{Document}
 use Rattle.fx_doc.specs.declared.document.DocError.{DocError}

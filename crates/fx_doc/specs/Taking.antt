@@ -2,16 +2,16 @@
 -- The reader's own functions cite these; no public clause does.
 use Rattle.std.specs.Prelude.{◌≡◌, ◌≢◌, ◌+◌, ℕ, Bool, true, false, [], ◌∷◌, ◌++◌, length, Result, Ok, Err}
 use Rattle.std.specs.String.{string_bytes}
-use Rattle.fx_markup.specs.Characters.{class_of, in_name}
-use Rattle.fx_markup.specs.Grammar.{is_quote, value_byte, one_sign}
-use Rattle.fx_markup.specs.Machine.{is_open}
-use Rattle.fx_markup.specs.declared.Class.{Class}
-use Rattle.fx_markup.specs.declared.Class.TheVariants.{Less, Ampersand}
-use Rattle.fx_markup.specs.declared.Place.{Place}
+use Rattle.fx_doc_grammar.specs.Characters.{class_of, in_name}
+use Rattle.fx_doc_grammar.specs.Grammar.{is_quote, value_byte, one_sign}
+use Rattle.fx_doc_grammar.specs.Machine.{is_open}
+use Rattle.fx_doc_grammar.specs.declared.Class.{Class}
+use Rattle.fx_doc_grammar.specs.declared.Class.TheVariants.{Less, Ampersand}
+use Rattle.fx_doc_grammar.specs.declared.Place.{Place}
 use Rattle.fx_doc.specs.Views.{level_view, stack_view}
-use Rattle.fx_drafts.specs.declared.drafts.Halt.{Halt}
-use Rattle.fx_drafts.specs.declared.drafts.Halt.TheVariants.{Long, Memory}
-use Rattle.fx_drafts.specs.declared.drafts.Word.{Word}
+use Rattle.fx_doc_drafts.specs.declared.drafts.Halt.{Halt}
+use Rattle.fx_doc_drafts.specs.declared.drafts.Halt.TheVariants.{Long, Memory}
+use Rattle.fx_doc_drafts.specs.declared.drafts.Word.{Word}
 use Rattle.fx_doc.specs.declared.modes.Held.{Held}
 use Rattle.fx_doc.specs.declared.modes.Valued.{Valued}
 

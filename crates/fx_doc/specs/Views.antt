@@ -2,19 +2,19 @@
 -- The tree is seen by a fold, since its values hold capacities and pointers.
 use Rattle.std.specs.Prelude.{◌≡◌, ◌≤◌, ℕ, Bool, true, false, List, [], ◌∷◌, map, drop, Option, Some, None, Result, Ok, Err}
 use Rattle.std.specs.String.{string_bytes}
-use Rattle.fx_markup.specs.declared.Place.{Place}
-use Rattle.fx_markup.specs.declared.Entity.TheVariants.{Begun}
-use Rattle.fx_markup.specs.declared.Quote.{Quote}
-use Rattle.fx_markup.specs.Grammar.{IsRoot, Nodes, Nothing, Letters, Node, Attr, Reading, Level as LevelView, Head as HeadView}
-use Rattle.fx_markup.specs.Machine as m
+use Rattle.fx_doc_grammar.specs.declared.Place.{Place}
+use Rattle.fx_doc_grammar.specs.declared.Entity.TheVariants.{Begun}
+use Rattle.fx_doc_grammar.specs.declared.Quote.{Quote}
+use Rattle.fx_doc_grammar.specs.Grammar.{IsRoot, Nodes, Nothing, Letters, Node, Attr, Reading, Level as LevelView, Head as HeadView}
+use Rattle.fx_doc_grammar.specs.Machine as m
 use Rattle.fx_doc.specs.declared.document.Attribute.{Attribute}
 use Rattle.fx_doc.specs.declared.document.Content.{Content}
 use Rattle.fx_doc.specs.declared.document.Content.TheOpen.{Content-F, Element-F, Child, Chars}
 use Rattle.fx_doc.specs.declared.document.Content.TheFolds.{fold-Content, fold-Element}
 use Rattle.fx_doc.specs.declared.document.Element.{Element}
 use Rattle.fx_doc.specs.declared.document.Document.{Document}
-use Rattle.fx_drafts.specs.declared.drafts.Halt.{Halt}
-use Rattle.fx_drafts.specs.declared.drafts.Halt.TheVariants.{Long, Memory}
+use Rattle.fx_doc_drafts.specs.declared.drafts.Halt.{Halt}
+use Rattle.fx_doc_drafts.specs.declared.drafts.Halt.TheVariants.{Long, Memory}
 use Rattle.fx_doc.specs.declared.modes.Head.{Head}
 use Rattle.fx_doc.specs.declared.modes.Level.{Level}
 use Rattle.fx_doc.specs.declared.modes.Open.{Open}

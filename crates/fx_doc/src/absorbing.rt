@@ -1,16 +1,16 @@
 //! Characters that only make a text longer, of a run, a name or a value: the reader takes them in place.
 //! Most characters of a document are such; every other is left to the modes.
 ghost use Rattle.std.specs.Prelude.{◌≡◌, ◌≢◌, true, false};
-ghost use Rattle.fx_markup.specs.declared.Class.TheVariants.{Less, Ampersand};
-ghost use Rattle.fx_markup.specs.Characters.{class_of};
-ghost use Rattle.fx_markup.specs.Machine.{step};
+ghost use Rattle.fx_doc_grammar.specs.declared.Class.TheVariants.{Less, Ampersand};
+ghost use Rattle.fx_doc_grammar.specs.Characters.{class_of};
+ghost use Rattle.fx_doc_grammar.specs.Machine.{step};
 ghost use Rattle.fx_doc.specs.Views.{view, Takes};
 ghost use Rattle.fx_doc.specs.Taking.{TakesName, TakesValue, TakesSign};
 
 use crate::modes::{Held, Mode, Reader, Valued};
 use crate::values::shown;
-use fx_drafts::{Halt, Word};
-use fx_markup::{Class, Place};
+use fx_doc_drafts::{Halt, Word};
+use fx_doc_grammar::{Class, Place};
 
 /// Appends a character of a name; false at any other.
 fn absorb_name(name: &mut Word, c: char) -> Result<bool, Halt>

@@ -2,10 +2,10 @@
 //! What is not UTF-8 is refused before anything is read.
 ghost use Rattle.std.specs.Prelude.{◌≡◌, ◌≤◌, length, IfOk, IfErr};
 ghost use Rattle.std.specs.Str.{chars, IsUtf8, IsValidUpTo};
-ghost use Rattle.fx_markup.specs.Characters.{after_all, start};
+ghost use Rattle.fx_doc_grammar.specs.Characters.{after_all, start};
 ghost use Rattle.fx_doc.specs.Reads.{unmarked, document_text};
 
-use fx_markup::Place;
+use fx_doc_grammar::Place;
 use std::str;
 
 /// The byte order mark.

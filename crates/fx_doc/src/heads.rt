@@ -3,17 +3,17 @@
 ghost use Rattle.std.specs.Prelude.{◌≡◌, ◌∷◌, ◌++◌, ◌≤◌, [], List, ℕ, length, take, cond, IfOk, OnOk};
 ghost use Rattle.std.specs.String.{string_bytes};
 ghost use lib.Dec.{leb};
-ghost use Rattle.fx_markup.specs.Grammar.{is_among};
-ghost use Rattle.fx_markup.specs.Machine.{is_fresh, with_attribute};
-ghost use Rattle.fx_drafts.specs.Names.{HasNames};
+ghost use Rattle.fx_doc_grammar.specs.Grammar.{is_among};
+ghost use Rattle.fx_doc_grammar.specs.Machine.{is_fresh, with_attribute};
+ghost use Rattle.fx_doc_drafts.specs.Names.{HasNames};
 ghost use Rattle.fx_doc.specs.Attributes.{names_of};
 ghost use Rattle.fx_doc.specs.Views.{bare_head, head_view};
 
 use crate::document::Attribute;
 use crate::modes::Head;
 use fx_base::Text;
-use fx_drafts::{Names, Word};
-use fx_markup::Place;
+use fx_doc_drafts::{Names, Word};
+use fx_doc_grammar::Place;
 use std::alloc::{AllocError, Global};
 
 /// How many names are looked through.

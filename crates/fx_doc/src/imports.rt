@@ -4,18 +4,18 @@ ghost use Rattle.std.specs.Prelude.{◌≡◌, ◌∷◌, [], cond, not, ◌&&�
 ghost use Rattle.std.specs.Str.{chars};
 ghost use Rattle.std.specs.String.{string_bytes};
 ghost use lib.Dec.{leb};
-ghost use Rattle.fx_markup.specs.Characters.{is_white};
-ghost use Rattle.fx_markup.specs.Grammar.{trim_front, trim_back, trimmed, same_name, import_name};
-ghost use Rattle.fx_markup.specs.Machine.{with_instruction, may_begin, is_open};
+ghost use Rattle.fx_doc_grammar.specs.Characters.{is_white};
+ghost use Rattle.fx_doc_grammar.specs.Grammar.{trim_front, trim_back, trimmed, same_name, import_name};
+ghost use Rattle.fx_doc_grammar.specs.Machine.{with_instruction, may_begin, is_open};
 ghost use Rattle.fx_doc.specs.Views.{held_view, stack_view};
 
 use crate::modes::Held;
 use fx_base::Text;
-use fx_drafts::Word;
+use fx_doc_drafts::Word;
 use std::alloc::{AllocError, Global};
 use std::str;
 
-#[tactic(auto, unfolding(fx_markup::specs::Characters::is_white))]
+#[tactic(auto, unfolding(fx_doc_grammar::specs::Characters::is_white))]
 fn is_white_byte(byte: u8) -> bool
     ensures { result ≡ is_white byte }
 {

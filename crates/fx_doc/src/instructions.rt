@@ -1,15 +1,15 @@
 //! The reader in instructions, one function for each mode.
-//! Each answers what the machine of `fx_markup` does in that mode.
+//! Each answers what the machine of `fx_doc_grammar` does in that mode.
 ghost use Rattle.std.specs.Prelude.{◌≡◌, true, [], ◌∷◌, ◌++◌};
 ghost use Rattle.std.specs.String.{string_bytes};
-ghost use Rattle.fx_markup.specs.Characters.{class_of, in_name};
-ghost use Rattle.fx_markup.specs.Machine.{some_if, with_instruction, in_asked, in_instructing, in_name_asked, in_instructed, in_end_asked};
+ghost use Rattle.fx_doc_grammar.specs.Characters.{class_of, in_name};
+ghost use Rattle.fx_doc_grammar.specs.Machine.{some_if, with_instruction, in_asked, in_instructing, in_name_asked, in_instructed, in_end_asked};
 ghost use Rattle.fx_doc.specs.Views.{held_view, Moves, inside_state, instructing_state};
 
 use crate::levels::goes;
 use crate::modes::{Held, Mode};
-use fx_drafts::{Halt, Word};
-use fx_markup::Class;
+use fx_doc_drafts::{Halt, Word};
+use fx_doc_grammar::Class;
 use std::alloc::Global;
 
 pub fn asked(alloc: Global, held: &Held, c: char) -> Result<Option<Mode>, Halt>

@@ -1,16 +1,16 @@
 //! Steps on what the reader holds: a sign more in a run, an element that opens or ends.
-//! Each is a function of the machine in `fx_markup`, on the reader's own values, in place.
+//! Each is a function of the machine in `fx_doc_grammar`, on the reader's own values, in place.
 ghost use Rattle.std.specs.Prelude.{◌≡◌, true, OnOk, IsErrOf};
-ghost use Rattle.fx_markup.specs.Grammar.{fresh_level, one_sign, one_child, closed, first_shown};
-ghost use Rattle.fx_markup.specs.Characters.{class_of};
-ghost use Rattle.fx_markup.specs.Machine.{at, Inside, open_element, close, with_sign, with_leaf, level_long, is_open, may_begin};
+ghost use Rattle.fx_doc_grammar.specs.Grammar.{fresh_level, one_sign, one_child, closed, first_shown};
+ghost use Rattle.fx_doc_grammar.specs.Characters.{class_of};
+ghost use Rattle.fx_doc_grammar.specs.Machine.{at, Inside, open_element, close, with_sign, with_leaf, level_long, is_open, may_begin};
 ghost use Rattle.fx_doc.specs.Views.{nodes_of, level_view, level_behind, head_view, stack_view, held_view, mode_view, Moves};
 
 use crate::document::{Content, Element};
 use crate::modes::{Head, Held, Level, Mode, Open};
 use fx_base::List;
-use fx_drafts::{Draft, Halt};
-use fx_markup::{Class, Place};
+use fx_doc_drafts::{Draft, Halt};
+use fx_doc_grammar::{Class, Place};
 use std::alloc::{AllocError, Global};
 use std::mem;
 

@@ -1,5 +1,5 @@
 //! The reader of FXML documents: bytes to a tree of elements, or where and why they are no document.
-//! It keeps to the grammar of `fx_markup`; what elements and attributes mean is left to the layers above.
+//! It keeps to the grammar of `fx_doc_grammar`; what elements and attributes mean is left to the layers above.
 #![tactic(auto)]
 
 mod absorbing;

@@ -1,15 +1,15 @@
 //! The reader between tags: characters, references, comments and instructions, one function for each mode.
-//! Each answers what the machine of `fx_markup` does in that mode.
+//! Each answers what the machine of `fx_doc_grammar` does in that mode.
 ghost use Rattle.std.specs.Prelude.{◌≡◌, true, [], ◌∷◌, ◌++◌};
 ghost use Rattle.std.specs.String.{string_bytes};
-ghost use Rattle.fx_markup.specs.Characters.{class_of, in_name};
-ghost use Rattle.fx_markup.specs.Machine.{State, at, some_if, is_open, with_sign, with_instruction, entity_step, begin_end, may_begin, in_inside, in_referring, in_opening, in_banged, in_bang_dashed, in_commented, in_dashed, in_dash_dashed, in_asked, in_instructing, in_name_asked, in_instructed, in_end_asked};
+ghost use Rattle.fx_doc_grammar.specs.Characters.{class_of, in_name};
+ghost use Rattle.fx_doc_grammar.specs.Machine.{State, at, some_if, is_open, with_sign, with_instruction, entity_step, begin_end, may_begin, in_inside, in_referring, in_opening, in_banged, in_bang_dashed, in_commented, in_dashed, in_dash_dashed, in_asked, in_instructing, in_name_asked, in_instructed, in_end_asked};
 ghost use Rattle.fx_doc.specs.Views.{stack_view, held_view, Moves, inside_state, referring_state, naming_state, instructing_state};
 
 use crate::levels::goes;
 use crate::modes::{Held, Mode};
-use fx_drafts::{Halt, Word};
-use fx_markup::{Class, Entity, Place, Turn};
+use fx_doc_drafts::{Halt, Word};
+use fx_doc_grammar::{Class, Entity, Place, Turn};
 use std::alloc::Global;
 
 #[tactic(auto, using(crate::proofs::Defaults::inside_rest))]

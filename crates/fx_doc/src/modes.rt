@@ -1,12 +1,12 @@
 //! What the reader holds between two characters: the open elements, what it has read of the innermost, and its mode.
-//! The modes are those of the machine in `fx_markup`.
-ghost use Rattle.fx_drafts.specs.Names.{HasNames};
+//! The modes are those of the machine in `fx_doc_grammar`.
+ghost use Rattle.fx_doc_drafts.specs.Names.{HasNames};
 ghost use Rattle.fx_doc.specs.Attributes.{later_names};
 
 use crate::document::{Attribute, Content};
 use fx_base::Text;
-use fx_drafts::{Draft, Names, Word};
-use fx_markup::{Entity, Place, Quote};
+use fx_doc_drafts::{Draft, Names, Word};
+use fx_doc_grammar::{Entity, Place, Quote};
 
 /// What stands before a tag's end.
 #[derive(Drop)]

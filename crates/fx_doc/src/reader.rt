@@ -1,13 +1,13 @@
 //! The reader over a whole text: a step for each character, the limit on depth, and the document at the end.
-//! It is the machine of `fx_markup`, so it reads what the grammar there spells.
+//! It is the machine of `fx_doc_grammar`, so it reads what the grammar there spells.
 ghost use Rattle.std.specs.Prelude.{◌≡◌, ◌≤◌, ◌+◌, false, length, Option, Some, None, MatchOption, IfSome, IfNone, IfOk, IfErr, OnOk};
 ghost use Rattle.std.specs.Str.{chars, IsUtf8};
-ghost use Rattle.fx_markup.specs.Grammar.{Spells};
-ghost use Rattle.fx_markup.specs.Verdicts.{Verdict, IsVerdict};
-ghost use Rattle.fx_markup.specs.Beginnings.{IsWithinLimits};
-ghost use Rattle.fx_markup.specs.Characters.{class_of};
-ghost use Rattle.fx_markup.specs.Machine.{initial, step, move, sign_place, answer, is_deep};
-ghost use Rattle.fx_markup.specs.declared.Place.{Place};
+ghost use Rattle.fx_doc_grammar.specs.Grammar.{Spells};
+ghost use Rattle.fx_doc_grammar.specs.Verdicts.{Verdict, IsVerdict};
+ghost use Rattle.fx_doc_grammar.specs.Beginnings.{IsWithinLimits};
+ghost use Rattle.fx_doc_grammar.specs.Characters.{class_of};
+ghost use Rattle.fx_doc_grammar.specs.Machine.{initial, step, move, sign_place, answer, is_deep};
+ghost use Rattle.fx_doc_grammar.specs.declared.Place.{Place};
 ghost use Rattle.fx_doc.specs.Judgements.{Tells, judgement};
 ghost use Rattle.fx_doc.specs.Reads.{IsNext, IsStep, IsRead, HasFault, IsGiven, IsRefused, document_text};
 ghost use Rattle.fx_doc.specs.Views.{view, held_view, mode_view, stack_view, Moves, Steps, IsDeepAt, reading, inside_view, AnswersRoot, onto, onto_element, IsRun};
@@ -23,8 +23,8 @@ use crate::reading::read_text;
 use crate::tags::{ended, key_spaced, keyed, naming, signed, slashed, spaced, tight};
 use crate::values::{ending, quoted, value_referring};
 use fx_base::List;
-use fx_drafts::Halt;
-use fx_markup::Place;
+use fx_doc_drafts::Halt;
+use fx_doc_grammar::Place;
 use std::alloc::Global;
 use std::mem;
 
@@ -204,7 +204,7 @@ fn child_in(piece: Content) -> Option<Element>
     }
 }
 
-/// The document of these bytes of an FXML file (Introduction to FXML, over the grammar of `fx_markup`), or why they are none:
+/// The document of these bytes of an FXML file (Introduction to FXML, over the grammar of `fx_doc_grammar`), or why they are none:
 /// not UTF-8, the end of the longest prefix that some document begins with, the `<` of an element within 128 others,
 /// or the first character past 4,096 of a name, a value or a run.
 pub fn read_document(alloc: Global, bytes: &[u8]) -> Result<Document, DocError>

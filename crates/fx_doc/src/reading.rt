@@ -1,5 +1,5 @@
 //! The loop over a text: a step of the reader for each character, and an attribute taken whole where one stands ahead.
-//! What is read so is what the machine of `fx_markup` reads.
+//! What is read so is what the machine of `fx_doc_grammar` reads.
 ghost use Rattle.std.specs.Prelude.{◌≡◌, ◌∷◌, ◌+◌, ◌<◌, ◌≤◌, ◌^◌, [], length, IfSome, IfNone, IfOk, IfErr};
 ghost use Rattle.std.specs.Str.{chars, IsUtf8};
 ghost use Rattle.fx_doc.specs.Reached.{TookFlat};
@@ -10,8 +10,8 @@ ghost use Rattle.fx_doc.specs.declared.document.DocError.TheVariants as fault;
 use crate::document::{DocError, Document};
 use crate::modes::{Mode, Reader};
 use fx_base::Text;
-use fx_drafts::{Word, attribute_ahead};
-use fx_markup::Place;
+use fx_doc_drafts::{Word, attribute_ahead};
+use fx_doc_grammar::Place;
 use std::alloc::Global;
 use std::mem;
 

@@ -1,15 +1,15 @@
 //! The reader in tags, one function for each mode; attribute values are in `values`.
-//! Each answers what the machine of `fx_markup` does in that mode.
+//! Each answers what the machine of `fx_doc_grammar` does in that mode.
 ghost use Rattle.std.specs.Prelude.{◌≡◌, true, [], ◌∷◌, ◌++◌, drop, not};
 ghost use Rattle.std.specs.String.{string_bytes};
-ghost use Rattle.fx_markup.specs.Characters.{class_of, in_name};
-ghost use Rattle.fx_markup.specs.Machine.{at, Inside, some_if, open_element, is_fresh, with_leaf, in_naming, in_spaced, in_tight, in_keyed, in_key_spaced, in_signed, in_slashed, in_ended, in_ending};
+ghost use Rattle.fx_doc_grammar.specs.Characters.{class_of, in_name};
+ghost use Rattle.fx_doc_grammar.specs.Machine.{at, Inside, some_if, open_element, is_fresh, with_leaf, in_naming, in_spaced, in_tight, in_keyed, in_key_spaced, in_signed, in_slashed, in_ended, in_ending};
 ghost use Rattle.fx_doc.specs.Views.{bare_head, head_view, stack_view, held_view, open_name, Moves, inside_state, naming_state, keyed_state, key_spaced_state, signed_state};
 
 use crate::levels::goes;
 use crate::modes::{Head, Held, Mode, Valued};
-use fx_drafts::{Draft, Halt, Word};
-use fx_markup::{Class, Place, Quote};
+use fx_doc_drafts::{Draft, Halt, Word};
+use fx_doc_grammar::{Class, Place, Quote};
 use std::alloc::Global;
 
 /// An element begins with this tag.

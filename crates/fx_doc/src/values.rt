@@ -1,18 +1,18 @@
 //! The reader in the values of attributes, and in end tags, one function for each mode.
-//! Each answers what the machine of `fx_markup` does in that mode.
+//! Each answers what the machine of `fx_doc_grammar` does in that mode.
 ghost use Rattle.std.specs.Prelude.{◌≡◌, true, false, [], ◌∷◌, ◌++◌, ◌+◌, drop, not, ◌<◌, ◌^◌, length, OnOk, IfSome, IfNone};
 ghost use Rattle.std.specs.String.{string_bytes};
 ghost use Rattle.std.specs.Char.{encode_utf8};
-ghost use Rattle.fx_markup.specs.Characters.{class_of};
-ghost use Rattle.fx_markup.specs.Grammar.{is_quote, value_byte};
-ghost use Rattle.fx_markup.specs.Machine.{with_attribute, entity_step, in_quoted, in_value, in_value_referring, in_ending};
+ghost use Rattle.fx_doc_grammar.specs.Characters.{class_of};
+ghost use Rattle.fx_doc_grammar.specs.Grammar.{is_quote, value_byte};
+ghost use Rattle.fx_doc_grammar.specs.Machine.{with_attribute, entity_step, in_quoted, in_value, in_value_referring, in_ending};
 ghost use Rattle.fx_doc.specs.Views.{head_view, stack_view, held_view, open_name, Moves, tight_state, quoted_state};
 
 use crate::levels::goes;
 use crate::modes::{Head, Held, Mode, Valued};
 use crate::tags::ended;
-use fx_drafts::{Halt, Word};
-use fx_markup::{Class, Entity, Place, Turn};
+use fx_doc_drafts::{Halt, Word};
+use fx_doc_grammar::{Class, Entity, Place, Turn};
 use std::alloc::Global;
 
 #[tactic(auto, using(crate::proofs::Defaults::quoted_rest))]

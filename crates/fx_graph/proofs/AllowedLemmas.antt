@@ -6,16 +6,16 @@ use Rattle.fx_base.specs.Printing.{kind_of}
 use Rattle.fx_base.specs.declared.keys.Name.{Name}
 use Rattle.fx_base.specs.declared.values.Value.{Value}
 use Rattle.std.specs.List.{Contains}
-use Rattle.fx_properties.specs.declared.entries.Entry.{Entry}
-use Rattle.fx_properties.specs.Uses.{entry_of, uses, is_binding, is_gone}
-use Rattle.fx_properties.specs.Refusals.{kind_at, set_refusal, publish_refusal, operand_count}
-use Rattle.fx_properties.specs.Changes.{given, with_values}
-use Rattle.fx_properties.specs.Sound.{AreSound}
-use Rattle.fx_properties.proofs.Members.{contains_first, contains_later}
-use Rattle.fx_properties.proofs.Ranks.{entry-set_same, entry-set_other}
-use Rattle.fx_properties.proofs.Changed.{known_within, no_operands}
-use Rattle.fx_properties.proofs.Binding.{operand_count-set}
-use Rattle.fx_properties.proofs.Refusing.{settable, publishable}
+use Rattle.fx_graph_model.specs.declared.entries.Entry.{Entry}
+use Rattle.fx_graph_model.specs.Uses.{entry_of, uses, is_binding, is_gone}
+use Rattle.fx_graph_model.specs.Refusals.{kind_at, set_refusal, publish_refusal, operand_count}
+use Rattle.fx_graph_model.specs.Changes.{given, with_values}
+use Rattle.fx_graph_model.specs.Sound.{AreSound}
+use Rattle.fx_graph_model.proofs.Members.{contains_first, contains_later}
+use Rattle.fx_graph_model.proofs.Ranks.{entry-set_same, entry-set_other}
+use Rattle.fx_graph_model.proofs.Changed.{known_within, no_operands}
+use Rattle.fx_graph_model.proofs.Binding.{operand_count-set}
+use Rattle.fx_graph_model.proofs.Refusing.{settable, publishable}
 use Rattle.fx_graph.specs.Given.{IsBase, AreBase, AreReadOnly}
 
 pub set_allowed : (pairs : List (Name × Value)) (es : List Entry) → set_refusal pairs es ≡ None → AreBase es pairs

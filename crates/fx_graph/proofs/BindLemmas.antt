@@ -7,25 +7,25 @@ use Rattle.fx_base.specs.declared.kinds.Kind.{Kind}
 use Rattle.fx_base.specs.declared.values.Value.{Value}
 use Rattle.fx_expr.specs.declared.tree.Expr.{Expr}
 use Rattle.fx_expr.specs.Tree.{tree, is_within}
-use Rattle.fx_properties.specs.declared.entries.Entry.{Entry}
-use Rattle.fx_properties.specs.declared.errors.GraphError.TheVariants.{Unknown, Cycle}
-use Rattle.fx_properties.specs.Numbers.{numbers, name_of}
-use Rattle.fx_properties.specs.Uses.{Ranked, entry_of, uses, unknown_in, leads}
-use Rattle.fx_properties.specs.Unread.{marked, unmarked, after_marking}
-use Rattle.fx_properties.specs.Marking.{MarksAll}
-use Rattle.fx_properties.specs.Users.{Row, Mirrors}
-use Rattle.fx_properties.specs.Changes.{bound_to, with_binding}
-use Rattle.fx_properties.specs.Refusals.{kind_at, unknown_name, refused_first, fit_refusal, operand_count}
-use Rattle.fx_properties.proofs.Members.{contains_first, contains_later, contains_map, map_contains}
-use Rattle.fx_properties.proofs.Flags.{same_test, unmarked_most}
-use Rattle.fx_properties.proofs.MarkSteps.{marks_none, marks_more}
-use Rattle.fx_properties.proofs.Ranks.{ranked_bound}
-use Rattle.fx_properties.proofs.Changed.{known_within}
-use Rattle.fx_properties.proofs.Binding.{settled_bound, operand_count-set}
-use Rattle.fx_properties.proofs.SoundLemmas.{sound_bound}
-use Rattle.fx_properties.proofs.Refusing.{Bindable, or_else_none, refused_none, refused_same, marked-blank}
+use Rattle.fx_graph_model.specs.declared.entries.Entry.{Entry}
+use Rattle.fx_graph_model.specs.declared.errors.GraphError.TheVariants.{Unknown, Cycle}
+use Rattle.fx_graph_model.specs.Numbers.{numbers, name_of}
+use Rattle.fx_graph_model.specs.Uses.{Ranked, entry_of, uses, unknown_in, leads}
+use Rattle.fx_graph_model.specs.Unread.{marked, unmarked, after_marking}
+use Rattle.fx_graph_model.specs.Marking.{MarksAll}
+use Rattle.fx_graph_model.specs.Users.{Row, Mirrors}
+use Rattle.fx_graph_model.specs.Changes.{bound_to, with_binding}
+use Rattle.fx_graph_model.specs.Refusals.{kind_at, unknown_name, refused_first, fit_refusal, operand_count}
+use Rattle.fx_graph_model.proofs.Members.{contains_first, contains_later, contains_map, map_contains}
+use Rattle.fx_graph_model.proofs.Flags.{same_test, unmarked_most}
+use Rattle.fx_graph_model.proofs.MarkSteps.{marks_none, marks_more}
+use Rattle.fx_graph_model.proofs.Ranks.{ranked_bound}
+use Rattle.fx_graph_model.proofs.Changed.{known_within}
+use Rattle.fx_graph_model.proofs.Binding.{settled_bound, operand_count-set}
+use Rattle.fx_graph_model.proofs.SoundLemmas.{sound_bound}
+use Rattle.fx_graph_model.proofs.Refusing.{Bindable, or_else_none, refused_none, refused_same, marked-blank}
 use Rattle.fx_graph.specs.Store.{IsStore}
-use Rattle.fx_edges.proofs.RowLemmas.{numbers_more}
+use Rattle.fx_graph_edges.proofs.RowLemmas.{numbers_more}
 
 -- where none of the operands is unknown, each is one of the names
 pub operands_within : (es : List Entry) (operands : List Name) → None ≡ unknown_name es operands → (o : ℕ) → Contains (numbers operands) o → o < length es

@@ -5,23 +5,23 @@ use Rattle.std.proofs.lemmas.List.Elements.{Contains-push_cases}
 use Rattle.fx_base.specs.declared.keys.Name.{Name}
 use Rattle.fx_base.specs.declared.values.Value.{Value}
 use Rattle.fx_expr.specs.Meaning.{no_value}
-use Rattle.fx_properties.specs.declared.entries.Entry.{Entry}
-use Rattle.fx_properties.specs.declared.errors.GraphError.{GraphError}
-use Rattle.fx_properties.specs.declared.errors.GraphError.TheVariants.{Unknown}
-use Rattle.fx_properties.specs.Changes.{forget_all, clear_all}
-use Rattle.fx_properties.specs.Numbers.{numbers}
-use Rattle.fx_properties.specs.Refusals.{IsFree, IsForgetRefusal, unknown_name, operand_count}
-use Rattle.fx_properties.specs.Sound.{IsSettled}
-use Rattle.fx_properties.specs.Users.{Row, users_of, Mirrors}
-use Rattle.fx_properties.specs.Uses.{unknown_in}
-use Rattle.fx_properties.proofs.Changed.{known_within}
-use Rattle.fx_properties.proofs.Forgetting.{reset_all, reset-none, reset-more, length-forget, ranked_forget, settled_forget}
-use Rattle.fx_properties.proofs.Members.{map_contains}
-use Rattle.fx_properties.proofs.Refusing.{refused_none}
-use Rattle.fx_properties.proofs.SoundLemmas.{sound_forget}
+use Rattle.fx_graph_model.specs.declared.entries.Entry.{Entry}
+use Rattle.fx_graph_model.specs.declared.errors.GraphError.{GraphError}
+use Rattle.fx_graph_model.specs.declared.errors.GraphError.TheVariants.{Unknown}
+use Rattle.fx_graph_model.specs.Changes.{forget_all, clear_all}
+use Rattle.fx_graph_model.specs.Numbers.{numbers}
+use Rattle.fx_graph_model.specs.Refusals.{IsFree, IsForgetRefusal, unknown_name, operand_count}
+use Rattle.fx_graph_model.specs.Sound.{IsSettled}
+use Rattle.fx_graph_model.specs.Users.{Row, users_of, Mirrors}
+use Rattle.fx_graph_model.specs.Uses.{unknown_in}
+use Rattle.fx_graph_model.proofs.Changed.{known_within}
+use Rattle.fx_graph_model.proofs.Forgetting.{reset_all, reset-none, reset-more, length-forget, ranked_forget, settled_forget}
+use Rattle.fx_graph_model.proofs.Members.{map_contains}
+use Rattle.fx_graph_model.proofs.Refusing.{refused_none}
+use Rattle.fx_graph_model.proofs.SoundLemmas.{sound_forget}
 use Rattle.fx_graph.specs.Forgotten.{IsSomeOutside, reset}
 use Rattle.fx_graph.specs.Store.{IsStore}
-use Rattle.fx_edges.proofs.RowLemmas.{numbers_more}
+use Rattle.fx_graph_edges.proofs.RowLemmas.{numbers_more}
 
 -- the names from one on are its number and those from the next on
 pub numbers_from : (names : List Name) (i : ℕ) (d : Name) → i < length names → numbers (drop i names) ≡ (get_or names i d).0 ∷ numbers (drop (i + 1) names)

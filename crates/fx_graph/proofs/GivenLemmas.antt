@@ -6,15 +6,15 @@ use Rattle.std.proofs.lemmas.Bool.{cases_lt, cases_Bool, cases_eq}
 use Rattle.fx_base.specs.declared.keys.Name.{Name}
 use Rattle.fx_base.specs.declared.values.Value.{Value}
 use Rattle.fx_expr.specs.Meaning.{no_value}
-use Rattle.fx_properties.specs.declared.entries.Entry.{Entry}
-use Rattle.fx_properties.specs.Numbers.{name_of}
-use Rattle.fx_properties.specs.Uses.{entry_of, Ranked}
-use Rattle.fx_properties.specs.Equality.{same_value}
-use Rattle.fx_properties.specs.Eager.{value_of_definition, eager}
-use Rattle.fx_properties.specs.Unread.{marked}
-use Rattle.fx_properties.specs.Marking.{MarksAll, at}
-use Rattle.fx_properties.specs.Changes.{given, with_values, changed}
-use Rattle.fx_properties.proofs.Values.{eager-unfold}
+use Rattle.fx_graph_model.specs.declared.entries.Entry.{Entry}
+use Rattle.fx_graph_model.specs.Numbers.{name_of}
+use Rattle.fx_graph_model.specs.Uses.{entry_of, Ranked}
+use Rattle.fx_graph_model.specs.Equality.{same_value}
+use Rattle.fx_graph_model.specs.Eager.{value_of_definition, eager}
+use Rattle.fx_graph_model.specs.Unread.{marked}
+use Rattle.fx_graph_model.specs.Marking.{MarksAll, at}
+use Rattle.fx_graph_model.specs.Changes.{given, with_values, changed}
+use Rattle.fx_graph_model.proofs.Values.{eager-unfold}
 use Rattle.fx_graph.specs.Given.{ArePrepared}
 
 -- an item that was read by its place has what all have

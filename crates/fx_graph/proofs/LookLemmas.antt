@@ -4,18 +4,18 @@ use Rattle.std.specs.List.{Contains}
 use Rattle.std.proofs.lemmas.Bool.{and_parts, both_ways}
 use Rattle.std.proofs.lemmas.List.{map-append, take-append-drop}
 use Rattle.std.proofs.lemmas.List.Elements.{All-contains, Contains-append_left}
-use Rattle.fx_properties.specs.Changes.{AreKnown, IsSomeRead}
-use Rattle.fx_properties.specs.Uses.{unknown_in}
-use Rattle.fx_properties.proofs.Changed.{known_within}
-use Rattle.fx_properties.proofs.Members.{map_contains}
+use Rattle.fx_graph_model.specs.Changes.{AreKnown, IsSomeRead}
+use Rattle.fx_graph_model.specs.Uses.{unknown_in}
+use Rattle.fx_graph_model.proofs.Changed.{known_within}
+use Rattle.fx_graph_model.proofs.Members.{map_contains}
 use Rattle.fx_base.specs.declared.keys.Name.{Name}
 use Rattle.fx_base.specs.declared.values.Value.{Value}
-use Rattle.fx_properties.specs.declared.entries.Entry.{Entry}
-use Rattle.fx_properties.specs.Numbers.{numbers}
-use Rattle.fx_properties.specs.Eager.{eager}
-use Rattle.fx_properties.specs.Unread.{marked, after_reading, after_reads, bound_unread, evaluations, evaluations_of, is_reached, IsClosed}
-use Rattle.fx_properties.specs.Sound.{IsSettled}
-use Rattle.fx_properties.proofs.ManyReads.{evaluations_more, evaluations_push, marked-reads, reads_again, reads_none, reads_push, reads_spent}
+use Rattle.fx_graph_model.specs.declared.entries.Entry.{Entry}
+use Rattle.fx_graph_model.specs.Numbers.{numbers}
+use Rattle.fx_graph_model.specs.Eager.{eager}
+use Rattle.fx_graph_model.specs.Unread.{marked, after_reading, after_reads, bound_unread, evaluations, evaluations_of, is_reached, IsClosed}
+use Rattle.fx_graph_model.specs.Sound.{IsSettled}
+use Rattle.fx_graph_model.proofs.ManyReads.{evaluations_more, evaluations_push, marked-reads, reads_again, reads_none, reads_push, reads_spent}
 
 not_marked : (before now : Bool) → (now ≡ true → before ≡ true) → before ≡ false → now ≡ false
 not_marked before true fewer off = absurd (both_ways before off (fewer refl))

@@ -4,18 +4,18 @@ use Rattle.std.proofs.lemmas.List.{get_or_read, map-append}
 use Rattle.std.proofs.lemmas.List.Elements.{Contains-push_cases}
 use Rattle.fx_base.specs.declared.keys.Name.{Name}
 use Rattle.fx_base.specs.declared.values.Value.{Value}
-use Rattle.fx_properties.specs.declared.entries.Entry.{Entry}
-use Rattle.fx_properties.specs.declared.entries.Definition.{Definition}
-use Rattle.fx_properties.specs.declared.entries.Definition.TheVariants.{Base, Bound, Forgotten}
-use Rattle.fx_properties.specs.Numbers.{numbers, name_of}
-use Rattle.fx_properties.specs.Uses.{Ranked, nothing, entry_of, operands_in, uses, bound_in}
-use Rattle.fx_properties.specs.Sound.{AreSound, HasKind}
-use Rattle.fx_properties.specs.Eager.{eager}
-use Rattle.fx_properties.specs.Unread.{marked, after_reading, evaluations, IsPartRead}
-use Rattle.fx_properties.specs.Marking.{at}
-use Rattle.fx_edges.proofs.RowLemmas.{numbers_more}
+use Rattle.fx_graph_model.specs.declared.entries.Entry.{Entry}
+use Rattle.fx_graph_model.specs.declared.entries.Definition.{Definition}
+use Rattle.fx_graph_model.specs.declared.entries.Definition.TheVariants.{Base, Bound, Forgotten}
+use Rattle.fx_graph_model.specs.Numbers.{numbers, name_of}
+use Rattle.fx_graph_model.specs.Uses.{Ranked, nothing, entry_of, operands_in, uses, bound_in}
+use Rattle.fx_graph_model.specs.Sound.{AreSound, HasKind}
+use Rattle.fx_graph_model.specs.Eager.{eager}
+use Rattle.fx_graph_model.specs.Unread.{marked, after_reading, evaluations, IsPartRead}
+use Rattle.fx_graph_model.specs.Marking.{at}
+use Rattle.fx_graph_edges.proofs.RowLemmas.{numbers_more}
 use Rattle.fx_graph.specs.Asked.{IsEvaluable, kept_value}
-use Rattle.fx_properties.proofs.Reading.{Settles, settles_push, settles_pop, settles_room, settles_end, measure, measure-pop, part_more, read_cost, bound_unread-clear}
+use Rattle.fx_graph_model.proofs.Reading.{Settles, settles_push, settles_pop, settles_room, settles_end, measure, measure-pop, part_more, read_cost, bound_unread-clear}
 
 pub off_more : (flags : List Bool) (names : List Name) (i : ℕ) (d : Name) → i < length names → ((o : ℕ) → Contains (numbers (take i names)) o → marked flags o ≡ false)
     → marked flags (get_or names i d).0 ≡ false → (o : ℕ) → Contains (numbers (take (i + 1) names)) o → marked flags o ≡ false

@@ -5,21 +5,21 @@ use Rattle.std.proofs.lemmas.List.Elements.{All-contains}
 use Rattle.fx_base.specs.Printing.{kind_of}
 use Rattle.fx_base.specs.declared.keys.Name.{Name}
 use Rattle.fx_base.specs.declared.values.Value.{Value}
-use Rattle.fx_properties.specs.declared.entries.Entry.{Entry}
-use Rattle.fx_properties.specs.declared.entries.Definition.TheVariants.{Base}
-use Rattle.fx_properties.specs.Uses.{operands_in}
-use Rattle.fx_properties.specs.Sound.{IsSettled}
-use Rattle.fx_properties.specs.Users.{Row}
-use Rattle.fx_properties.specs.Refusals.{operand_count}
-use Rattle.fx_properties.specs.Unread.{after_marking}
-use Rattle.fx_properties.specs.Changes.{with_values, changed}
-use Rattle.fx_properties.proofs.Members.{none_in_nil}
-use Rattle.fx_properties.proofs.Ranks.{ranked_empty, ranked_declared}
-use Rattle.fx_properties.proofs.Changed.{settled_declared}
-use Rattle.fx_properties.proofs.Edges.{mirrors_declared}
-use Rattle.fx_properties.proofs.Binding.{operand_count-declared}
-use Rattle.fx_properties.proofs.SoundLemmas.{sound_empty, sound_declared, sound_given}
-use Rattle.fx_properties.proofs.Given.{length-given, ranked_given, mirrors_given, settled_given}
+use Rattle.fx_graph_model.specs.declared.entries.Entry.{Entry}
+use Rattle.fx_graph_model.specs.declared.entries.Definition.TheVariants.{Base}
+use Rattle.fx_graph_model.specs.Uses.{operands_in}
+use Rattle.fx_graph_model.specs.Sound.{IsSettled}
+use Rattle.fx_graph_model.specs.Users.{Row}
+use Rattle.fx_graph_model.specs.Refusals.{operand_count}
+use Rattle.fx_graph_model.specs.Unread.{after_marking}
+use Rattle.fx_graph_model.specs.Changes.{with_values, changed}
+use Rattle.fx_graph_model.proofs.Members.{none_in_nil}
+use Rattle.fx_graph_model.proofs.Ranks.{ranked_empty, ranked_declared}
+use Rattle.fx_graph_model.proofs.Changed.{settled_declared}
+use Rattle.fx_graph_model.proofs.Edges.{mirrors_declared}
+use Rattle.fx_graph_model.proofs.Binding.{operand_count-declared}
+use Rattle.fx_graph_model.proofs.SoundLemmas.{sound_empty, sound_declared, sound_given}
+use Rattle.fx_graph_model.proofs.Given.{length-given, ranked_given, mirrors_given, settled_given}
 use Rattle.fx_graph.specs.Given.{IsBase, AreBase}
 use Rattle.fx_graph.specs.Store.{IsStore}
 use Rattle.fx_graph.proofs.AllowedLemmas.{count_given}

@@ -4,16 +4,16 @@ use Rattle.std.proofs.lemmas.Bool.{cases_lt}
 use Rattle.std.proofs.lemmas.List.{length-set, get_or_past}
 use Rattle.fx_base.specs.declared.keys.Name.{Name}
 use Rattle.fx_base.specs.declared.values.Value.{Value}
-use Rattle.fx_properties.specs.declared.entries.Entry.{Entry}
-use Rattle.fx_properties.specs.Uses.{uses, bound_in}
-use Rattle.fx_properties.specs.Refusals.{operand_count}
-use Rattle.fx_properties.specs.Sound.{IsSettled}
-use Rattle.fx_properties.specs.Users.{Row, no_row, Mirrors}
-use Rattle.fx_properties.proofs.Binding.{kept_entry, operand_count-set}
-use Rattle.fx_properties.proofs.Changed.{known_within, bound_known}
-use Rattle.fx_properties.proofs.Members.{none_in_nil}
-use Rattle.fx_properties.proofs.Ranks.{ranked_plain}
-use Rattle.fx_properties.proofs.SoundLemmas.{sound_unbound}
+use Rattle.fx_graph_model.specs.declared.entries.Entry.{Entry}
+use Rattle.fx_graph_model.specs.Uses.{uses, bound_in}
+use Rattle.fx_graph_model.specs.Refusals.{operand_count}
+use Rattle.fx_graph_model.specs.Sound.{IsSettled}
+use Rattle.fx_graph_model.specs.Users.{Row, no_row, Mirrors}
+use Rattle.fx_graph_model.proofs.Binding.{kept_entry, operand_count-set}
+use Rattle.fx_graph_model.proofs.Changed.{known_within, bound_known}
+use Rattle.fx_graph_model.proofs.Members.{none_in_nil}
+use Rattle.fx_graph_model.proofs.Ranks.{ranked_plain}
+use Rattle.fx_graph_model.proofs.SoundLemmas.{sound_unbound}
 use Rattle.fx_graph.specs.Store.{IsStore}
 
 -- who is used has a row

@@ -3,9 +3,9 @@ use Rattle.std.specs.Prelude.{ℕ, ◌≡◌, ◌<◌, Bool, true, false, List, 
 use Rattle.fx_base.specs.declared.values.Value.{Value}
 use Rattle.fx_expr.specs.Tree.{tree, is_within}
 use Rattle.fx_expr.specs.Meaning.{no_value}
-use Rattle.fx_properties.specs.declared.entries.Definition.{Definition}
-use Rattle.fx_properties.specs.declared.entries.Definition.TheVariants.{Base, Bound, Forgotten}
-use Rattle.fx_properties.specs.Unread.{marked}
+use Rattle.fx_graph_model.specs.declared.entries.Definition.{Definition}
+use Rattle.fx_graph_model.specs.declared.entries.Definition.TheVariants.{Base, Bound, Forgotten}
+use Rattle.fx_graph_model.specs.Unread.{marked}
 
 -- an unread one of these names, if there is one
 abbrev pub IsUnreadAmong : List Bool → List ℕ → Option ℕ → Type 0

@@ -2,7 +2,7 @@
 use Rattle.std.specs.Prelude.{ℕ, List, [], ◌∷◌, Option, Some, None, Contains, slice_set}
 use Rattle.fx_base.specs.declared.values.Value.{Value}
 use Rattle.fx_expr.specs.Meaning.{no_value}
-use Rattle.fx_properties.specs.Users.{Row, users_of}
+use Rattle.fx_graph_model.specs.Users.{Row, users_of}
 
 -- a user in the row that isn't among the names, if there is one
 abbrev pub IsOutside : List ℕ → List ℕ → Option ℕ → Type 0

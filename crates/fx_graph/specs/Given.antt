@@ -5,9 +5,9 @@ use Rattle.fx_base.specs.declared.keys.Name.{Name}
 use Rattle.fx_base.specs.declared.values.Value.{Value}
 use Rattle.fx_base.specs.declared.values.Value.TheVariants.{Int, Bool as Truth, Text, Choice, Color, Sides}
 use Rattle.fx_expr.specs.Meaning.{no_value}
-use Rattle.fx_properties.specs.declared.entries.Entry.{Entry}
-use Rattle.fx_properties.specs.Uses.{bound_in, unknown_in}
-use Rattle.fx_properties.specs.Refusals.{kind_at, read_only_in}
+use Rattle.fx_graph_model.specs.declared.entries.Entry.{Entry}
+use Rattle.fx_graph_model.specs.Uses.{bound_in, unknown_in}
+use Rattle.fx_graph_model.specs.Refusals.{kind_at, read_only_in}
 
 -- all values but texts are copied without memory
 abbrev pub is_plain : Value → Bool

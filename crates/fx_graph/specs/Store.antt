@@ -2,14 +2,14 @@
 use Rattle.std.specs.Prelude.{ℕ, ◌≡◌, ◌≤◌, Bool, true, false, List, length, take, Option, None, Some}
 use Rattle.fx_base.specs.declared.keys.Name.{Name}
 use Rattle.fx_base.specs.declared.values.Value.{Value}
-use Rattle.fx_properties.specs.declared.entries.Entry.{Entry}
-use Rattle.fx_properties.specs.declared.entries.Origin.{Origin}
-use Rattle.fx_properties.specs.Numbers.{numbers}
-use Rattle.fx_properties.specs.Uses.{Ranked, entry_of, unknown_in}
-use Rattle.fx_properties.specs.Sound.{AreSound, IsSettled}
-use Rattle.fx_properties.specs.Users.{Row, Mirrors}
-use Rattle.fx_properties.specs.Refusals.{operand_count}
-use Rattle.fx_properties.specs.Changes.{State}
+use Rattle.fx_graph_model.specs.declared.entries.Entry.{Entry}
+use Rattle.fx_graph_model.specs.declared.entries.Origin.{Origin}
+use Rattle.fx_graph_model.specs.Numbers.{numbers}
+use Rattle.fx_graph_model.specs.Uses.{Ranked, entry_of, unknown_in}
+use Rattle.fx_graph_model.specs.Sound.{AreSound, IsSettled}
+use Rattle.fx_graph_model.specs.Users.{Row, Mirrors}
+use Rattle.fx_graph_model.specs.Refusals.{operand_count}
+use Rattle.fx_graph_model.specs.Changes.{State}
 
 abbrev pub state_of : List Entry → List Bool → List Name → ℕ → State
 state_of entries unread newly count = record { entries = entries; unread = unread; newly = numbers (take count newly) }

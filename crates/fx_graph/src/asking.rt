@@ -1,15 +1,15 @@
 //! Questions to the entries: whether a name is known, bound, read-only, and from where its definition came.
 //! The refusals and the graph's readers stand on them.
 ghost use Rattle.std.specs.Prelude.{◌≡◌, ◌<◌, false, length, IfOk};
-ghost use Rattle.fx_properties.specs.declared.entries.Definition.TheVariants as defined;
-ghost use Rattle.fx_properties.specs.Uses.{is_gone, bound_in, entry_of, unknown_in};
-ghost use Rattle.fx_properties.specs.Eager.{eager};
-ghost use Rattle.fx_properties.specs.Unread.{marked};
-ghost use Rattle.fx_properties.specs.Refusals.{read_only_in, unknown_name};
+ghost use Rattle.fx_graph_model.specs.declared.entries.Definition.TheVariants as defined;
+ghost use Rattle.fx_graph_model.specs.Uses.{is_gone, bound_in, entry_of, unknown_in};
+ghost use Rattle.fx_graph_model.specs.Eager.{eager};
+ghost use Rattle.fx_graph_model.specs.Unread.{marked};
+ghost use Rattle.fx_graph_model.specs.Refusals.{read_only_in, unknown_name};
 ghost use Rattle.fx_graph.specs.Store.{origin_in, origin_if};
 
 use fx_base::{Name, Value};
-use fx_properties::{Entry, GraphError, Origin};
+use fx_graph_model::{Entry, GraphError, Origin};
 use std::alloc::{AllocError, Global};
 
 /// Whether the name was never declared, or was forgotten.

@@ -3,20 +3,20 @@ ghost use Rattle.std.specs.Prelude.{ℕ, ◌≡◌, ◌≤◌, ◌<◌, [], ◌�
 ghost use Rattle.fx_base.specs.declared.keys.Name.{Name as Named};
 ghost use Rattle.fx_expr.specs.declared.tree.Expr.{Expr as Expression};
 ghost use Rattle.fx_expr.specs.Tree.{tree, is_within};
-ghost use Rattle.fx_properties.specs.declared.errors.GraphError.TheVariants as error;
-ghost use Rattle.fx_properties.specs.Numbers.{numbers};
-ghost use Rattle.fx_properties.specs.Uses.{Ranked, uses, leads};
-ghost use Rattle.fx_properties.specs.Unread.{marked, after_marking, newly_marked, IsClosed};
-ghost use Rattle.fx_properties.specs.Changes.{with_binding};
-ghost use Rattle.fx_properties.specs.Refusals.{kind_at, fits, refused_first, operand_count, fit_refusal, link_refusal, bind_refusal};
-ghost use Rattle.fx_properties.specs.Users.{Mirrors};
+ghost use Rattle.fx_graph_model.specs.declared.errors.GraphError.TheVariants as error;
+ghost use Rattle.fx_graph_model.specs.Numbers.{numbers};
+ghost use Rattle.fx_graph_model.specs.Uses.{Ranked, uses, leads};
+ghost use Rattle.fx_graph_model.specs.Unread.{marked, after_marking, newly_marked, IsClosed};
+ghost use Rattle.fx_graph_model.specs.Changes.{with_binding};
+ghost use Rattle.fx_graph_model.specs.Refusals.{kind_at, fits, refused_first, operand_count, fit_refusal, link_refusal, bind_refusal};
+ghost use Rattle.fx_graph_model.specs.Users.{Mirrors};
 
 use crate::asking::{is_marked, is_read_only, is_unknown, unknown_among};
 use crate::refusals::{is_same_kind, kind_of};
 use fx_base::{Kind, Name};
-use fx_edges::{Users, finish, mark_one, operands_at, relink, spread};
+use fx_graph_edges::{Users, finish, mark_one, operands_at, relink, spread};
 use fx_expr::{Expr, KindError, type_of};
-use fx_properties::{Definition, Entry, GraphError, Operands, Origin};
+use fx_graph_model::{Definition, Entry, GraphError, Operands, Origin};
 use std::alloc::{AllocError, Global};
 
 /// The most operands of all bindings together.
@@ -117,7 +117,7 @@ fn is_full(entries: &[Entry], total: usize, name: usize, operands: &[Name]) -> b
 }
 
 /// Why the operands aren't known, the name may not be bound, or the expression isn't of its kind, if it is so.
-#[tactic(auto, unfolding(fx_properties::specs::Refusals::fit_refusal))]
+#[tactic(auto, unfolding(fx_graph_model::specs::Refusals::fit_refusal))]
 pub fn unfit(
     alloc: Global,
     entries: &[Entry],
@@ -145,7 +145,7 @@ pub fn unfit(
 }
 
 /// Why the edges from the operands to the name may not be made, if they may not.
-#[tactic(auto, unfolding(fx_properties::specs::Refusals::link_refusal))]
+#[tactic(auto, unfolding(fx_graph_model::specs::Refusals::link_refusal))]
 fn unlinkable(
     alloc: Global,
     entries: &[Entry],
@@ -177,7 +177,7 @@ fn unlinkable(
 }
 
 /// Why the name may not be bound so, if it may not.
-#[tactic(auto, unfolding(fx_properties::specs::Refusals::bind_refusal))]
+#[tactic(auto, unfolding(fx_graph_model::specs::Refusals::bind_refusal))]
 pub fn refusal(
     alloc: Global,
     entries: &[Entry],

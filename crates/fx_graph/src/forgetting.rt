@@ -2,17 +2,17 @@
 //! them but that they were declared.
 ghost use Rattle.std.specs.Prelude.{ℕ, ◌≡◌, ◌≤◌, ◌<◌, false, Contains, length, slice_set, MatchBool, MatchOption, None};
 ghost use Rattle.fx_expr.specs.Meaning.{no_value};
-ghost use Rattle.fx_properties.specs.Numbers.{numbers};
-ghost use Rattle.fx_properties.specs.Uses.{entry_of};
-ghost use Rattle.fx_properties.specs.Refusals.{IsFree, IsForgetRefusal, unknown_name, operand_count};
-ghost use Rattle.fx_properties.specs.Changes.{forgotten, forget_all, clear_all};
-ghost use Rattle.fx_properties.specs.Users.{Mirrors};
+ghost use Rattle.fx_graph_model.specs.Numbers.{numbers};
+ghost use Rattle.fx_graph_model.specs.Uses.{entry_of};
+ghost use Rattle.fx_graph_model.specs.Refusals.{IsFree, IsForgetRefusal, unknown_name, operand_count};
+ghost use Rattle.fx_graph_model.specs.Changes.{forgotten, forget_all, clear_all};
+ghost use Rattle.fx_graph_model.specs.Users.{Mirrors};
 ghost use Rattle.fx_graph.specs.Forgotten.{IsOutside, IsSomeOutside, reset};
 
 use crate::asking::unknown_among;
 use fx_base::{Name, Value};
-use fx_edges::{Users, operands_at, release_at};
-use fx_properties::{Definition, Entry, GraphError};
+use fx_graph_edges::{Users, operands_at, release_at};
+use fx_graph_model::{Definition, Entry, GraphError};
 
 fn is_among(names: &[Name], place: usize) -> bool
     ensures { MatchBool result (Contains (numbers names.now) place) (Contains (numbers names.now) place → ⊥) }

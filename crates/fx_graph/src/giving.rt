@@ -4,21 +4,21 @@ ghost use Rattle.std.specs.Prelude.{ℕ, List, ◌≡◌, ◌≤◌, ◌<◌, �
 ghost use Rattle.fx_base.specs.declared.keys.Name.{Name as Named};
 ghost use Rattle.fx_base.specs.declared.values.Value.{Value as Content};
 ghost use Rattle.fx_expr.specs.Meaning.{no_value};
-ghost use Rattle.fx_properties.specs.declared.entries.Origin.{Origin as Source};
-ghost use Rattle.fx_properties.specs.declared.entries.Origin.TheVariants as source;
-ghost use Rattle.fx_properties.specs.Numbers.{numbers};
-ghost use Rattle.fx_properties.specs.Uses.{Ranked, entry_of, is_binding, bound_in, unknown_in};
-ghost use Rattle.fx_properties.specs.Equality.{same_value};
-ghost use Rattle.fx_properties.specs.Eager.{value_of_definition, eager};
-ghost use Rattle.fx_properties.specs.Unread.{unmarked, after_marking, newly_marked, IsClosed};
-ghost use Rattle.fx_properties.specs.Marking.{MarksAll};
-ghost use Rattle.fx_properties.specs.Users.{Mirrors};
-ghost use Rattle.fx_properties.specs.Changes.{given, with_values, changed};
+ghost use Rattle.fx_graph_model.specs.declared.entries.Origin.{Origin as Source};
+ghost use Rattle.fx_graph_model.specs.declared.entries.Origin.TheVariants as source;
+ghost use Rattle.fx_graph_model.specs.Numbers.{numbers};
+ghost use Rattle.fx_graph_model.specs.Uses.{Ranked, entry_of, is_binding, bound_in, unknown_in};
+ghost use Rattle.fx_graph_model.specs.Equality.{same_value};
+ghost use Rattle.fx_graph_model.specs.Eager.{value_of_definition, eager};
+ghost use Rattle.fx_graph_model.specs.Unread.{unmarked, after_marking, newly_marked, IsClosed};
+ghost use Rattle.fx_graph_model.specs.Marking.{MarksAll};
+ghost use Rattle.fx_graph_model.specs.Users.{Mirrors};
+ghost use Rattle.fx_graph_model.specs.Changes.{given, with_values, changed};
 ghost use Rattle.fx_graph.specs.Given.{is_plain, ArePlain, AreBase, ArePrepared};
 
 use fx_base::{Name, Value};
-use fx_edges::{Users, finish, mark_one};
-use fx_properties::{Definition, Entry, Origin, are_same};
+use fx_graph_edges::{Users, finish, mark_one};
+use fx_graph_model::{Definition, Entry, Origin, are_same};
 use std::alloc::{AllocError, Global};
 use std::mem;
 

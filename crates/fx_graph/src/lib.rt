@@ -17,21 +17,21 @@ ghost use Rattle.fx_base.specs.declared.keys.Name.{Name as Named};
 ghost use Rattle.fx_base.specs.declared.values.Value.{Value as Content};
 ghost use Rattle.fx_base.specs.Printing.{kind_of};
 ghost use Rattle.fx_expr.specs.Tree.{tree, is_within};
-ghost use Rattle.fx_properties.specs.Numbers.{numbers};
-ghost use Rattle.fx_properties.specs.Uses.{Ranked, bound_in, unknown_in};
-ghost use Rattle.fx_properties.specs.Unread.{marked, IsClosed, bound_unread, evaluations, evaluations_of};
-ghost use Rattle.fx_properties.specs.Eager.{eager};
-ghost use Rattle.fx_properties.specs.Equality.{same_kind};
-ghost use Rattle.fx_properties.specs.Sound.{AreSound, IsAcyclic};
-ghost use Rattle.fx_properties.specs.Changes.{empty, after_declare, after_read, after_read_all, after_values, after_bind, after_unbind, after_forget, AreKnown, IsReadInPart, IsSomeRead};
-ghost use Rattle.fx_properties.specs.Refusals.{kind_at, read_only_in, IsAnswer, IsFirmAnswer, declare_refusal, unknown_refusal, set_refusal, publish_refusal, fit_refusal, bind_refusal, unknown_name, IsFree, IsForgetAnswer};
+ghost use Rattle.fx_graph_model.specs.Numbers.{numbers};
+ghost use Rattle.fx_graph_model.specs.Uses.{Ranked, bound_in, unknown_in};
+ghost use Rattle.fx_graph_model.specs.Unread.{marked, IsClosed, bound_unread, evaluations, evaluations_of};
+ghost use Rattle.fx_graph_model.specs.Eager.{eager};
+ghost use Rattle.fx_graph_model.specs.Equality.{same_kind};
+ghost use Rattle.fx_graph_model.specs.Sound.{AreSound, IsAcyclic};
+ghost use Rattle.fx_graph_model.specs.Changes.{empty, after_declare, after_read, after_read_all, after_values, after_bind, after_unbind, after_forget, AreKnown, IsReadInPart, IsSomeRead};
+ghost use Rattle.fx_graph_model.specs.Refusals.{kind_at, read_only_in, IsAnswer, IsFirmAnswer, declare_refusal, unknown_refusal, set_refusal, publish_refusal, fit_refusal, bind_refusal, unknown_name, IsFree, IsForgetAnswer};
 ghost use Rattle.fx_graph.specs.Given.{ArePlain, AreBase, AreReadOnly};
 ghost use Rattle.fx_graph.specs.Store.{origin_in};
 
 use fx_base::{Kind, Ledgers, Name, Value, Work};
-use fx_edges::{Users, operands_at};
+use fx_graph_edges::{Users, operands_at};
 use fx_expr::Expr;
-use fx_properties::{Definition, Entry, GraphError, Origin};
+use fx_graph_model::{Definition, Entry, GraphError, Origin};
 use std::alloc::{AllocError, Global};
 use std::marker::Model;
 
@@ -59,7 +59,7 @@ pub struct Graph {
 }
 
 impl Model for Graph {
-    ghost use Rattle.fx_properties.specs.Changes.{State};
+    ghost use Rattle.fx_graph_model.specs.Changes.{State};
     ghost use Rattle.fx_expr.specs.contracts.tree.Expr as e;
     ghost use Rattle.std.specs.Coded.{codes};
 

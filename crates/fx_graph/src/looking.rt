@@ -1,15 +1,15 @@
 //! Several names at once: read one after another, or looked at, so that all stay as unread as they were.
 ghost use Rattle.std.specs.Prelude.{ℕ, ◌≡◌, ◌≤◌, ◌<◌, ◌+◌, true, false, Contains, length, map, IfOk, OnOk, if◌then◌else◌};
-ghost use Rattle.fx_properties.specs.Numbers.{numbers};
-ghost use Rattle.fx_properties.specs.Uses.{Ranked};
-ghost use Rattle.fx_properties.specs.Eager.{eager};
-ghost use Rattle.fx_properties.specs.Unread.{marked, after_reads, evaluations_of};
-ghost use Rattle.fx_properties.specs.Sound.{AreSound, IsSettled};
+ghost use Rattle.fx_graph_model.specs.Numbers.{numbers};
+ghost use Rattle.fx_graph_model.specs.Uses.{Ranked};
+ghost use Rattle.fx_graph_model.specs.Eager.{eager};
+ghost use Rattle.fx_graph_model.specs.Unread.{marked, after_reads, evaluations_of};
+ghost use Rattle.fx_graph_model.specs.Sound.{AreSound, IsSettled};
 
 use crate::asking::is_marked;
 use crate::reading::value_of;
 use fx_base::{Ledgers, Name, Value, Work};
-use fx_properties::Entry;
+use fx_graph_model::Entry;
 use std::alloc::{AllocError, Global};
 
 /// Reads known names, and gives their values.

@@ -1,17 +1,17 @@
 //! Reading: a walk downwards over what is unread, with a stack of its own, so that a long chain of bindings takes no
 //! deep recursion. Each value is kept, and counted once.
 ghost use Rattle.std.specs.Prelude.{ℕ, ◌≡◌, ◌≤◌, ◌<◌, ◌+◌, cond, Contains, length, map, slice_set, IfOk, OnOk, true, false};
-ghost use Rattle.fx_properties.specs.Numbers.{numbers};
-ghost use Rattle.fx_properties.specs.Uses.{Ranked, entry_of, uses, bound_in, operands_in, is_binding};
-ghost use Rattle.fx_properties.specs.Eager.{value_of_definition, eager};
-ghost use Rattle.fx_properties.specs.Unread.{marked, after_reading, bound_unread, evaluations, IsPartRead};
-ghost use Rattle.fx_properties.specs.Sound.{AreSound, IsSettled};
+ghost use Rattle.fx_graph_model.specs.Numbers.{numbers};
+ghost use Rattle.fx_graph_model.specs.Uses.{Ranked, entry_of, uses, bound_in, operands_in, is_binding};
+ghost use Rattle.fx_graph_model.specs.Eager.{value_of_definition, eager};
+ghost use Rattle.fx_graph_model.specs.Unread.{marked, after_reading, bound_unread, evaluations, IsPartRead};
+ghost use Rattle.fx_graph_model.specs.Sound.{AreSound, IsSettled};
 ghost use Rattle.fx_graph.specs.Asked.{IsUnreadAmong, IsEvaluable, kept_value};
 
 use crate::asking::is_marked;
 use fx_base::{Ledgers, Name, Value, Work};
 use fx_expr::eval;
-use fx_properties::{Definition, Entry};
+use fx_graph_model::{Definition, Entry};
 use std::alloc::{AllocError, Global};
 
 fn first_unread(operands: &[Name], unread: &[bool]) -> Option<usize>

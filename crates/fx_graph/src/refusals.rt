@@ -2,14 +2,14 @@
 ghost use Rattle.std.specs.Prelude.{◌≡◌, not};
 ghost use Rattle.fx_base.specs.Printing.{kind_of};
 ghost use Rattle.fx_base.specs.declared.keys.Name.{Name as Named};
-ghost use Rattle.fx_properties.specs.declared.errors.GraphError.TheVariants as error;
-ghost use Rattle.fx_properties.specs.Uses.{bound_in};
-ghost use Rattle.fx_properties.specs.Equality.{same_family, same_kind};
-ghost use Rattle.fx_properties.specs.Refusals.{refused_first, unknown_name, pair_names, wrong_kind, read_only_in, kind_at, set_refusal, publish_refusal};
+ghost use Rattle.fx_graph_model.specs.declared.errors.GraphError.TheVariants as error;
+ghost use Rattle.fx_graph_model.specs.Uses.{bound_in};
+ghost use Rattle.fx_graph_model.specs.Equality.{same_family, same_kind};
+ghost use Rattle.fx_graph_model.specs.Refusals.{refused_first, unknown_name, pair_names, wrong_kind, read_only_in, kind_at, set_refusal, publish_refusal};
 
 use crate::asking::{is_bound, is_read_only, is_unknown};
 use fx_base::{Family, Kind, Name, Value};
-use fx_properties::{Entry, GraphError};
+use fx_graph_model::{Entry, GraphError};
 
 fn is_same_family(one: Family, other: Family) -> bool
     ensures { result ≡ same_family one other }
@@ -99,7 +99,7 @@ fn bound_pair(entries: &[Entry], pairs: &[(Name, Value)]) -> Option<GraphError>
 }
 
 /// Why values may not be set by code.
-#[tactic(auto, unfolding(fx_properties::specs::Refusals::set_refusal))]
+#[tactic(auto, unfolding(fx_graph_model::specs::Refusals::set_refusal))]
 pub fn of_set(entries: &[Entry], pairs: &[(Name, Value)]) -> Option<GraphError>
     ensures { result ≡ set_refusal pairs.now entries.now }
 {
@@ -116,7 +116,7 @@ pub fn of_set(entries: &[Entry], pairs: &[(Name, Value)]) -> Option<GraphError>
 }
 
 /// Why values may not be published.
-#[tactic(auto, unfolding(fx_properties::specs::Refusals::publish_refusal))]
+#[tactic(auto, unfolding(fx_graph_model::specs::Refusals::publish_refusal))]
 pub fn of_publish(entries: &[Entry], pairs: &[(Name, Value)]) -> Option<GraphError>
     ensures { result ≡ publish_refusal pairs.now entries.now }
 {

@@ -1,17 +1,17 @@
 //! The end of a binding (JavaFX `unbind`): the property is read and keeps that value as its own.
 ghost use Rattle.std.specs.Prelude.{ℕ, ◌≡◌, ◌≤◌, ◌<◌, ◌+◌, true, length, slice_set, OnOk, OnErr};
-ghost use Rattle.fx_properties.specs.Uses.{Ranked, entry_of};
-ghost use Rattle.fx_properties.specs.Eager.{eager};
-ghost use Rattle.fx_properties.specs.Changes.{given};
-ghost use Rattle.fx_properties.specs.Unread.{after_reading, bound_unread, evaluations, IsPartRead};
-ghost use Rattle.fx_properties.specs.Sound.{AreSound, IsSettled};
-ghost use Rattle.fx_properties.specs.Users.{Mirrors};
+ghost use Rattle.fx_graph_model.specs.Uses.{Ranked, entry_of};
+ghost use Rattle.fx_graph_model.specs.Eager.{eager};
+ghost use Rattle.fx_graph_model.specs.Changes.{given};
+ghost use Rattle.fx_graph_model.specs.Unread.{after_reading, bound_unread, evaluations, IsPartRead};
+ghost use Rattle.fx_graph_model.specs.Sound.{AreSound, IsSettled};
+ghost use Rattle.fx_graph_model.specs.Users.{Mirrors};
 
 use crate::giving::write_value;
 use crate::reading::value_of;
 use fx_base::{Ledgers, Value, Work};
-use fx_edges::{Users, release_at};
-use fx_properties::Entry;
+use fx_graph_edges::{Users, release_at};
+use fx_graph_model::Entry;
 use std::alloc::{AllocError, Global};
 
 /// Reads a known name, and gives it its value for its own.

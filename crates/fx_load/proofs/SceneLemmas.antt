@@ -3,8 +3,8 @@ use Rattle.std.proofs.Common.{cond, vec_len, Vec, Global, not, ◌||◌, ◌≡�
 use Rattle.std.specs.Option.{option_map, option_map_or}
 use Rattle.std.specs.List.{cons_option, find, list_any}
 use Rattle.std.proofs.lemmas.List.{drop_more, map-append, take_more}
-use Rattle.fx_markup.specs.Grammar.{Attr, Nodes, Nothing, Letters, Node as Branching}
-use Rattle.fx_markup.specs.Machine.{is_nothing}
+use Rattle.fx_doc_grammar.specs.Grammar.{Attr, Nodes, Nothing, Letters, Node as Branching}
+use Rattle.fx_doc_grammar.specs.Machine.{is_nothing}
 use Rattle.fx_doc.specs.Views.{Onto, attr_view, built, content_step, element_step, nodes_of, onto, onto_element}
 use Rattle.fx_doc.specs.declared.document.Content.{Content}
 use Rattle.fx_doc.specs.declared.document.Content.TheOpen as o

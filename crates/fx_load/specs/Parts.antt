@@ -1,6 +1,6 @@
 -- What one piece of a document means to a scene.
 use Rattle.std.specs.Prelude.{◌≡◌, Bool, true, false, List, ◌++◌, Option, Some, None}
-use Rattle.fx_markup.specs.Grammar.{Nodes, Nothing, Letters, Node as Element}
+use Rattle.fx_doc_grammar.specs.Grammar.{Nodes, Nothing, Letters, Node as Element}
 use Rattle.fx_plain.specs.Scene.{region_named}
 use Rattle.fx_plain.specs.declared.nodes.Node.{Node}
 

@@ -8,7 +8,7 @@ ghost use Rattle.fx_load.specs.Says.{LoadSays};
 ghost use Rattle.fx_load.specs.Views.{fault_of};
 ghost use Rattle.fx_load.specs.declared.files.LoadError.TheVariants.{Failed};
 
-use fx_markup::Place;
+use fx_doc_grammar::Place;
 use fx_plain::FaultKind;
 use fx_port::{FetchError, Fetched, Shelf};
 use std::alloc::{AllocError, Global};

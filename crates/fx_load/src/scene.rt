@@ -3,7 +3,7 @@ ghost use Rattle.std.specs.Prelude.{◌≡◌, ◌<◌, IfOk, IfSome, codes, is_
 ghost use Rattle.std.specs.List.{find, list_all, list_any};
 ghost use Rattle.std.specs.Option.{option_and_then, option_map, option_map_or};
 ghost use Rattle.fx_doc.specs.Views.{attr_view, nodes_of, onto, onto_element, reading};
-ghost use Rattle.fx_markup.specs.Grammar.{Nothing};
+ghost use Rattle.fx_doc_grammar.specs.Grammar.{Nothing};
 ghost use Rattle.fx_plain.specs.Scene.{all_differ, checked, color_of_digits, color_of_style, has_both_sizes, has_name, hex_pair, hex_value, is_good_id, is_good_place, is_good_size, is_good_style, is_pane, is_pane_attribute, is_region, is_region_attribute, names_of, node_of, number_at, pane_of, pane_with_regions, region_named, region_of, regions_of, scene_of, value_at};
 ghost use Rattle.fx_plain.specs.Script.{same_text, small_number};
 ghost use Rattle.fx_plain.specs.World.{is_named};

@@ -2,7 +2,7 @@
 use Rattle.std.specs.Prelude.{ℕ, List, [], ◌∷◌, ◌++◌, codes}
 use Rattle.std.specs.Fmt.{decimal}
 use Rattle.fx_plain.specs.declared.answers.FaultKind.{FaultKind}
-use Rattle.fx_markup.specs.declared.Place.{Place}
+use Rattle.fx_doc_grammar.specs.declared.Place.{Place}
 use Rattle.fx_plain.specs.declared.answers.FaultKind.TheVariants.{Missing, TooLarge, NotUtf8, Markup, Limit, NotBuilt}
 
 -- why a file is refused, and where: line and column from 1, or 0 and 0 for the file as a whole

@@ -5,8 +5,8 @@ use Rattle.std.specs.List.{list_all}
 use Rattle.std.specs.Str.Lines.{lines}
 use Rattle.fx_doc.specs.Judgements.{Judgement, NoText, Judged, judgement}
 use Rattle.fx_doc.specs.Reads.{document_text}
-use Rattle.fx_markup.specs.Characters.{start, after_all}
-use Rattle.fx_markup.specs.Verdicts.{Verdict, Reads, Stops, Deep, Long as TooLong}
+use Rattle.fx_doc_grammar.specs.Characters.{start, after_all}
+use Rattle.fx_doc_grammar.specs.Verdicts.{Verdict, Reads, Stops, Deep, Long as TooLong}
 use Rattle.fx_port.specs.Files.{Files, Found, found_in, whole, absent, longer}
 use Rattle.fx_plain.specs.CommandLine.{Run}
 use Rattle.fx_plain.specs.Faults.{Fault, fault_at, whole_fault}

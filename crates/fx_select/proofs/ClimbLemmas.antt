@@ -3,7 +3,7 @@ use Rattle.std.proofs.Common.{◌≡◌, ℕ, ◌<◌, Bool, true, false, List, 
 use Rattle.std.specs.Prelude.{slice_get}
 use Rattle.std.proofs.lemmas.Option.{slice_get_cases}
 use Rattle.std.proofs.lemmas.List.{reverse-append}
-use Rattle.fx_sheet.specs.declared.selectors.Compound.{Compound}
+use Rattle.fx_css_types.specs.declared.selectors.Compound.{Compound}
 use Rattle.fx_kinds.specs.declared.facts.StyleFacts.{StyleFacts}
 use Rattle.fx_select.specs.declared.matching.Match.{Match}
 use Rattle.fx_select.specs.declared.matching.Match.TheVariants.{Nowhere}

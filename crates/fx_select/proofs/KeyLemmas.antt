@@ -4,8 +4,8 @@ use Rattle.std.specs.List.{list_all}
 use Rattle.std.specs.Str.{bytes_eq}
 use Rattle.std.proofs.lemmas.Bool.{false≢true}
 use Rattle.std.proofs.lemmas.Slice.Eq.{bytes_eq-Decides}
-use Rattle.fx_sheet.specs.declared.selectors.Compound.{Compound}
-use Rattle.fx_sheet.specs.declared.selectors.Selector.{Selector}
+use Rattle.fx_css_types.specs.declared.selectors.Compound.{Compound}
+use Rattle.fx_css_types.specs.declared.selectors.Selector.{Selector}
 use Rattle.fx_kinds.specs.declared.facts.StyleFacts.{StyleFacts}
 use Rattle.fx_kinds.specs.Classes.{name_of}
 use Rattle.fx_select.specs.Hits.{keys_of}

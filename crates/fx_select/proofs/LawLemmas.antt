@@ -6,10 +6,10 @@ use Rattle.std.specs.List.{enumerate_from, filter_map, flat_map}
 use Rattle.std.proofs.lemmas.Bool.{cases_Bool, eqb-true, false≢true}
 use Rattle.std.proofs.lemmas.Option.{slice_get_cases}
 use Rattle.std.proofs.lemmas.List.Elements.{filter_map-append}
-use Rattle.fx_sheet.specs.declared.selectors.Selector.{Selector}
-use Rattle.fx_sheet.specs.declared.sheets.Candidate.{Candidate}
-use Rattle.fx_sheet.specs.declared.sheets.Rule.{Rule}
-use Rattle.fx_sheet.specs.declared.sheets.SheetAt.{SheetAt}
+use Rattle.fx_css_types.specs.declared.selectors.Selector.{Selector}
+use Rattle.fx_css_types.specs.declared.sheets.Candidate.{Candidate}
+use Rattle.fx_css_types.specs.declared.sheets.Rule.{Rule}
+use Rattle.fx_css_types.specs.declared.sheets.SheetAt.{SheetAt}
 use Rattle.fx_kinds.specs.declared.facts.StyleFacts.{StyleFacts}
 use Rattle.fx_kinds.specs.Classes.{name_of}
 use Rattle.fx_select.specs.declared.lists.SelectorAt.{SelectorAt}

@@ -1,9 +1,9 @@
 -- What a try at a node says of its ancestors.
 use Rattle.std.proofs.Common.{◌≡◌, Bool, true, false, ◌&&◌, ◌||◌, List, [], ◌∷◌, Option, Some, None, refl, sym, ◌∙◌, ap}
 use Rattle.std.proofs.lemmas.Bool.{false≢true}
-use Rattle.fx_sheet.specs.declared.selectors.Combinator.{Combinator}
-use Rattle.fx_sheet.specs.declared.selectors.Combinator.TheVariants.{Descendant, Child}
-use Rattle.fx_sheet.specs.declared.selectors.Compound.{Compound}
+use Rattle.fx_css_types.specs.declared.selectors.Combinator.{Combinator}
+use Rattle.fx_css_types.specs.declared.selectors.Combinator.TheVariants.{Descendant, Child}
+use Rattle.fx_css_types.specs.declared.selectors.Compound.{Compound}
 use Rattle.fx_kinds.specs.declared.facts.StyleFacts.{StyleFacts}
 use Rattle.fx_select.specs.declared.matching.Match.{Match}
 use Rattle.fx_select.specs.declared.matching.Match.TheVariants.{Here, NotHere, Nowhere}

@@ -10,7 +10,7 @@ use Rattle.std.specs.declared.cmp.Ordering.TheVariants.{Less, Equal, Greater}
 use Rattle.std.proofs.lemmas.Bool.{cases_Bool}
 use Rattle.std.proofs.lemmas.List.Elements.{filter_agree}
 use Rattle.std.proofs.lemmas.List.Sorted.{All-permutation}
-use Rattle.fx_sheet.specs.declared.sheets.Candidate.{Candidate}
+use Rattle.fx_css_types.specs.declared.sheets.Candidate.{Candidate}
 use Rattle.fx_select.specs.Hits.{candidate}
 use Rattle.fx_select.specs.Merged.{compare_places, is_same_rule, merged, merged_of, place_of, raised}
 use Rattle.fx_select.specs.Strongest.{RuleAt, is_of_rule, strongest, greatest}

@@ -1,6 +1,6 @@
 -- One more hit among the rules that were hit so far, which stand in their order.
 use Rattle.std.proofs.Common.{◌≡◌, Bool, true, false, cond, ◌&&◌, ◌||◌, List, [], ◌∷◌, fold, ltb, eqb, refl, ◌∙◌, ap}
-use Rattle.fx_sheet.specs.declared.sheets.Candidate.{Candidate}
+use Rattle.fx_css_types.specs.declared.sheets.Candidate.{Candidate}
 use Rattle.fx_select.specs.Merged.{is_same_rule, raised}
 
 -- by sheet, then by rule

@@ -4,7 +4,7 @@ use Rattle.std.specs.Option.{option_map}
 use Rattle.std.specs.List.{filter_map}
 use Rattle.std.proofs.lemmas.List.{append-nil, map-append}
 use Rattle.std.proofs.lemmas.List.Elements.{filter-append}
-use Rattle.fx_sheet.specs.declared.sheets.Candidate.{Candidate}
+use Rattle.fx_css_types.specs.declared.sheets.Candidate.{Candidate}
 use Rattle.fx_select.specs.Hits.{candidate}
 use Rattle.fx_select.specs.Merged.{is_same_rule, raised}
 use Rattle.fx_select.specs.Strongest.{RuleAt, greater, greater_of, greatest, is_of_rule, strongest, weights_of}

@@ -2,10 +2,10 @@
 use Rattle.std.specs.Prelude.{ℕ, List, [], ◌∷◌, option_to_list}
 use Rattle.std.specs.Option.{option_map}
 use Rattle.std.specs.List.{filter_map}
-use Rattle.fx_sheet.specs.declared.selectors.Selector.{Selector}
-use Rattle.fx_sheet.specs.declared.sheets.Rule.{Rule}
-use Rattle.fx_sheet.specs.declared.sheets.SheetAt.{SheetAt}
-use Rattle.fx_sheet.specs.declared.sheets.Candidate.{Candidate}
+use Rattle.fx_css_types.specs.declared.selectors.Selector.{Selector}
+use Rattle.fx_css_types.specs.declared.sheets.Rule.{Rule}
+use Rattle.fx_css_types.specs.declared.sheets.SheetAt.{SheetAt}
+use Rattle.fx_css_types.specs.declared.sheets.Candidate.{Candidate}
 use Rattle.fx_kinds.specs.declared.facts.StyleFacts.{StyleFacts}
 use Rattle.fx_select.specs.Chains.{chain}
 use Rattle.fx_select.specs.Hits.{bare_weight, candidate, selector_weight}

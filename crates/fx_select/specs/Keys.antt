@@ -1,8 +1,8 @@
 -- Under what a selector is listed: what a node must have for the selector's last compound to fit it.
 use Rattle.std.specs.Prelude.{ℕ, Bool, true, false, List, [], ◌∷◌, reverse, Option, Some, None}
 use Rattle.std.specs.Str.{bytes_eq}
-use Rattle.fx_sheet.specs.declared.selectors.Compound.{Compound}
-use Rattle.fx_sheet.specs.declared.selectors.Selector.{Selector}
+use Rattle.fx_css_types.specs.declared.selectors.Compound.{Compound}
+use Rattle.fx_css_types.specs.declared.selectors.Selector.{Selector}
 
 pub data Key : Type 0 where
   ById : List ℕ → Key

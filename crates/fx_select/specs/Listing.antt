@@ -1,9 +1,9 @@
 -- What an index of rules lists, and what it lists of a list of sheets.
 use Rattle.std.specs.Prelude.{ℕ, ◌≡◌, List, [], ◌∷◌, ◌++◌, map, filter, Some, None, if◌then◌else◌}
 use Rattle.std.specs.List.{flat_map, enumerate_from}
-use Rattle.fx_sheet.specs.declared.selectors.Selector.{Selector}
-use Rattle.fx_sheet.specs.declared.sheets.Rule.{Rule}
-use Rattle.fx_sheet.specs.declared.sheets.SheetAt.{SheetAt}
+use Rattle.fx_css_types.specs.declared.selectors.Selector.{Selector}
+use Rattle.fx_css_types.specs.declared.sheets.Rule.{Rule}
+use Rattle.fx_css_types.specs.declared.sheets.SheetAt.{SheetAt}
 use Rattle.fx_select.specs.declared.lists.SelectorAt.{SelectorAt}
 use Rattle.fx_select.specs.Keys.{Key, ById, ByClass, ByKind, InRest, is_same_key, key_of}
 use Rattle.fx_select.specs.Named.{under}

@@ -3,10 +3,10 @@
 use Rattle.std.specs.Prelude.{ℕ, ◌≡◌, Bool, true, false, ◌&&◌, ◌||◌, List, [], ◌∷◌, reverse, Option, Some, None}
 use Rattle.std.specs.List.{list_any, list_all}
 use Rattle.std.specs.Str.{bytes_eq}
-use Rattle.fx_sheet.specs.declared.selectors.Combinator.{Combinator}
-use Rattle.fx_sheet.specs.declared.selectors.Combinator.TheVariants.{Descendant, Child}
-use Rattle.fx_sheet.specs.declared.selectors.Compound.{Compound}
-use Rattle.fx_sheet.specs.declared.selectors.Selector.{Selector}
+use Rattle.fx_css_types.specs.declared.selectors.Combinator.{Combinator}
+use Rattle.fx_css_types.specs.declared.selectors.Combinator.TheVariants.{Descendant, Child}
+use Rattle.fx_css_types.specs.declared.selectors.Compound.{Compound}
+use Rattle.fx_css_types.specs.declared.selectors.Selector.{Selector}
 use Rattle.fx_kinds.specs.declared.classes.Class.{Class}
 use Rattle.fx_kinds.specs.declared.facts.StyleFacts.{StyleFacts}
 use Rattle.fx_kinds.specs.Classes.{name_of}

@@ -1,8 +1,8 @@
 -- Selectors of at most 4,194,304 parts.
 use Rattle.std.specs.Prelude.{◌≤◌, List, All}
-use Rattle.fx_sheet.specs.declared.selectors.Selector.{Selector}
-use Rattle.fx_sheet.specs.declared.sheets.Rule.{Rule}
-use Rattle.fx_sheet.specs.declared.sheets.SheetAt.{SheetAt}
+use Rattle.fx_css_types.specs.declared.selectors.Selector.{Selector}
+use Rattle.fx_css_types.specs.declared.sheets.Rule.{Rule}
+use Rattle.fx_css_types.specs.declared.sheets.SheetAt.{SheetAt}
 use Rattle.fx_select.specs.Specificity.{part_count}
 
 abbrev pub AreShortSelectors : List Selector → Type 0

@@ -1,7 +1,7 @@
 -- How specific a selector is (Selectors Level 3, "Calculating a selector's specificity").
 use Rattle.std.specs.Prelude.{ℕ, ◌+◌, List, length, sum_by, count_by, is_some}
-use Rattle.fx_sheet.specs.declared.selectors.Compound.{Compound}
-use Rattle.fx_sheet.specs.declared.selectors.Selector.{Selector}
+use Rattle.fx_css_types.specs.declared.selectors.Compound.{Compound}
+use Rattle.fx_css_types.specs.declared.selectors.Selector.{Selector}
 
 abbrev pub id_count : List Compound → ℕ
 id_count compounds = sum_by (λ (c : Compound). length c.ids) compounds

@@ -12,7 +12,7 @@ use crate::lists::SelectorAt;
 use crate::matching::{matches, node_at};
 use crate::weights::specificity;
 use fx_kinds::StyleFacts;
-use fx_sheet::{Candidate, Selector, SheetAt};
+use fx_css_types::{Candidate, Selector, SheetAt};
 use std::alloc::AllocError;
 
 /// Puts those of the selectors behind the hits that match the node at this place.

@@ -3,7 +3,7 @@
 ghost use Rattle.std.specs.Prelude.{◌≡◌, ◌++◌, ◌<◌, ℕ, List, length, map, OnOk, IfOk, []};
 ghost use Rattle.std.specs.List.{filter_map, flat_map};
 ghost use Rattle.fx_kinds.specs.declared.facts.StyleFacts.{StyleFacts as StyleFactsValue};
-ghost use Rattle.fx_sheet.specs.declared.sheets.SheetAt.{SheetAt as SheetValue};
+ghost use Rattle.fx_css_types.specs.declared.sheets.SheetAt.{SheetAt as SheetValue};
 ghost use Rattle.fx_select.specs.Chains.{ParentsStandBefore, chain};
 ghost use Rattle.fx_select.specs.Hits.{hit_of, hits_of};
 ghost use Rattle.fx_select.specs.Keys.{ByClass, Key, InRest, key_of, key_of_compound};
@@ -18,7 +18,7 @@ use crate::matching::node_at;
 use crate::strongest::{sort_hits, strongest};
 use fx_base::Text;
 use fx_kinds::{StyleFacts, name_of};
-use fx_sheet::{Candidate, Compound, Rule, Selector, SheetAt};
+use fx_css_types::{Candidate, Compound, Rule, Selector, SheetAt};
 use std::alloc::{AllocError, Global};
 use std::marker::Model;
 

@@ -9,7 +9,7 @@ ghost use Rattle.fx_select.specs.Matching.{IsVerdict, fits, fits_kind, has_text,
 
 use fx_base::Text;
 use fx_kinds::{Class, StyleFacts, name_of};
-use fx_sheet::{Combinator, Compound, Selector};
+use fx_css_types::{Combinator, Compound, Selector};
 
 /// Does the selector match the node at this place? A selector without compounds matches nothing.
 pub fn matches(selector: &Selector, facts: &[StyleFacts], at: usize) -> bool

@@ -2,11 +2,11 @@
 //! The index gives them to the cascade.
 ghost use Rattle.std.specs.Prelude.{◌≡◌, ◌++◌, ◌∷◌, List as Items, IfOk, OnOk};
 ghost use Rattle.std.specs.List.Sorted.{IsPermutation, IsSortedByKey, IsStableByKey};
-ghost use Rattle.fx_sheet.specs.declared.sheets.Candidate.{Candidate as Hit};
+ghost use Rattle.fx_css_types.specs.declared.sheets.Candidate.{Candidate as Hit};
 ghost use Rattle.fx_select.specs.Merged.{compare_places, is_same_rule, merged, merged_of, place_of, raised};
 ghost use Rattle.fx_select.specs.Strongest.{greater, is_weaker};
 
-use fx_sheet::Candidate;
+use fx_css_types::Candidate;
 use std::alloc::{AllocError, Global};
 
 /// Puts the hits in the order of their sheets and rules, those of one rule as they stood.

@@ -8,7 +8,7 @@ ghost use Rattle.fx_select.specs.Specificity.{part_count};
 use crate::*;
 use fx_base::{List, NodeKey, Text};
 use fx_kinds::{Class, StyleFacts, class_of};
-use fx_sheet::{Candidate, Combinator, Compound, Rule, Selector, Sheet, SheetAt, SheetOrigin};
+use fx_css_types::{Candidate, Combinator, Compound, Rule, Selector, Sheet, SheetAt, SheetOrigin};
 use std::alloc::Global;
 use std::process::Abort;
 use std::test::Fail;

@@ -3,7 +3,7 @@
 ghost use Rattle.std.specs.Prelude.{◌≡◌, ◌≤◌, ◌+◌};
 ghost use Rattle.fx_select.specs.Specificity.{class_count, id_count, part_count, specificity_of, type_count};
 
-use fx_sheet::{Compound, Selector};
+use fx_css_types::{Compound, Selector};
 
 /// The number of its ids, of its classes and pseudo-classes, and of its types.
 pub fn specificity(selector: &Selector) -> (u32, u32, u32)

@@ -4,22 +4,22 @@ use Rattle.std.proofs.lemmas.Bool.{eqb-false, leb-false}
 use Rattle.fx_base.specs.declared.keys.Name.{Name}
 use Rattle.fx_base.specs.declared.values.Value.{Value}
 use Rattle.fx_expr.specs.declared.tree.Expr.{Expr}
-use Rattle.fx_changes.specs.declared.errors.StoreError.{StoreError}
-use Rattle.fx_changes.specs.declared.errors.StoreError.TheVariants as error
-use Rattle.fx_changes.specs.Causes.{of_graph}
-use Rattle.fx_changes.specs.Refusals as store
-use Rattle.fx_changes.specs.Refusals.{of_graph_refusal, pair_refusal, refused_if, refused_pair, unknown_of}
-use Rattle.fx_pairs.specs.Pairs.{is_paired}
-use Rattle.fx_properties.specs.declared.entries.Entry.{Entry}
-use Rattle.fx_properties.specs.declared.errors.GraphError.{GraphError}
-use Rattle.fx_properties.specs.declared.errors.GraphError.TheVariants as graph_error
-use Rattle.fx_properties.specs.Equality.{same_kind}
-use Rattle.fx_properties.specs.Refusals as graph
-use Rattle.fx_properties.specs.Refusals.{fit_refusal, kind_at, link_refusal, publish_refusal, read_only_in, unknown_name}
-use Rattle.fx_properties.specs.Uses.{bound_in, unknown_in}
-use Rattle.fx_properties.proofs.Members.{contains_first, contains_later}
-use Rattle.fx_properties.proofs.Refusing.{publishable, refused_none}
-use Rattle.fx_properties.proofs.Same.{Decides-kind}
+use Rattle.fx_store_model.specs.declared.errors.StoreError.{StoreError}
+use Rattle.fx_store_model.specs.declared.errors.StoreError.TheVariants as error
+use Rattle.fx_store_model.specs.Causes.{of_graph}
+use Rattle.fx_store_model.specs.Refusals as store
+use Rattle.fx_store_model.specs.Refusals.{of_graph_refusal, pair_refusal, refused_if, refused_pair, unknown_of}
+use Rattle.fx_store_pairs.specs.Pairs.{is_paired}
+use Rattle.fx_graph_model.specs.declared.entries.Entry.{Entry}
+use Rattle.fx_graph_model.specs.declared.errors.GraphError.{GraphError}
+use Rattle.fx_graph_model.specs.declared.errors.GraphError.TheVariants as graph_error
+use Rattle.fx_graph_model.specs.Equality.{same_kind}
+use Rattle.fx_graph_model.specs.Refusals as graph
+use Rattle.fx_graph_model.specs.Refusals.{fit_refusal, kind_at, link_refusal, publish_refusal, read_only_in, unknown_name}
+use Rattle.fx_graph_model.specs.Uses.{bound_in, unknown_in}
+use Rattle.fx_graph_model.proofs.Members.{contains_first, contains_later}
+use Rattle.fx_graph_model.proofs.Refusing.{publishable, refused_none}
+use Rattle.fx_graph_model.proofs.Same.{Decides-kind}
 use Rattle.fx_store.proofs.Twins.{IsOwn, own_from}
 
 -- refusals of the graph

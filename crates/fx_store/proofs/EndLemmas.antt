@@ -2,23 +2,23 @@
 use Rattle.std.proofs.Common.{◌≡◌, ◌≢◌, ℕ, ◌+◌, ◌≤◌, false, not, [], ◌∷◌, Option, Some, None, Ok, Err, Vec, Global, arith, refl, sym, subst, ap, ◌∙◌}
 use Rattle.std.proofs.lemmas.Bool.{and_right}
 use Rattle.fx_base.specs.declared.keys.Name.{Name}
-use Rattle.fx_changes.specs.declared.changes.Change.TheVariants.{Unbind, Unpair, Listen, Unlisten, Forget}
-use Rattle.fx_changes.specs.declared.changes.Notices.{Notices}
-use Rattle.fx_changes.specs.declared.errors.StoreError.{StoreError}
-use Rattle.fx_changes.specs.declared.errors.StoreError.TheVariants as error
-use Rattle.fx_changes.specs.Applied.{Applied}
-use Rattle.fx_changes.specs.Making.{made, made_forget, made_unbind, made_unlisten, new_listener, with_listeners, with_pairs}
-use Rattle.fx_changes.specs.Refusals.{IsAnswer, IsForgetAnswer, listen_refusal, refusal, unknown_of, unlisten_refusal, unpair_refusal}
-use Rattle.fx_changes.specs.Step.{IsReadSome, due}
-use Rattle.fx_changes.specs.Stored.{Stored, after_watching, with_unread}
+use Rattle.fx_store_model.specs.declared.changes.Change.TheVariants.{Unbind, Unpair, Listen, Unlisten, Forget}
+use Rattle.fx_store_model.specs.declared.changes.Notices.{Notices}
+use Rattle.fx_store_model.specs.declared.errors.StoreError.{StoreError}
+use Rattle.fx_store_model.specs.declared.errors.StoreError.TheVariants as error
+use Rattle.fx_store_model.specs.Applied.{Applied}
+use Rattle.fx_store_model.specs.Making.{made, made_forget, made_unbind, made_unlisten, new_listener, with_listeners, with_pairs}
+use Rattle.fx_store_model.specs.Refusals.{IsAnswer, IsForgetAnswer, listen_refusal, refusal, unknown_of, unlisten_refusal, unpair_refusal}
+use Rattle.fx_store_model.specs.Step.{IsReadSome, due}
+use Rattle.fx_store_model.specs.Stored.{Stored, after_watching, with_unread}
 use Rattle.fx_handles.specs.declared.Owner.{Owner}
 use Rattle.fx_listen.specs.declared.entries.ListenKind.{ListenKind}
 use Rattle.fx_listen.specs.Listening.{has_life, placed}
-use Rattle.fx_pairs.specs.Pairs.{without_pair}
-use Rattle.fx_properties.specs.Numbers.{numbers}
-use Rattle.fx_properties.specs.Unread.{after_reading, evaluations, marked}
-use Rattle.fx_properties.specs.Uses.{Ranked, unknown_in}
-use Rattle.fx_properties.proofs.ManyReads.{length-reading, marked-reading}
+use Rattle.fx_store_pairs.specs.Pairs.{without_pair}
+use Rattle.fx_graph_model.specs.Numbers.{numbers}
+use Rattle.fx_graph_model.specs.Unread.{after_reading, evaluations, marked}
+use Rattle.fx_graph_model.specs.Uses.{Ranked, unknown_in}
+use Rattle.fx_graph_model.proofs.ManyReads.{length-reading, marked-reading}
 use Rattle.fx_store.proofs.Answering.{answer_err, answer_ok}
 use Rattle.fx_store.proofs.KeepLemmas.{reading_fewer}
 use Rattle.fx_store.proofs.QuietLemmas.{quiet_failed, quiet_made, quiet_refused, quiet_short, quiet_unmade}

@@ -1,20 +1,20 @@
 -- How a change ends: refused, short of memory, or made and read; and what it may cost.
 use Rattle.std.proofs.Common.{◌≡◌, ℕ, ◌+◌, ◌≤◌, List, Contains, Ok, Err, Option, Some, None, arith, refl, sym, subst, ap, inl, inr, ◌∙◌, ◌≢◌}
-use Rattle.fx_changes.specs.declared.changes.Change.{Change}
-use Rattle.fx_changes.specs.declared.changes.Change.TheVariants.{Set, Publish, Bind, Unbind, Pair, Unpair, Listen, Unlisten, Forget}
-use Rattle.fx_changes.specs.declared.changes.Notices.{Notices}
-use Rattle.fx_changes.specs.declared.errors.StoreError.{StoreError}
-use Rattle.fx_changes.specs.declared.errors.StoreError.TheVariants as error
-use Rattle.fx_changes.specs.Applied.{Applied}
-use Rattle.fx_changes.specs.Refusals.{IsAnswer, IsChangeAnswer, refusal}
-use Rattle.fx_changes.specs.Step.{IsReadSome, IsUnfinished, Tells, after, before_reads, cost, due, read_before}
-use Rattle.fx_changes.specs.Stored.{Stored, after_watching, watched_names, with_unread}
+use Rattle.fx_store_model.specs.declared.changes.Change.{Change}
+use Rattle.fx_store_model.specs.declared.changes.Change.TheVariants.{Set, Publish, Bind, Unbind, Pair, Unpair, Listen, Unlisten, Forget}
+use Rattle.fx_store_model.specs.declared.changes.Notices.{Notices}
+use Rattle.fx_store_model.specs.declared.errors.StoreError.{StoreError}
+use Rattle.fx_store_model.specs.declared.errors.StoreError.TheVariants as error
+use Rattle.fx_store_model.specs.Applied.{Applied}
+use Rattle.fx_store_model.specs.Refusals.{IsAnswer, IsChangeAnswer, refusal}
+use Rattle.fx_store_model.specs.Step.{IsReadSome, IsUnfinished, Tells, after, before_reads, cost, due, read_before}
+use Rattle.fx_store_model.specs.Stored.{Stored, after_watching, watched_names, with_unread}
 use Rattle.fx_handles.specs.Living.{Register}
 use Rattle.fx_listen.specs.Listening.{Table, living_in}
-use Rattle.fx_properties.specs.declared.entries.Entry.{Entry}
-use Rattle.fx_properties.specs.Changes.{IsSomeRead, State, after_read_all}
-use Rattle.fx_properties.specs.Unread.{evaluations_of}
-use Rattle.fx_properties.proofs.ManyReads.{evaluations_same, reads_same}
+use Rattle.fx_graph_model.specs.declared.entries.Entry.{Entry}
+use Rattle.fx_graph_model.specs.Changes.{IsSomeRead, State, after_read_all}
+use Rattle.fx_graph_model.specs.Unread.{evaluations_of}
+use Rattle.fx_graph_model.proofs.ManyReads.{evaluations_same, reads_same}
 use Rattle.fx_listen.specs.declared.entries.Listener.{Listener}
 use Rattle.fx_store.specs.Kept.{AreOnKnown, ArePaired, stored_of}
 use Rattle.fx_store.specs.Watching.{watch_list}

@@ -2,7 +2,7 @@
 use Rattle.std.proofs.Common.{◌≡◌, ℕ, ◌==◌, ◌≤◌, ◌*◌, ◌⊎◌, nat_lt, Bool, true, false, not, cond, List, [], ◌∷◌, length, filter, Contains, Some, arith, sym, subst, ap, inl, inr, ◌∙◌}
 use Rattle.std.proofs.lemmas.Bool.{and_parts, cases_Bool, cond_both, eqb-true, or_cases, or_left, or_right}
 use Rattle.std.proofs.lemmas.List.Elements.{All-contains, All-filter, Contains-append_cases}
-use Rattle.fx_changes.specs.Stored.{is_heard}
+use Rattle.fx_store_model.specs.Stored.{is_heard}
 use Rattle.fx_handles.specs.declared.Owner.{Owner}
 use Rattle.fx_handles.specs.Living.{Register, after_release}
 use Rattle.fx_listen.specs.declared.entries.Listener.{Listener}
@@ -10,11 +10,11 @@ use Rattle.fx_listen.specs.declared.entries.ListenKind.TheVariants.{Change}
 use Rattle.fx_listen.specs.Listening.{is_live, living_in, placed, pruned, same_kind, same_owner, tells, without_first}
 use Rattle.fx_listen.specs.Sorting.{is_above, is_upto}
 use Rattle.fx_listen.proofs.LivingLemmas.{living_in-released}
-use Rattle.fx_pairs.specs.Pairs.{is_pair, is_paired, without_pair}
-use Rattle.fx_properties.specs.declared.entries.Entry.{Entry}
-use Rattle.fx_properties.specs.Unread.{marked}
-use Rattle.fx_properties.specs.Uses.{unknown_in}
-use Rattle.fx_properties.proofs.Members.{any_at, any_from, contains_cases, contains_first, contains_later, filter_contains}
+use Rattle.fx_store_pairs.specs.Pairs.{is_pair, is_paired, without_pair}
+use Rattle.fx_graph_model.specs.declared.entries.Entry.{Entry}
+use Rattle.fx_graph_model.specs.Unread.{marked}
+use Rattle.fx_graph_model.specs.Uses.{unknown_in}
+use Rattle.fx_graph_model.proofs.Members.{any_at, any_from, contains_cases, contains_first, contains_later, filter_contains}
 use Rattle.fx_store.specs.Kept.{AreAllRead, AreOnKnown, ArePaired, AreTwins}
 use Rattle.fx_store.proofs.Twins.{all_from}
 use Rattle.fx_store.proofs.Watched.{read_subset, watch_watches, watches_watch}

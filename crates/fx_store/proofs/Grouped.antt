@@ -6,16 +6,16 @@ use Rattle.std.proofs.lemmas.List.Kept.{AllPairs-filter}
 use Rattle.fx_base.specs.Printing.{kind_of}
 use Rattle.fx_base.specs.declared.keys.Name.{Name}
 use Rattle.fx_base.specs.declared.values.Value.{Value}
-use Rattle.fx_changes.proofs.Grouping.{IsGroup, paired_group}
-use Rattle.fx_pairs.specs.Pairs.{joined}
-use Rattle.fx_properties.specs.declared.entries.Entry.{Entry}
-use Rattle.fx_properties.specs.declared.entries.Definition.{Definition}
-use Rattle.fx_properties.specs.Eager.{eager}
-use Rattle.fx_properties.specs.Numbers.{numbers}
-use Rattle.fx_properties.specs.Refusals.{kind_at, set_refusal}
-use Rattle.fx_properties.specs.Sound.{AreSound, HasKind}
-use Rattle.fx_properties.specs.Uses.{entry_of}
-use Rattle.fx_properties.proofs.Members.{contains_filter, contains_map, filter_contains, map_contains}
+use Rattle.fx_store_model.proofs.Grouping.{IsGroup, paired_group}
+use Rattle.fx_store_pairs.specs.Pairs.{joined}
+use Rattle.fx_graph_model.specs.declared.entries.Entry.{Entry}
+use Rattle.fx_graph_model.specs.declared.entries.Definition.{Definition}
+use Rattle.fx_graph_model.specs.Eager.{eager}
+use Rattle.fx_graph_model.specs.Numbers.{numbers}
+use Rattle.fx_graph_model.specs.Refusals.{kind_at, set_refusal}
+use Rattle.fx_graph_model.specs.Sound.{AreSound, HasKind}
+use Rattle.fx_graph_model.specs.Uses.{entry_of}
+use Rattle.fx_graph_model.proofs.Members.{contains_filter, contains_map, filter_contains, map_contains}
 use Rattle.fx_store.specs.Kept.{ArePaired}
 use Rattle.fx_store.proofs.Pairing.{pair_test}
 use Rattle.fx_store.proofs.Twins.{IsOwn, group_settable, joined_within, own_eager, own_settable}

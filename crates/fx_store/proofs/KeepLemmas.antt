@@ -4,9 +4,9 @@ use Rattle.std.proofs.lemmas.Bool.{and_parts, both_ways, cond_both}
 use Rattle.std.proofs.lemmas.List.Elements.{All-contains, All-filter}
 use Rattle.fx_base.specs.declared.kinds.Kind.{Kind}
 use Rattle.fx_base.specs.declared.values.Value.{Value}
-use Rattle.fx_changes.specs.Making.{made_forget, made_unbind, with_group}
-use Rattle.fx_changes.specs.Stored.{Stored}
-use Rattle.fx_changes.proofs.Grouping.{set_group}
+use Rattle.fx_store_model.specs.Making.{made_forget, made_unbind, with_group}
+use Rattle.fx_store_model.specs.Stored.{Stored}
+use Rattle.fx_store_model.proofs.Grouping.{set_group}
 use Rattle.fx_handles.specs.declared.Owner.{Owner}
 use Rattle.fx_handles.specs.Living.{Register, after_make, after_release}
 use Rattle.fx_listen.specs.declared.entries.Listener.{Listener}
@@ -16,18 +16,18 @@ use Rattle.fx_listen.specs.Listening.{Table, after_add, after_remove, is_equal, 
 use Rattle.fx_listen.proofs.Cuts.{filter-swap}
 use Rattle.fx_listen.proofs.History.{pruning_is_silent}
 use Rattle.fx_listen.proofs.LivingLemmas.{living_in-made, living_in-placed, living_in-removed}
-use Rattle.fx_pairs.specs.Pairs.{is_among, without_pair}
-use Rattle.fx_properties.specs.declared.entries.Entry.{Entry}
-use Rattle.fx_properties.specs.declared.entries.Definition.TheVariants.{Base}
-use Rattle.fx_properties.specs.declared.entries.Origin.TheVariants as origin
-use Rattle.fx_properties.specs.Changes.{IsSomeRead, State, after_declare, after_forget, after_read, after_unbind, clear_all, forget_all, given}
-use Rattle.fx_properties.specs.Eager.{eager}
-use Rattle.fx_properties.specs.Unread.{after_reading, marked}
-use Rattle.fx_properties.specs.Uses.{bound_in, entry_of, leads, unknown_in}
-use Rattle.fx_properties.proofs.Changed.{bound_known, known_within}
-use Rattle.fx_properties.proofs.Forgetting.{marked-clear, marked-clear_other}
-use Rattle.fx_properties.proofs.ManyReads.{length-reading, marked-reading}
-use Rattle.fx_properties.proofs.Members.{cases_contains}
+use Rattle.fx_store_pairs.specs.Pairs.{is_among, without_pair}
+use Rattle.fx_graph_model.specs.declared.entries.Entry.{Entry}
+use Rattle.fx_graph_model.specs.declared.entries.Definition.TheVariants.{Base}
+use Rattle.fx_graph_model.specs.declared.entries.Origin.TheVariants as origin
+use Rattle.fx_graph_model.specs.Changes.{IsSomeRead, State, after_declare, after_forget, after_read, after_unbind, clear_all, forget_all, given}
+use Rattle.fx_graph_model.specs.Eager.{eager}
+use Rattle.fx_graph_model.specs.Unread.{after_reading, marked}
+use Rattle.fx_graph_model.specs.Uses.{bound_in, entry_of, leads, unknown_in}
+use Rattle.fx_graph_model.proofs.Changed.{bound_known, known_within}
+use Rattle.fx_graph_model.proofs.Forgetting.{marked-clear, marked-clear_other}
+use Rattle.fx_graph_model.proofs.ManyReads.{length-reading, marked-reading}
+use Rattle.fx_graph_model.proofs.Members.{cases_contains}
 use Rattle.fx_store.specs.Kept.{AreAllRead, AreOnKnown, ArePaired, IsKept, stored_of}
 use Rattle.fx_store.proofs.Fewer.{known_placed, known_pruned, known_removed, length-filter_fewer, length-without_pair, paired_without, placed_cases, read_filtered, read_placed, read_released, read_removed, read_unpaired, without_first_fewer}
 use Rattle.fx_store.proofs.Staying.{known_forgotten, known_stays, paired_declared, paired_forgotten, paired_unbound_name, stays_declared, stays_group}

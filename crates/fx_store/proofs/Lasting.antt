@@ -4,15 +4,15 @@ use Rattle.std.proofs.lemmas.Bool.{false≢true}
 use Rattle.std.proofs.lemmas.List.{length_push}
 use Rattle.fx_base.specs.declared.keys.Name.{Name}
 use Rattle.fx_base.specs.declared.values.Value.{Value}
-use Rattle.fx_changes.proofs.Grouping.{IsGroup, given_group}
+use Rattle.fx_store_model.proofs.Grouping.{IsGroup, given_group}
 use Rattle.fx_expr.specs.declared.tree.Expr.{Expr}
 use Rattle.fx_handles.specs.Living.{Register}
 use Rattle.fx_listen.specs.Listening.{Table, living_in}
-use Rattle.fx_pairs.specs.Pairs.{is_paired, joined}
-use Rattle.fx_properties.specs.declared.entries.Entry.{Entry}
-use Rattle.fx_properties.specs.Changes.{IsSomeRead, State, after_bind, after_read_all, after_values}
-use Rattle.fx_properties.specs.Eager.{eager}
-use Rattle.fx_properties.specs.Refusals.{read_only_in}
+use Rattle.fx_store_pairs.specs.Pairs.{is_paired, joined}
+use Rattle.fx_graph_model.specs.declared.entries.Entry.{Entry}
+use Rattle.fx_graph_model.specs.Changes.{IsSomeRead, State, after_bind, after_read_all, after_values}
+use Rattle.fx_graph_model.specs.Eager.{eager}
+use Rattle.fx_graph_model.specs.Refusals.{read_only_in}
 use Rattle.fx_store.specs.Kept.{AreOnKnown, ArePaired, IsKept}
 use Rattle.fx_store.specs.Watching.{watch_list}
 use Rattle.fx_store.proofs.Answering.{ArePairable}

@@ -4,24 +4,24 @@ use Rattle.std.proofs.Common.{◌≡◌, ℕ, Bool, true, false, List, [], ◌�
 use Rattle.std.proofs.lemmas.Bool.{and_parts}
 use Rattle.fx_base.specs.declared.keys.Name.{Name}
 use Rattle.fx_base.specs.declared.values.Value.{Value}
-use Rattle.fx_changes.specs.declared.changes.Change.{Change}
-use Rattle.fx_changes.specs.declared.changes.Change.TheVariants.{Set, Publish, Bind, Pair}
-use Rattle.fx_changes.specs.declared.changes.Notices.{Notices}
-use Rattle.fx_changes.specs.Making.{changed_by, made, moved, with_entries, with_group, with_pairs}
-use Rattle.fx_changes.specs.Step.{Tells, added_by, before_reads, changed_notices, invalid_notices, marked_by, newly}
-use Rattle.fx_changes.specs.Stored.{Stored}
-use Rattle.fx_changes.proofs.Grouping.{IsGroup, changed_group, changed_group_all, given_group, group_changed}
+use Rattle.fx_store_model.specs.declared.changes.Change.{Change}
+use Rattle.fx_store_model.specs.declared.changes.Change.TheVariants.{Set, Publish, Bind, Pair}
+use Rattle.fx_store_model.specs.declared.changes.Notices.{Notices}
+use Rattle.fx_store_model.specs.Making.{changed_by, made, moved, with_entries, with_group, with_pairs}
+use Rattle.fx_store_model.specs.Step.{Tells, added_by, before_reads, changed_notices, invalid_notices, marked_by, newly}
+use Rattle.fx_store_model.specs.Stored.{Stored}
+use Rattle.fx_store_model.proofs.Grouping.{IsGroup, changed_group, changed_group_all, given_group, group_changed}
 use Rattle.fx_expr.specs.declared.tree.Expr.{Expr}
 use Rattle.fx_handles.specs.Living.{Register}
 use Rattle.fx_listen.specs.declared.entries.Listener.{Listener}
 use Rattle.fx_listen.specs.Listening.{Table, living_in}
-use Rattle.fx_pairs.specs.Pairs.{joined}
-use Rattle.fx_properties.specs.declared.entries.Entry.{Entry}
-use Rattle.fx_properties.specs.Changes.{State, after_bind, after_change, after_values, changed, with_values}
-use Rattle.fx_properties.specs.Eager.{eager}
-use Rattle.fx_properties.specs.Numbers.{numbers}
-use Rattle.fx_properties.specs.Unread.{newly_marked}
-use Rattle.fx_properties.proofs.Marks.{marking_same, newly_same}
+use Rattle.fx_store_pairs.specs.Pairs.{joined}
+use Rattle.fx_graph_model.specs.declared.entries.Entry.{Entry}
+use Rattle.fx_graph_model.specs.Changes.{State, after_bind, after_change, after_values, changed, with_values}
+use Rattle.fx_graph_model.specs.Eager.{eager}
+use Rattle.fx_graph_model.specs.Numbers.{numbers}
+use Rattle.fx_graph_model.specs.Unread.{newly_marked}
+use Rattle.fx_graph_model.proofs.Marks.{marking_same, newly_same}
 use Rattle.fx_store.specs.Kept.{ArePaired, stored_of}
 use Rattle.fx_store.proofs.Pairing.{pair_changed, pair_test}
 use Rattle.fx_store.proofs.Twins.{joined_eager}

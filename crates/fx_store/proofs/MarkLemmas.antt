@@ -1,20 +1,20 @@
 -- How the changes that mark names end: memory is wanting for the reads behind them, or all is read and told.
 use Rattle.std.proofs.Common.{◌≡◌, ℕ, ◌+◌, ◌≤◌, true, false, List, Contains, None, Ok, Err, sym, subst}
 use Rattle.fx_base.specs.declared.values.Value.{Value}
-use Rattle.fx_changes.specs.declared.changes.Change.{Change}
-use Rattle.fx_changes.specs.declared.changes.Notices.{Notices}
-use Rattle.fx_changes.specs.declared.errors.StoreError.{StoreError}
-use Rattle.fx_changes.specs.declared.errors.StoreError.TheVariants as error
-use Rattle.fx_changes.specs.Applied.{Applied}
-use Rattle.fx_changes.specs.Refusals.{IsChangeAnswer}
-use Rattle.fx_changes.specs.Step.{changed_notices, due, invalid_notices}
-use Rattle.fx_changes.specs.Stored.{Stored}
+use Rattle.fx_store_model.specs.declared.changes.Change.{Change}
+use Rattle.fx_store_model.specs.declared.changes.Notices.{Notices}
+use Rattle.fx_store_model.specs.declared.errors.StoreError.{StoreError}
+use Rattle.fx_store_model.specs.declared.errors.StoreError.TheVariants as error
+use Rattle.fx_store_model.specs.Applied.{Applied}
+use Rattle.fx_store_model.specs.Refusals.{IsChangeAnswer}
+use Rattle.fx_store_model.specs.Step.{changed_notices, due, invalid_notices}
+use Rattle.fx_store_model.specs.Stored.{Stored}
 use Rattle.fx_handles.specs.Living.{Register}
 use Rattle.fx_listen.specs.declared.entries.Listener.{Listener}
 use Rattle.fx_listen.specs.Listening.{Table, living_in}
-use Rattle.fx_properties.specs.declared.entries.Entry.{Entry}
-use Rattle.fx_properties.specs.Changes.{IsSomeRead, State, after_read_all}
-use Rattle.fx_properties.specs.Unread.{evaluations_of}
+use Rattle.fx_graph_model.specs.declared.entries.Entry.{Entry}
+use Rattle.fx_graph_model.specs.Changes.{IsSomeRead, State, after_read_all}
+use Rattle.fx_graph_model.specs.Unread.{evaluations_of}
 use Rattle.fx_store.specs.Kept.{IsKept, stored_of}
 use Rattle.fx_store.specs.UnderWay.{IsUnderWay}
 use Rattle.fx_store.specs.Watching.{values_of, watch_list}

@@ -4,19 +4,19 @@ use Rattle.std.specs.List.{range_with_len}
 use Rattle.std.proofs.lemmas.Bool.{and_from, and_left, and_parts, and_right, both_ways, cases_Bool, cases_eq, eq-eqb, false_from_ne_true, ne_eqb, not_from_false, not_from_true}
 use Rattle.std.proofs.lemmas.List.Elements.{All-append, filter_agree}
 use Rattle.fx_base.specs.declared.values.Value.{Value}
-use Rattle.fx_changes.specs.Making.{with_group}
-use Rattle.fx_changes.proofs.Grouping.{group_changed}
-use Rattle.fx_pairs.specs.Pairs.{group, joined}
-use Rattle.fx_pairs.proofs.Joining.{joined-pair, joined-refl, joined-sym, joined-trans}
-use Rattle.fx_properties.specs.declared.entries.Entry.{Entry}
-use Rattle.fx_properties.specs.declared.entries.Definition.TheVariants.{Base}
-use Rattle.fx_properties.specs.Eager.{eager}
-use Rattle.fx_properties.specs.Equality.{same_value}
-use Rattle.fx_properties.specs.Refusals.{kind_at}
-use Rattle.fx_properties.specs.Uses.{entry_of}
-use Rattle.fx_properties.proofs.Flags.{same_test}
-use Rattle.fx_properties.proofs.Members.{contains_cases, none_in_nil}
-use Rattle.fx_properties.proofs.Same.{Decides-value}
+use Rattle.fx_store_model.specs.Making.{with_group}
+use Rattle.fx_store_model.proofs.Grouping.{group_changed}
+use Rattle.fx_store_pairs.specs.Pairs.{group, joined}
+use Rattle.fx_store_pairs.proofs.Joining.{joined-pair, joined-refl, joined-sym, joined-trans}
+use Rattle.fx_graph_model.specs.declared.entries.Entry.{Entry}
+use Rattle.fx_graph_model.specs.declared.entries.Definition.TheVariants.{Base}
+use Rattle.fx_graph_model.specs.Eager.{eager}
+use Rattle.fx_graph_model.specs.Equality.{same_value}
+use Rattle.fx_graph_model.specs.Refusals.{kind_at}
+use Rattle.fx_graph_model.specs.Uses.{entry_of}
+use Rattle.fx_graph_model.proofs.Flags.{same_test}
+use Rattle.fx_graph_model.proofs.Members.{contains_cases, none_in_nil}
+use Rattle.fx_graph_model.proofs.Same.{Decides-value}
 use Rattle.fx_store.specs.Kept.{ArePaired, AreTwins}
 use Rattle.fx_store.proofs.Twins.{IsOwn, all_from, joined_eager, own_eager, own_known, twins_one, twins_other}
 use Rattle.fx_store.proofs.Staying.{AreBase, Stays, StaysAt, base_in, base_out, paired_stays, stays_group}

@@ -1,19 +1,19 @@
 -- How a change that marks no name ends: it fails before it is made, wants memory for the reads behind it, or is done.
 use Rattle.std.proofs.Common.{◌≡◌, ◌≢◌, ℕ, ◌+◌, ◌≤◌, Bool, false, List, All, Ok, Err, arith, refl, sym, subst, ap, inl, inr, ◌∙◌}
-use Rattle.fx_changes.specs.declared.changes.Change.{Change}
-use Rattle.fx_changes.specs.declared.changes.Notices.{Notices}
-use Rattle.fx_changes.specs.declared.errors.StoreError.{StoreError}
-use Rattle.fx_changes.specs.declared.errors.StoreError.TheVariants as error
-use Rattle.fx_changes.specs.Applied.{Applied}
-use Rattle.fx_changes.specs.Making.{made}
-use Rattle.fx_changes.specs.Refusals.{IsChangeAnswer}
-use Rattle.fx_changes.specs.Step.{IsReadSome, Tells, before_reads, cost, due, read_before}
-use Rattle.fx_changes.specs.Stored.{Stored, after_watching}
+use Rattle.fx_store_model.specs.declared.changes.Change.{Change}
+use Rattle.fx_store_model.specs.declared.changes.Notices.{Notices}
+use Rattle.fx_store_model.specs.declared.errors.StoreError.{StoreError}
+use Rattle.fx_store_model.specs.declared.errors.StoreError.TheVariants as error
+use Rattle.fx_store_model.specs.Applied.{Applied}
+use Rattle.fx_store_model.specs.Making.{made}
+use Rattle.fx_store_model.specs.Refusals.{IsChangeAnswer}
+use Rattle.fx_store_model.specs.Step.{IsReadSome, Tells, before_reads, cost, due, read_before}
+use Rattle.fx_store_model.specs.Stored.{Stored, after_watching}
 use Rattle.fx_handles.specs.Living.{Register}
 use Rattle.fx_listen.specs.Listening.{Table, living_in}
-use Rattle.fx_properties.specs.Changes.{State, after_read_all}
-use Rattle.fx_properties.specs.Unread.{IsClosed}
-use Rattle.fx_properties.specs.Uses.{unknown_in}
+use Rattle.fx_graph_model.specs.Changes.{State, after_read_all}
+use Rattle.fx_graph_model.specs.Unread.{IsClosed}
+use Rattle.fx_graph_model.specs.Uses.{unknown_in}
 use Rattle.fx_store.specs.Kept.{IsKept, stored_of}
 use Rattle.fx_store.specs.Watching.{watch_list}
 use Rattle.fx_store.proofs.Ending.{applied_made, applied_short, memory_answer, nothing_read, reads_watching}

@@ -2,29 +2,29 @@
 use Rattle.std.proofs.Common.{◌≡◌, ℕ, ◌==◌, true, not, List, [], Option, Some, None, Vec, Global, ◌+◌, refl, sym, ap, ◌∙◌}
 use Rattle.std.proofs.lemmas.Bool.{cond_both, not-true}
 use Rattle.fx_base.specs.declared.keys.Name.{Name}
-use Rattle.fx_changes.specs.declared.changes.Change.{Change}
-use Rattle.fx_changes.specs.declared.changes.Change.TheVariants.{Unbind, Unpair, Listen, Unlisten, Forget}
-use Rattle.fx_changes.specs.declared.changes.Notices.{Notices}
-use Rattle.fx_changes.specs.Making.{changed_by, made, made_unbind, with_entries, with_group}
-use Rattle.fx_changes.specs.Step.{Tells, added_by, before_reads, changed_notices, invalid_notices}
-use Rattle.fx_changes.specs.Stored.{Stored, with_unread}
-use Rattle.fx_changes.proofs.Grouping.{set_group}
-use Rattle.fx_changes.proofs.Telling.{changed_none, changed_same}
+use Rattle.fx_store_model.specs.declared.changes.Change.{Change}
+use Rattle.fx_store_model.specs.declared.changes.Change.TheVariants.{Unbind, Unpair, Listen, Unlisten, Forget}
+use Rattle.fx_store_model.specs.declared.changes.Notices.{Notices}
+use Rattle.fx_store_model.specs.Making.{changed_by, made, made_unbind, with_entries, with_group}
+use Rattle.fx_store_model.specs.Step.{Tells, added_by, before_reads, changed_notices, invalid_notices}
+use Rattle.fx_store_model.specs.Stored.{Stored, with_unread}
+use Rattle.fx_store_model.proofs.Grouping.{set_group}
+use Rattle.fx_store_model.proofs.Telling.{changed_none, changed_same}
 use Rattle.fx_handles.specs.declared.Owner.{Owner}
 use Rattle.fx_listen.specs.declared.entries.Listener.{Listener}
 use Rattle.fx_listen.specs.declared.entries.ListenKind.{ListenKind}
-use Rattle.fx_pairs.specs.Pairs.{is_among}
-use Rattle.fx_properties.specs.declared.entries.Entry.{Entry}
-use Rattle.fx_properties.specs.Eager.{eager}
-use Rattle.fx_properties.specs.Numbers.{numbers}
-use Rattle.fx_properties.specs.Refusals.{IsFree}
-use Rattle.fx_properties.specs.Unread.{after_marking, after_reading, newly_marked}
-use Rattle.fx_properties.specs.Uses.{Ranked, bound_in}
-use Rattle.fx_properties.proofs.Binding.{eager-kept}
-use Rattle.fx_properties.proofs.Changed.{bound_known, known_within}
-use Rattle.fx_properties.proofs.Forgetting.{eager-forget_other}
-use Rattle.fx_properties.proofs.Marks.{marking_none, newly_none}
-use Rattle.fx_properties.proofs.Members.{filter_contains}
+use Rattle.fx_store_pairs.specs.Pairs.{is_among}
+use Rattle.fx_graph_model.specs.declared.entries.Entry.{Entry}
+use Rattle.fx_graph_model.specs.Eager.{eager}
+use Rattle.fx_graph_model.specs.Numbers.{numbers}
+use Rattle.fx_graph_model.specs.Refusals.{IsFree}
+use Rattle.fx_graph_model.specs.Unread.{after_marking, after_reading, newly_marked}
+use Rattle.fx_graph_model.specs.Uses.{Ranked, bound_in}
+use Rattle.fx_graph_model.proofs.Binding.{eager-kept}
+use Rattle.fx_graph_model.proofs.Changed.{bound_known, known_within}
+use Rattle.fx_graph_model.proofs.Forgetting.{eager-forget_other}
+use Rattle.fx_graph_model.proofs.Marks.{marking_none, newly_none}
+use Rattle.fx_graph_model.proofs.Members.{filter_contains}
 use Rattle.fx_store.proofs.Staying.{not_among}
 
 -- it changes no name's value

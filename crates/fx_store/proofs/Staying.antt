@@ -5,24 +5,24 @@ use Rattle.std.proofs.lemmas.Bool.{both_ways, cases_Bool, cases_eq, eq-eqb, eqb-
 use Rattle.std.proofs.lemmas.List.Elements.{All-contains, All-filter}
 use Rattle.fx_base.specs.declared.keys.Name.{Name}
 use Rattle.fx_base.specs.declared.values.Value.{Value}
-use Rattle.fx_changes.specs.Making.{with_group}
-use Rattle.fx_changes.proofs.Grouping.{entry-group_in, entry-group_out}
+use Rattle.fx_store_model.specs.Making.{with_group}
+use Rattle.fx_store_model.proofs.Grouping.{entry-group_in, entry-group_out}
 use Rattle.fx_expr.specs.declared.tree.Expr.{Expr}
 use Rattle.fx_handles.specs.declared.Owner.{Owner}
 use Rattle.fx_listen.specs.declared.entries.Listener.{Listener}
 use Rattle.fx_listen.specs.Listening.{is_live, living_in}
-use Rattle.fx_pairs.specs.Pairs.{is_among, is_end, is_paired, joined}
-use Rattle.fx_pairs.proofs.Joining.{joined-pair, joined-sym, joined-trans}
-use Rattle.fx_properties.specs.declared.entries.Entry.{Entry}
-use Rattle.fx_properties.specs.declared.entries.Definition.TheVariants.{Base}
-use Rattle.fx_properties.specs.Changes.{bound_to, forget_all, given, with_binding, with_values}
-use Rattle.fx_properties.specs.Refusals.{kind_at, read_only_in}
-use Rattle.fx_properties.specs.Uses.{bound_in, entry_of, is_gone, unknown_in}
-use Rattle.fx_properties.proofs.Changed.{entry-declared, known_within}
-use Rattle.fx_properties.proofs.Forgetting.{entry-forget_other}
-use Rattle.fx_properties.proofs.Given.{entry-given_other, targets}
-use Rattle.fx_properties.proofs.Members.{any_at, any_from, filter_contains, map_contains}
-use Rattle.fx_properties.proofs.Ranks.{entry-set_other, entry-set_same}
+use Rattle.fx_store_pairs.specs.Pairs.{is_among, is_end, is_paired, joined}
+use Rattle.fx_store_pairs.proofs.Joining.{joined-pair, joined-sym, joined-trans}
+use Rattle.fx_graph_model.specs.declared.entries.Entry.{Entry}
+use Rattle.fx_graph_model.specs.declared.entries.Definition.TheVariants.{Base}
+use Rattle.fx_graph_model.specs.Changes.{bound_to, forget_all, given, with_binding, with_values}
+use Rattle.fx_graph_model.specs.Refusals.{kind_at, read_only_in}
+use Rattle.fx_graph_model.specs.Uses.{bound_in, entry_of, is_gone, unknown_in}
+use Rattle.fx_graph_model.proofs.Changed.{entry-declared, known_within}
+use Rattle.fx_graph_model.proofs.Forgetting.{entry-forget_other}
+use Rattle.fx_graph_model.proofs.Given.{entry-given_other, targets}
+use Rattle.fx_graph_model.proofs.Members.{any_at, any_from, filter_contains, map_contains}
+use Rattle.fx_graph_model.proofs.Ranks.{entry-set_other, entry-set_same}
 use Rattle.fx_store.specs.Kept.{AreOnKnown, ArePaired, AreTwins}
 use Rattle.fx_store.proofs.Twins.{IsOwn, all_from, own_known, own_unbound, own_within, paired_own, paired_twins, twins_one, twins_other}
 

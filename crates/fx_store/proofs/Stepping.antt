@@ -2,19 +2,19 @@
 -- the graph, and then every watched name is read.
 use Rattle.std.proofs.Common.{◌≡◌, ℕ, ◌+◌, ◌≤◌, Bool, List, Ok, Err, None, refl, subst}
 use Rattle.fx_base.specs.declared.values.Value.{Value}
-use Rattle.fx_changes.specs.declared.changes.Change.{Change}
-use Rattle.fx_changes.specs.declared.changes.Notices.{Notices}
-use Rattle.fx_changes.specs.declared.errors.StoreError.TheVariants as error
-use Rattle.fx_changes.specs.Applied.{Applied}
-use Rattle.fx_changes.specs.Refusals.{IsChangeAnswer}
-use Rattle.fx_changes.specs.Step.{added_by, before_reads, changed_notices, due, invalid_notices}
-use Rattle.fx_changes.specs.Stored.{Stored}
+use Rattle.fx_store_model.specs.declared.changes.Change.{Change}
+use Rattle.fx_store_model.specs.declared.changes.Notices.{Notices}
+use Rattle.fx_store_model.specs.declared.errors.StoreError.TheVariants as error
+use Rattle.fx_store_model.specs.Applied.{Applied}
+use Rattle.fx_store_model.specs.Refusals.{IsChangeAnswer}
+use Rattle.fx_store_model.specs.Step.{added_by, before_reads, changed_notices, due, invalid_notices}
+use Rattle.fx_store_model.specs.Stored.{Stored}
 use Rattle.fx_handles.specs.Living.{Register}
 use Rattle.fx_listen.specs.declared.entries.Listener.{Listener}
 use Rattle.fx_listen.specs.Listening.{Table, living_in}
-use Rattle.fx_properties.specs.declared.entries.Entry.{Entry}
-use Rattle.fx_properties.specs.Changes.{IsSomeRead, State, after_read_all}
-use Rattle.fx_properties.specs.Unread.{evaluations_of}
+use Rattle.fx_graph_model.specs.declared.entries.Entry.{Entry}
+use Rattle.fx_graph_model.specs.Changes.{IsSomeRead, State, after_read_all}
+use Rattle.fx_graph_model.specs.Unread.{evaluations_of}
 use Rattle.fx_store.specs.Kept.{IsKept, stored_of}
 use Rattle.fx_store.specs.Watching.{values_of, watch_list}
 use Rattle.fx_store.proofs.Ending.{AreWatched, applied_made, applied_short, cost_made, cost_unmade, due_by, made_read, made_some_read, unmade_as_was, watch_are}

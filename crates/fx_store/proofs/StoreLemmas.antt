@@ -1,21 +1,21 @@
 -- What is seen of the store at the calls that change or ask one part of it.
 use Rattle.std.proofs.Common.{◌≡◌, ℕ, ◌+◌, ◌||◌, ◌&&◌, Bool, true, false, cond, List, [], ◌∷◌, All, refl, ap, ◌∙◌}
 use Rattle.std.specs.List.{list_any}
-use Rattle.fx_changes.specs.Making.{with_owners}
-use Rattle.fx_changes.specs.Stored.{Stored, after_end}
+use Rattle.fx_store_model.specs.Making.{with_owners}
+use Rattle.fx_store_model.specs.Stored.{Stored, after_end}
 use Rattle.fx_handles.specs.declared.Owner.{Owner}
 use Rattle.fx_handles.specs.Living.{Register, after_make, after_release}
 use Rattle.fx_listen.specs.declared.entries.Listener.{Listener}
 use Rattle.fx_listen.specs.Laws.{HasBornOwner}
 use Rattle.fx_listen.specs.Listening.{Table, is_live, living_in}
 use Rattle.fx_listen.proofs.LivingLemmas.{living_in-made, living_in-released}
-use Rattle.fx_pairs.specs.Pairs.{is_paired, joined}
-use Rattle.fx_properties.specs.declared.entries.Entry.{Entry}
-use Rattle.fx_properties.specs.Changes.{State}
-use Rattle.fx_properties.specs.Eager.{eager}
-use Rattle.fx_properties.specs.Refusals.{kind_at, read_only_in}
-use Rattle.fx_properties.specs.Uses.{bound_in, unknown_in}
-use Rattle.fx_properties.proofs.Members.{filter_contains}
+use Rattle.fx_store_pairs.specs.Pairs.{is_paired, joined}
+use Rattle.fx_graph_model.specs.declared.entries.Entry.{Entry}
+use Rattle.fx_graph_model.specs.Changes.{State}
+use Rattle.fx_graph_model.specs.Eager.{eager}
+use Rattle.fx_graph_model.specs.Refusals.{kind_at, read_only_in}
+use Rattle.fx_graph_model.specs.Uses.{bound_in, unknown_in}
+use Rattle.fx_graph_model.proofs.Members.{filter_contains}
 use Rattle.fx_store.specs.Kept.{ArePaired, stored_of}
 use Rattle.fx_store.proofs.Twins.{all_from, joined_eager, joined_kind, joined_own, own_known, own_unbound, paired_own}
 

@@ -5,22 +5,22 @@ use Rattle.std.proofs.lemmas.List.Elements.{All-contains, Contains-get_or}
 use Rattle.fx_base.specs.Printing.{kind_of}
 use Rattle.fx_base.specs.declared.keys.Name.{Name}
 use Rattle.fx_base.specs.declared.values.Value.{Value}
-use Rattle.fx_changes.proofs.Grouping.{IsGroup}
-use Rattle.fx_pairs.specs.Laws.{IsEquivalence}
-use Rattle.fx_pairs.specs.Pairs.{is_end, is_paired, joined}
-use Rattle.fx_pairs.proofs.Joining.{joined-least}
-use Rattle.fx_properties.specs.declared.entries.Entry.{Entry}
-use Rattle.fx_properties.specs.declared.entries.Definition.TheVariants.{Base}
-use Rattle.fx_properties.specs.Eager.{eager}
-use Rattle.fx_properties.specs.Equality.{same_kind}
-use Rattle.fx_properties.specs.Numbers.{name_of}
-use Rattle.fx_properties.specs.Refusals.{kind_at, pair_names, read_only_in, set_refusal}
-use Rattle.fx_properties.specs.Uses.{bound_in, entry_of, is_binding, is_gone, unknown_in}
-use Rattle.fx_properties.proofs.Changed.{base_definition, known_within}
-use Rattle.fx_properties.proofs.Kept.{eager-own}
-use Rattle.fx_properties.proofs.Members.{any_from, contains_first, contains_map, map_contains}
-use Rattle.fx_properties.proofs.Refusing.{Settable, refused_none_from, settable}
-use Rattle.fx_properties.proofs.Same.{Decides-kind}
+use Rattle.fx_store_model.proofs.Grouping.{IsGroup}
+use Rattle.fx_store_pairs.specs.Laws.{IsEquivalence}
+use Rattle.fx_store_pairs.specs.Pairs.{is_end, is_paired, joined}
+use Rattle.fx_store_pairs.proofs.Joining.{joined-least}
+use Rattle.fx_graph_model.specs.declared.entries.Entry.{Entry}
+use Rattle.fx_graph_model.specs.declared.entries.Definition.TheVariants.{Base}
+use Rattle.fx_graph_model.specs.Eager.{eager}
+use Rattle.fx_graph_model.specs.Equality.{same_kind}
+use Rattle.fx_graph_model.specs.Numbers.{name_of}
+use Rattle.fx_graph_model.specs.Refusals.{kind_at, pair_names, read_only_in, set_refusal}
+use Rattle.fx_graph_model.specs.Uses.{bound_in, entry_of, is_binding, is_gone, unknown_in}
+use Rattle.fx_graph_model.proofs.Changed.{base_definition, known_within}
+use Rattle.fx_graph_model.proofs.Kept.{eager-own}
+use Rattle.fx_graph_model.proofs.Members.{any_from, contains_first, contains_map, map_contains}
+use Rattle.fx_graph_model.proofs.Refusing.{Settable, refused_none_from, settable}
+use Rattle.fx_graph_model.proofs.Same.{Decides-kind}
 use Rattle.fx_store.specs.Kept.{ArePaired, AreTwins}
 
 pub all_from : {X : Type 0} (P : X → Type 0) (xs : List X) → ((x : X) → Contains xs x → P x) → All P xs

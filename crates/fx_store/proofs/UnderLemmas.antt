@@ -3,30 +3,30 @@ use Rattle.std.proofs.Common.{◌≡◌, ℕ, ◌+◌, ◌≤◌, ◌⊎◌, Boo
 use Rattle.std.proofs.lemmas.List.Elements.{All-contains}
 use Rattle.fx_base.specs.declared.keys.Name.{Name}
 use Rattle.fx_base.specs.declared.values.Value.{Value}
-use Rattle.fx_changes.specs.declared.changes.Change.{Change}
-use Rattle.fx_changes.specs.declared.changes.Change.TheVariants.{Set, Publish, Bind, Pair}
-use Rattle.fx_changes.specs.declared.changes.Notices.{Notices}
-use Rattle.fx_changes.specs.declared.errors.StoreError.{StoreError}
-use Rattle.fx_changes.specs.declared.errors.StoreError.TheVariants as error
-use Rattle.fx_changes.specs.Applied.{Applied}
-use Rattle.fx_changes.specs.Causes.{of_graph}
-use Rattle.fx_changes.specs.Refusals.{IsAnswer, IsChangeAnswer, bind_refusal, of_graph_refusal, pair_refusal, refusal}
-use Rattle.fx_changes.specs.Step.{IsFit, due}
-use Rattle.fx_changes.specs.Stored.{Stored}
-use Rattle.fx_changes.proofs.Grouping.{IsGroup}
+use Rattle.fx_store_model.specs.declared.changes.Change.{Change}
+use Rattle.fx_store_model.specs.declared.changes.Change.TheVariants.{Set, Publish, Bind, Pair}
+use Rattle.fx_store_model.specs.declared.changes.Notices.{Notices}
+use Rattle.fx_store_model.specs.declared.errors.StoreError.{StoreError}
+use Rattle.fx_store_model.specs.declared.errors.StoreError.TheVariants as error
+use Rattle.fx_store_model.specs.Applied.{Applied}
+use Rattle.fx_store_model.specs.Causes.{of_graph}
+use Rattle.fx_store_model.specs.Refusals.{IsAnswer, IsChangeAnswer, bind_refusal, of_graph_refusal, pair_refusal, refusal}
+use Rattle.fx_store_model.specs.Step.{IsFit, due}
+use Rattle.fx_store_model.specs.Stored.{Stored}
+use Rattle.fx_store_model.proofs.Grouping.{IsGroup}
 use Rattle.fx_expr.specs.declared.tree.Expr.{Expr}
 use Rattle.fx_handles.specs.Living.{Register}
 use Rattle.fx_listen.specs.declared.entries.Listener.{Listener}
 use Rattle.fx_listen.specs.Listening.{Table, living_in}
-use Rattle.fx_pairs.specs.Pairs.{is_paired, joined}
-use Rattle.fx_properties.specs.declared.errors.GraphError.{GraphError}
-use Rattle.fx_properties.specs.Changes.{AreKnown, State, after_bind, after_values}
-use Rattle.fx_properties.specs.Eager.{eager}
-use Rattle.fx_properties.specs.Numbers.{numbers}
-use Rattle.fx_properties.specs.Refusals.{publish_refusal, read_only_in, set_refusal}
-use Rattle.fx_properties.specs.Refusals as graph_refusals
-use Rattle.fx_properties.specs.Sound.{AreSound}
-use Rattle.fx_properties.specs.Uses.{unknown_in}
+use Rattle.fx_store_pairs.specs.Pairs.{is_paired, joined}
+use Rattle.fx_graph_model.specs.declared.errors.GraphError.{GraphError}
+use Rattle.fx_graph_model.specs.Changes.{AreKnown, State, after_bind, after_values}
+use Rattle.fx_graph_model.specs.Eager.{eager}
+use Rattle.fx_graph_model.specs.Numbers.{numbers}
+use Rattle.fx_graph_model.specs.Refusals.{publish_refusal, read_only_in, set_refusal}
+use Rattle.fx_graph_model.specs.Refusals as graph_refusals
+use Rattle.fx_graph_model.specs.Sound.{AreSound}
+use Rattle.fx_graph_model.specs.Uses.{unknown_in}
 use Rattle.fx_store.specs.Groups.{AreJoinedWith}
 use Rattle.fx_store.specs.Kept.{IsKept, stored_of}
 use Rattle.fx_store.specs.UnderWay.{IsUnderWay}

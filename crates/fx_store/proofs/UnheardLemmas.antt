@@ -6,9 +6,9 @@ use Rattle.std.proofs.lemmas.List.{map_more}
 use Rattle.std.proofs.lemmas.List.Elements.{All-contains, filter_agree}
 use Rattle.std.proofs.lemmas.List.Folds.{list_any-append}
 use Rattle.fx_base.specs.declared.keys.Name.{Name}
-use Rattle.fx_changes.specs.Making.{with_listeners}
-use Rattle.fx_changes.specs.Refusals.{listen_refusal, of_graph_refusal, or_else, refused_if}
-use Rattle.fx_changes.specs.declared.errors.StoreError.TheVariants as error
+use Rattle.fx_store_model.specs.Making.{with_listeners}
+use Rattle.fx_store_model.specs.Refusals.{listen_refusal, of_graph_refusal, or_else, refused_if}
+use Rattle.fx_store_model.specs.declared.errors.StoreError.TheVariants as error
 use Rattle.fx_handles.specs.declared.Owner.{Owner}
 use Rattle.fx_handles.specs.Living.{IsSound, Register, is_same}
 use Rattle.fx_listen.specs.declared.entries.Listener.{Listener}
@@ -17,14 +17,14 @@ use Rattle.fx_listen.specs.Listening.{Table, add_refusal, after_add, after_forge
 use Rattle.fx_listen.proofs.Cuts.{filter-filter}
 use Rattle.fx_listen.proofs.Finding.{is_same-true}
 use Rattle.fx_listen.proofs.LivingLemmas.{living_in-removed}
-use Rattle.fx_pairs.specs.Pairs.{is_among}
-use Rattle.fx_properties.specs.declared.entries.Entry.{Entry}
-use Rattle.fx_properties.specs.declared.errors.GraphError.TheVariants as graph
-use Rattle.fx_properties.specs.Changes.{State}
-use Rattle.fx_properties.specs.Numbers.{numbers}
-use Rattle.fx_properties.specs.Uses.{unknown_in}
-use Rattle.fx_properties.proofs.Flags.{same_test}
-use Rattle.fx_properties.proofs.Members.{any_from}
+use Rattle.fx_store_pairs.specs.Pairs.{is_among}
+use Rattle.fx_graph_model.specs.declared.entries.Entry.{Entry}
+use Rattle.fx_graph_model.specs.declared.errors.GraphError.TheVariants as graph
+use Rattle.fx_graph_model.specs.Changes.{State}
+use Rattle.fx_graph_model.specs.Numbers.{numbers}
+use Rattle.fx_graph_model.specs.Uses.{unknown_in}
+use Rattle.fx_graph_model.proofs.Flags.{same_test}
+use Rattle.fx_graph_model.proofs.Members.{any_from}
 use Rattle.fx_store.specs.Kept.{stored_of}
 use Rattle.fx_store.proofs.KeepLemmas.{left_listener, living_in-added}
 

@@ -11,14 +11,14 @@ use Rattle.fx_listen.specs.declared.entries.Listener.{Listener}
 use Rattle.fx_listen.specs.declared.entries.ListenKind.TheVariants.{Change}
 use Rattle.fx_listen.specs.Listening.{is_live, living_in, same_kind}
 use Rattle.fx_listen.proofs.Cuts.{and-comm, filter-filter}
-use Rattle.fx_properties.specs.declared.entries.Entry.{Entry}
-use Rattle.fx_properties.specs.Changes.{AreKnown}
-use Rattle.fx_properties.specs.Eager.{eager}
-use Rattle.fx_properties.specs.Numbers.{numbers}
-use Rattle.fx_properties.specs.Uses.{unknown_in}
-use Rattle.fx_properties.specs.Unread.{evaluations_of}
-use Rattle.fx_properties.proofs.ManyReads.{evaluations_more}
-use Rattle.fx_pairs.specs.Pairs.{pairs_of}
+use Rattle.fx_graph_model.specs.declared.entries.Entry.{Entry}
+use Rattle.fx_graph_model.specs.Changes.{AreKnown}
+use Rattle.fx_graph_model.specs.Eager.{eager}
+use Rattle.fx_graph_model.specs.Numbers.{numbers}
+use Rattle.fx_graph_model.specs.Uses.{unknown_in}
+use Rattle.fx_graph_model.specs.Unread.{evaluations_of}
+use Rattle.fx_graph_model.proofs.ManyReads.{evaluations_more}
+use Rattle.fx_store_pairs.specs.Pairs.{pairs_of}
 use Rattle.fx_store.specs.Watching.{ends_of, heard_of, names_of, properties_of, values_of, watch_list}
 
 -- it is told of changed values

@@ -5,17 +5,17 @@ use Rattle.std.specs.List.{range_with_len}
 use Rattle.std.proofs.lemmas.Bool.{and_from, and_parts, and_right, both_ways, eq-eqb, eqb-true, false_from_ne_true, or_cases, or_left, or_right}
 use Rattle.std.proofs.lemmas.List.Elements.{All-contains, Contains-append_cases, Contains-append_left, Contains-append_right}
 use Rattle.std.proofs.lemmas.List.Concat.{flat_map-append}
-use Rattle.fx_changes.specs.Stored.{Stored, after_watching, is_heard, watched_names, with_unread}
+use Rattle.fx_store_model.specs.Stored.{Stored, after_watching, is_heard, watched_names, with_unread}
 use Rattle.fx_listen.specs.declared.entries.Listener.{Listener}
 use Rattle.fx_listen.specs.declared.entries.ListenKind.TheVariants.{Change}
 use Rattle.fx_listen.specs.Listening.{same_kind, tells}
-use Rattle.fx_pairs.specs.Pairs.{is_end, is_paired}
-use Rattle.fx_properties.specs.declared.entries.Entry.{Entry}
-use Rattle.fx_properties.specs.Unread.{IsClosed, after_reads, evaluations_of, marked}
-use Rattle.fx_properties.specs.Uses.{leads, unknown_in}
-use Rattle.fx_properties.proofs.Changed.{known_within}
-use Rattle.fx_properties.proofs.ManyReads.{evaluations_none, evaluations_same, marked-reads, reached-at, reads_again, reads_same}
-use Rattle.fx_properties.proofs.Members.{any_at, any_from, below_range, contains_cases, contains_filter, contains_first, contains_later, contains_map, filter_contains, in_range, map_contains, none_in_nil}
+use Rattle.fx_store_pairs.specs.Pairs.{is_end, is_paired}
+use Rattle.fx_graph_model.specs.declared.entries.Entry.{Entry}
+use Rattle.fx_graph_model.specs.Unread.{IsClosed, after_reads, evaluations_of, marked}
+use Rattle.fx_graph_model.specs.Uses.{leads, unknown_in}
+use Rattle.fx_graph_model.proofs.Changed.{known_within}
+use Rattle.fx_graph_model.proofs.ManyReads.{evaluations_none, evaluations_same, marked-reads, reached-at, reads_again, reads_same}
+use Rattle.fx_graph_model.proofs.Members.{any_at, any_from, below_range, contains_cases, contains_filter, contains_first, contains_later, contains_map, filter_contains, in_range, map_contains, none_in_nil}
 use Rattle.fx_store.specs.Kept.{AreAllRead, AreOnKnown, ArePaired}
 use Rattle.fx_store.specs.Watching.{ends_of, heard_of, names_of, watch_list}
 use Rattle.fx_store.proofs.Twins.{all_from, paired_known}

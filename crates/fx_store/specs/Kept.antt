@@ -5,13 +5,13 @@ use Rattle.fx_handles.specs.Living.{Register}
 use Rattle.fx_listen.specs.declared.entries.Listener.{Listener}
 use Rattle.fx_listen.specs.Listening.{Table, living_in}
 use Rattle.fx_listen.specs.Laws.{HasBornOwner}
-use Rattle.fx_properties.specs.declared.entries.Entry.{Entry}
-use Rattle.fx_properties.specs.declared.entries.Definition.TheVariants.{Base}
-use Rattle.fx_properties.specs.Changes.{State}
-use Rattle.fx_properties.specs.Refusals.{kind_at, read_only_in}
-use Rattle.fx_properties.specs.Unread.{marked}
-use Rattle.fx_properties.specs.Uses.{entry_of, unknown_in}
-use Rattle.fx_changes.specs.Stored.{Stored}
+use Rattle.fx_graph_model.specs.declared.entries.Entry.{Entry}
+use Rattle.fx_graph_model.specs.declared.entries.Definition.TheVariants.{Base}
+use Rattle.fx_graph_model.specs.Changes.{State}
+use Rattle.fx_graph_model.specs.Refusals.{kind_at, read_only_in}
+use Rattle.fx_graph_model.specs.Unread.{marked}
+use Rattle.fx_graph_model.specs.Uses.{entry_of, unknown_in}
+use Rattle.fx_store_model.specs.Stored.{Stored}
 use Rattle.fx_store.specs.Watching.{watch_list}
 
 -- only living listeners are seen

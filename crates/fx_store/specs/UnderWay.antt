@@ -1,15 +1,15 @@
 -- A change that was made in the graph, and that nobody was told of yet.
 use Rattle.std.specs.Prelude.{ℕ, ◌+◌, ◌≡◌, ◌≤◌, true, List, None, Ok}
 use Rattle.fx_base.specs.declared.values.Value.{Value}
-use Rattle.fx_changes.specs.declared.changes.Change.{Change}
-use Rattle.fx_changes.specs.declared.changes.Notices.{Notices}
-use Rattle.fx_changes.specs.Refusals.{IsChangeAnswer}
-use Rattle.fx_changes.specs.Step.{added_by, before_reads, due, newly}
-use Rattle.fx_changes.specs.Stored.{Stored}
+use Rattle.fx_store_model.specs.declared.changes.Change.{Change}
+use Rattle.fx_store_model.specs.declared.changes.Notices.{Notices}
+use Rattle.fx_store_model.specs.Refusals.{IsChangeAnswer}
+use Rattle.fx_store_model.specs.Step.{added_by, before_reads, due, newly}
+use Rattle.fx_store_model.specs.Stored.{Stored}
 use Rattle.fx_handles.specs.Living.{Register}
 use Rattle.fx_listen.specs.declared.entries.Listener.{Listener}
 use Rattle.fx_listen.specs.Listening.{Table, living_in}
-use Rattle.fx_properties.specs.Changes.{State}
+use Rattle.fx_graph_model.specs.Changes.{State}
 use Rattle.fx_store.specs.Kept.{IsKept, stored_of}
 use Rattle.fx_store.specs.Watching.{values_of, watch_list}
 

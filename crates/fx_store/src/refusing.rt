@@ -1,20 +1,20 @@
 //! Why a change may not be made. The store tests it before it changes anything.
 ghost use Rattle.std.specs.Prelude.{◌≡◌};
 ghost use Rattle.fx_listen.specs.Listening.{living_in};
-ghost use Rattle.fx_changes.specs.Refusals.{listen_refusal, pair_refusal, unlisten_refusal, unpair_refusal};
+ghost use Rattle.fx_store_model.specs.Refusals.{listen_refusal, pair_refusal, unlisten_refusal, unpair_refusal};
 
 use fx_base::Name;
-use fx_changes::StoreError;
+use fx_store_model::StoreError;
 use fx_graph::Graph;
 use fx_handles::{Owner, Owners};
 use fx_listen::{Listeners, has_life};
-use fx_pairs::Pairs;
+use fx_store_pairs::Pairs;
 
 /// The most pairs that there are at once.
 pub const MOST_PAIRS: usize = 10_000;
 
 /// Why the two may not be joined, if they may not.
-#[tactic(auto, unfolding(fx_changes::specs::Refusals::pair_refusal))]
+#[tactic(auto, unfolding(fx_store_model::specs::Refusals::pair_refusal))]
 pub fn of_pair(graph: &Graph, pairs: &Pairs, one: Name, other: Name) -> Option<StoreError>
     ensures { result ≡ pair_refusal one other graph.now.entries pairs.now }
 {
@@ -49,7 +49,7 @@ pub fn of_pair(graph: &Graph, pairs: &Pairs, one: Name, other: Name) -> Option<S
 }
 
 /// Why no pair of the two may be ended, if it may not.
-#[tactic(auto, unfolding(fx_changes::specs::Refusals::unpair_refusal))]
+#[tactic(auto, unfolding(fx_store_model::specs::Refusals::unpair_refusal))]
 pub fn of_unpair(graph: &Graph, one: Name, other: Name) -> Option<StoreError>
     ensures { result ≡ unpair_refusal one other graph.now.entries }
 {
@@ -66,7 +66,7 @@ pub fn of_unpair(graph: &Graph, one: Name, other: Name) -> Option<StoreError>
 }
 
 /// Why a listener with this owner may not be added, if it may not.
-#[tactic(auto, unfolding(fx_changes::specs::Refusals::listen_refusal))]
+#[tactic(auto, unfolding(fx_store_model::specs::Refusals::listen_refusal))]
 pub fn of_listen(
     graph: &Graph,
     listeners: &Listeners,
@@ -86,7 +86,7 @@ pub fn of_listen(
 }
 
 /// Why no listener with this owner may be removed, if it may not.
-#[tactic(auto, unfolding(fx_changes::specs::Refusals::unlisten_refusal))]
+#[tactic(auto, unfolding(fx_store_model::specs::Refusals::unlisten_refusal))]
 pub fn of_unlisten(
     graph: &Graph,
     owners: &Owners,

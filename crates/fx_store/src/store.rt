@@ -5,23 +5,23 @@ ghost use Rattle.fx_base.specs.Printing.{kind_of};
 ghost use Rattle.fx_graph.specs.Store.{origin_in};
 ghost use Rattle.fx_handles.specs.Living.{after_make};
 ghost use Rattle.fx_listen.specs.Listening.{is_live};
-ghost use Rattle.fx_properties.specs.Eager.{eager};
-ghost use Rattle.fx_properties.specs.Refusals.{declare_refusal, read_only_in};
-ghost use Rattle.fx_properties.specs.Unread.{after_reading, evaluations, marked};
-ghost use Rattle.fx_properties.specs.Uses.{bound_in};
-ghost use Rattle.fx_changes.specs.Applied.{Applied};
-ghost use Rattle.fx_changes.specs.Making.{with_owners, after_declared};
-ghost use Rattle.fx_changes.specs.Refusals.{IsAnswer, of_graph_refusal, unknown_of};
-ghost use Rattle.fx_changes.specs.Step.{IsFit, IsReadSome};
-ghost use Rattle.fx_changes.specs.Stored.{AreJoinedAlike, after_end, empty, with_unread};
+ghost use Rattle.fx_graph_model.specs.Eager.{eager};
+ghost use Rattle.fx_graph_model.specs.Refusals.{declare_refusal, read_only_in};
+ghost use Rattle.fx_graph_model.specs.Unread.{after_reading, evaluations, marked};
+ghost use Rattle.fx_graph_model.specs.Uses.{bound_in};
+ghost use Rattle.fx_store_model.specs.Applied.{Applied};
+ghost use Rattle.fx_store_model.specs.Making.{with_owners, after_declared};
+ghost use Rattle.fx_store_model.specs.Refusals.{IsAnswer, of_graph_refusal, unknown_of};
+ghost use Rattle.fx_store_model.specs.Step.{IsFit, IsReadSome};
+ghost use Rattle.fx_store_model.specs.Stored.{AreJoinedAlike, after_end, empty, with_unread};
 
 use fx_base::{Kind, Ledgers, Name, Value, Work};
-use fx_changes::{Change, Notices, StoreError};
+use fx_store_model::{Change, Notices, StoreError};
 use fx_graph::Graph;
 use fx_handles::{Owner, Owners};
 use fx_listen::Listeners;
-use fx_pairs::Pairs;
-use fx_properties::Origin;
+use fx_store_pairs::Pairs;
+use fx_graph_model::Origin;
 use std::alloc::Global;
 use std::marker::Model;
 
@@ -38,7 +38,7 @@ pub struct Store {
 }
 
 impl Model for Store {
-    ghost use Rattle.fx_changes.specs.Stored.{Stored};
+    ghost use Rattle.fx_store_model.specs.Stored.{Stored};
     ghost use Rattle.fx_expr.specs.contracts.tree.Expr as e;
     ghost use Rattle.std.specs.Coded.{codes};
 

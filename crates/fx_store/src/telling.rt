@@ -1,22 +1,22 @@
 //! What a change tells, after it was made.
 ghost use Rattle.std.specs.Prelude.{ℕ, List, ◌≡◌, ◌++◌, ◌∷◌, ◌≤◌, ◌+◌, [], None, cond, length, map, take, IfOk, OnOk};
 ghost use Rattle.std.specs.List.{flat_map};
-ghost use Rattle.fx_changes.specs.Step.{changed_notice, changed_notices, invalid_notices};
+ghost use Rattle.fx_store_model.specs.Step.{changed_notice, changed_notices, invalid_notices};
 ghost use Rattle.fx_listen.specs.Listening.{living_in};
-ghost use Rattle.fx_properties.specs.declared.entries.Entry.{Entry};
-ghost use Rattle.fx_properties.specs.Equality.{same_value};
-ghost use Rattle.fx_properties.specs.Numbers.{numbers};
-ghost use Rattle.fx_properties.specs.Unread.{evaluations_of};
-ghost use Rattle.fx_properties.specs.Changes.{AreKnown, after_read_all, IsSomeRead};
+ghost use Rattle.fx_graph_model.specs.declared.entries.Entry.{Entry};
+ghost use Rattle.fx_graph_model.specs.Equality.{same_value};
+ghost use Rattle.fx_graph_model.specs.Numbers.{numbers};
+ghost use Rattle.fx_graph_model.specs.Unread.{evaluations_of};
+ghost use Rattle.fx_graph_model.specs.Changes.{AreKnown, after_read_all, IsSomeRead};
 ghost use Rattle.fx_store.specs.Watching.{IsWatch, values_of};
 
 use crate::watching::Watched;
 use fx_base::{Ledgers, Name, Value, Work};
-use fx_changes::Notices;
+use fx_store_model::Notices;
 use fx_graph::Graph;
 use fx_handles::Owners;
 use fx_listen::{ListenKind, Listener, Listeners};
-use fx_properties::are_same;
+use fx_graph_model::are_same;
 use std::alloc::{AllocError, Global};
 
 /// One notice for each of these listeners of the property.

@@ -1,11 +1,11 @@
 //! What a change step looks at before the change, and the reads after it.
 ghost use Rattle.std.specs.Prelude.{ℕ, ◌≡◌, ◌++◌, ◌∷◌, ◌≤◌, ◌+◌, [], false, All, IfOk, OnOk};
 ghost use Rattle.fx_listen.specs.Listening.{living_in};
-ghost use Rattle.fx_properties.specs.Numbers.{numbers};
-ghost use Rattle.fx_properties.specs.Uses.{unknown_in};
-ghost use Rattle.fx_properties.specs.Unread.{evaluations_of};
-ghost use Rattle.fx_properties.specs.Changes.{after_read_all, IsSomeRead};
-ghost use Rattle.fx_pairs.specs.Pairs.{pairs_of};
+ghost use Rattle.fx_graph_model.specs.Numbers.{numbers};
+ghost use Rattle.fx_graph_model.specs.Uses.{unknown_in};
+ghost use Rattle.fx_graph_model.specs.Unread.{evaluations_of};
+ghost use Rattle.fx_graph_model.specs.Changes.{after_read_all, IsSomeRead};
+ghost use Rattle.fx_store_pairs.specs.Pairs.{pairs_of};
 ghost use Rattle.fx_store.specs.Watching.{IsWatch, ends_of, heard_of, names_of, properties_of, watch_list};
 
 use fx_base::{Ledgers, Name, Value, Work};

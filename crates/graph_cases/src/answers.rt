@@ -1,7 +1,7 @@
 //! What is printed of answers, values and states.
 use fx_base::{Name, Value};
 use fx_graph::Graph;
-use fx_properties::GraphError;
+use fx_graph_model::GraphError;
 use std::alloc::{AllocError, Global};
 
 /// The flags of so many names are printed.

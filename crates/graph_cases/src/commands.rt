@@ -5,7 +5,7 @@ use anyhow::bail;
 use fx_base::{Ledgers, Value, Work};
 use fx_expr::read_expr;
 use fx_graph::Graph;
-use fx_properties::Origin;
+use fx_graph_model::Origin;
 use std::alloc::Global;
 use std::str::Split;
 

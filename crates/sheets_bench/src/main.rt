@@ -8,7 +8,7 @@ mod sheets;
 use anyhow::bail;
 use fx_kinds::StyleFacts;
 use fx_select::RuleIndex;
-use fx_sheet::SheetAt;
+use fx_css_types::SheetAt;
 use nodes::{nodes, stand_before};
 use sheets::{are_short, read, sheet_text};
 use std::alloc::Global;

@@ -5,7 +5,7 @@ ghost use Rattle.fx_select.specs.Specificity.{part_count};
 
 use anyhow::anyhow;
 use fx_css::read_sheet;
-use fx_sheet::{Rule, Selector, SheetAt, SheetOrigin};
+use fx_css_types::{Rule, Selector, SheetAt, SheetOrigin};
 use std::alloc::{AllocError, Global};
 
 /// What stands before each rule of a sheet with comments.

@@ -1,7 +1,7 @@
 //! What is printed of answers, values, notices and states.
 use crate::commands::Run;
 use fx_base::{Name, Value};
-use fx_changes::{Notices, StoreError};
+use fx_store_model::{Notices, StoreError};
 use std::alloc::{AllocError, Global};
 
 /// The flags of so many properties are printed.

@@ -1,5 +1,5 @@
 use Rattle.std.proofs.Common.{◌∙◌, ap}
-use Rattle.fx_markup.specs.Grammar.{same_name, import_name}
+use Rattle.fx_doc_grammar.specs.Grammar.{same_name, import_name}
 use Rattle.fx_doc.proofs.Names.{pointwise_same}
 use Rattle.fx_doc.proofs.imports.is_import.Goals as goal
 

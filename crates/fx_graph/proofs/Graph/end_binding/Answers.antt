@@ -1,8 +1,8 @@
 use Rattle.std.proofs.Common.{◌≡◌, true, List, length, ap, ◌∙◌, arith}
 use Rattle.std.proofs.lemmas.List.{with_items_is}
-use Rattle.fx_properties.specs.declared.entries.Entry.{Entry}
-use Rattle.fx_properties.specs.Uses.{uses, bound_in}
-use Rattle.fx_properties.proofs.Binding.{operand_count-uses}
+use Rattle.fx_graph_model.specs.declared.entries.Entry.{Entry}
+use Rattle.fx_graph_model.specs.Uses.{uses, bound_in}
+use Rattle.fx_graph_model.proofs.Binding.{operand_count-uses}
 use Rattle.fx_graph.proofs.UnbindLemmas.{store_unbound}
 use Rattle.fx_graph.proofs.Graph.end_binding.Goals as goal
 

@@ -1,7 +1,7 @@
 use Rattle.std.proofs.Common.{subst}
-use Rattle.fx_properties.specs.Changes.{State}
-use Rattle.fx_properties.specs.Sound.{IsAcyclic}
-use Rattle.fx_properties.proofs.Walks.{acyclic}
+use Rattle.fx_graph_model.specs.Changes.{State}
+use Rattle.fx_graph_model.specs.Sound.{IsAcyclic}
+use Rattle.fx_graph_model.proofs.Walks.{acyclic}
 use Rattle.fx_graph.proofs.Graph.laws.Goals as goal
 
 pub returns-clause-acyclic : goal.returns-clause-acyclic

@@ -2,11 +2,11 @@ use Rattle.std.proofs.Common.{◌≡◌, true, length, ap, ◌∙◌, arith}
 use Rattle.std.proofs.lemmas.List.{with_items_is, length-map}
 use Rattle.fx_base.specs.declared.keys.Name.{Name}
 use Rattle.fx_expr.specs.Tree.{tree, is_within}
-use Rattle.fx_properties.specs.Numbers.{numbers}
-use Rattle.fx_properties.specs.Uses.{uses}
-use Rattle.fx_properties.proofs.Changed.{known_within}
-use Rattle.fx_properties.proofs.Binding.{operand_count-uses}
-use Rattle.fx_properties.proofs.Refusing.{bindable}
+use Rattle.fx_graph_model.specs.Numbers.{numbers}
+use Rattle.fx_graph_model.specs.Uses.{uses}
+use Rattle.fx_graph_model.proofs.Changed.{known_within}
+use Rattle.fx_graph_model.proofs.Binding.{operand_count-uses}
+use Rattle.fx_graph_model.proofs.Refusing.{bindable}
 use Rattle.fx_graph.proofs.BindLemmas.{bind_ranked, store_roomier, store_bound}
 use Rattle.fx_graph.proofs.Graph.make_binding.Goals as goal
 

@@ -1,10 +1,10 @@
 use Rattle.std.proofs.Common.{◌≡◌, true, false, List, length, refl, sym, ap, inl, ◌∙◌}
 use Rattle.std.proofs.lemmas.List.{with_items_is}
 use Rattle.std.proofs.lemmas.Result.{err_from_is_err_and}
-use Rattle.fx_properties.specs.declared.entries.Entry.{Entry}
-use Rattle.fx_properties.specs.Uses.{unknown_in}
-use Rattle.fx_properties.specs.Unread.{marked}
-use Rattle.fx_properties.proofs.Changed.{known_within}
+use Rattle.fx_graph_model.specs.declared.entries.Entry.{Entry}
+use Rattle.fx_graph_model.specs.Uses.{unknown_in}
+use Rattle.fx_graph_model.specs.Unread.{marked}
+use Rattle.fx_graph_model.proofs.Changed.{known_within}
 use Rattle.fx_graph.proofs.StoreLemmas.{store_read}
 use Rattle.fx_graph.proofs.Graph.read.Goals as goal
 

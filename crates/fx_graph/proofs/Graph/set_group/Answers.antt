@@ -1,7 +1,7 @@
 use Rattle.std.proofs.Common.{List, refl, sym, ap, ◌∙◌, inl}
 use Rattle.std.proofs.lemmas.Result.{err_from_is_err_and}
-use Rattle.fx_properties.specs.declared.entries.Entry.{Entry}
-use Rattle.fx_properties.specs.Refusals.{set_refusal}
+use Rattle.fx_graph_model.specs.declared.entries.Entry.{Entry}
+use Rattle.fx_graph_model.specs.Refusals.{set_refusal}
 use Rattle.fx_graph.proofs.AllowedLemmas.{set_allowed}
 use Rattle.fx_graph.proofs.Graph.set_group.Goals as goal
 

@@ -1,6 +1,6 @@
 use Rattle.std.proofs.Common.{sym}
-use Rattle.fx_properties.proofs.Changed.{known_within}
-use Rattle.fx_properties.proofs.Kept.{eager-own}
+use Rattle.fx_graph_model.proofs.Changed.{known_within}
+use Rattle.fx_graph_model.proofs.Kept.{eager-own}
 use Rattle.fx_graph.proofs.asking.own_value.Goals as goal
 
 pub returns : goal.returns

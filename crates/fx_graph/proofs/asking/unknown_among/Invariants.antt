@@ -1,5 +1,5 @@
 use Rattle.std.proofs.Common.{◌≡◌, drop}
-use Rattle.fx_properties.specs.Refusals.{unknown_name}
+use Rattle.fx_graph_model.specs.Refusals.{unknown_name}
 use Rattle.fx_graph.proofs.asking.unknown_among.Given as goal
 
 abbrev pub invariant-loop-name : goal.invariant-loop-name

@@ -1,10 +1,10 @@
 use Rattle.std.proofs.Common.{[], ◌∷◌, arith}
-use Rattle.fx_properties.specs.Changes.{bound_to, with_binding}
-use Rattle.fx_properties.specs.Marking.{IsClosedBut}
-use Rattle.fx_properties.specs.Numbers.{numbers}
-use Rattle.fx_properties.specs.Uses.{entry_of}
-use Rattle.fx_properties.proofs.Binding.{closed_bound}
-use Rattle.fx_properties.proofs.Flags.{unmarked_most}
+use Rattle.fx_graph_model.specs.Changes.{bound_to, with_binding}
+use Rattle.fx_graph_model.specs.Marking.{IsClosedBut}
+use Rattle.fx_graph_model.specs.Numbers.{numbers}
+use Rattle.fx_graph_model.specs.Uses.{entry_of}
+use Rattle.fx_graph_model.proofs.Binding.{closed_bound}
+use Rattle.fx_graph_model.proofs.Flags.{unmarked_most}
 use Rattle.fx_graph.proofs.BindLemmas.{marks_one}
 use Rattle.fx_graph.proofs.binding.bind_linked.Goals as goal
 

@@ -1,7 +1,7 @@
 use Rattle.std.proofs.Common.{sym, ap}
-use Rattle.fx_properties.specs.Changes.{bound_to}
-use Rattle.fx_properties.specs.Numbers.{numbers}
-use Rattle.fx_properties.specs.Uses.{entry_of}
+use Rattle.fx_graph_model.specs.Changes.{bound_to}
+use Rattle.fx_graph_model.specs.Numbers.{numbers}
+use Rattle.fx_graph_model.specs.Uses.{entry_of}
 use Rattle.fx_graph.proofs.binding.bind_name.Goals as goal
 
 pub relink-requires-clause-operands : goal.relink-requires-clause-operands

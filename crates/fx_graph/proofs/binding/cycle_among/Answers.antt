@@ -1,8 +1,8 @@
 use Rattle.std.proofs.Common.{◌≡◌, [], ◌∷◌, List, Bool, length, sym, subst, ap, ◌∙◌, arith}
 use Rattle.std.proofs.lemmas.List.{length-replicate}
-use Rattle.fx_properties.specs.Marking.{IsClosedBut}
-use Rattle.fx_properties.proofs.Flags.{unmarked_most}
-use Rattle.fx_properties.proofs.Refusing.{closed_blank}
+use Rattle.fx_graph_model.specs.Marking.{IsClosedBut}
+use Rattle.fx_graph_model.proofs.Flags.{unmarked_most}
+use Rattle.fx_graph_model.proofs.Refusing.{closed_blank}
 use Rattle.fx_graph.proofs.BindLemmas.{marks_one, marked_leads}
 use Rattle.fx_graph.proofs.binding.cycle_among.Goals as goal
 

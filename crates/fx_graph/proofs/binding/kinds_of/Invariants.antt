@@ -1,6 +1,6 @@
 use Rattle.std.proofs.Common.{◌≡◌, map, take}
-use Rattle.fx_properties.specs.Numbers.{numbers}
-use Rattle.fx_properties.specs.Refusals.{kind_at}
+use Rattle.fx_graph_model.specs.Numbers.{numbers}
+use Rattle.fx_graph_model.specs.Refusals.{kind_at}
 use Rattle.fx_graph.proofs.binding.kinds_of.Given as goal
 
 abbrev pub invariant-loop-operand : goal.invariant-loop-operand

@@ -1,6 +1,6 @@
 use Rattle.std.proofs.Common.{ℕ, take, Contains}
-use Rattle.fx_properties.specs.Numbers.{numbers}
-use Rattle.fx_properties.specs.Users.{users_of}
+use Rattle.fx_graph_model.specs.Numbers.{numbers}
+use Rattle.fx_graph_model.specs.Users.{users_of}
 use Rattle.fx_graph.proofs.forgetting.bound_outside.Given as goal
 
 abbrev pub invariant-loop-name : goal.invariant-loop-name

@@ -1,6 +1,6 @@
 use Rattle.std.proofs.Common.{arith}
-use Rattle.fx_properties.specs.Numbers.{name_of}
-use Rattle.fx_edges.proofs.RowLemmas.{number_at}
+use Rattle.fx_graph_model.specs.Numbers.{name_of}
+use Rattle.fx_graph_edges.proofs.RowLemmas.{number_at}
 use Rattle.fx_graph.proofs.forgetting.forget_names.Goals as goal
 
 pub forget_one-left-requires-clause-known : goal.forget_one-left-requires-clause-known

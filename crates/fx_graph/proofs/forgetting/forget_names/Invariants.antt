@@ -1,8 +1,8 @@
 use Rattle.std.proofs.Common.{◌≡◌, ◌≤◌, drop}
-use Rattle.fx_properties.specs.Changes.{forget_all, clear_all}
-use Rattle.fx_properties.specs.Numbers.{numbers}
-use Rattle.fx_properties.specs.Refusals.{operand_count}
-use Rattle.fx_properties.specs.Users.{Mirrors}
+use Rattle.fx_graph_model.specs.Changes.{forget_all, clear_all}
+use Rattle.fx_graph_model.specs.Numbers.{numbers}
+use Rattle.fx_graph_model.specs.Refusals.{operand_count}
+use Rattle.fx_graph_model.specs.Users.{Mirrors}
 use Rattle.fx_graph.specs.Forgotten.{reset}
 use Rattle.fx_graph.proofs.forgetting.forget_names.Given as goal
 

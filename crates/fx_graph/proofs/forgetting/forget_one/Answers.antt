@@ -1,8 +1,8 @@
 use Rattle.std.proofs.Common.{refl, arith}
-use Rattle.fx_properties.specs.Uses.{entry_of}
-use Rattle.fx_properties.specs.Changes.{forgotten}
-use Rattle.fx_properties.proofs.Binding.{operand_count-set, operand_count-uses}
-use Rattle.fx_properties.proofs.Edges.{mirrors_plain}
+use Rattle.fx_graph_model.specs.Uses.{entry_of}
+use Rattle.fx_graph_model.specs.Changes.{forgotten}
+use Rattle.fx_graph_model.proofs.Binding.{operand_count-set, operand_count-uses}
+use Rattle.fx_graph_model.proofs.Edges.{mirrors_plain}
 use Rattle.fx_graph.proofs.UnbindLemmas.{used_within}
 use Rattle.fx_graph.proofs.forgetting.forget_one.Goals as goal
 

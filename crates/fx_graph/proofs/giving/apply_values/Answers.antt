@@ -1,9 +1,9 @@
 use Rattle.std.proofs.Common.{inl}
 use Rattle.std.proofs.lemmas.List.Elements.{All-contains}
-use Rattle.fx_properties.specs.Changes.{with_values, changed}
-use Rattle.fx_properties.specs.Marking.{IsClosedBut}
-use Rattle.fx_properties.proofs.Changed.{known_within}
-use Rattle.fx_properties.proofs.Given.{ranked_given, mirrors_given, uses-given}
+use Rattle.fx_graph_model.specs.Changes.{with_values, changed}
+use Rattle.fx_graph_model.specs.Marking.{IsClosedBut}
+use Rattle.fx_graph_model.proofs.Changed.{known_within}
+use Rattle.fx_graph_model.proofs.Given.{ranked_given, mirrors_given, uses-given}
 use Rattle.fx_graph.specs.Given.{IsBase}
 use Rattle.fx_graph.proofs.giving.apply_values.Goals as goal
 

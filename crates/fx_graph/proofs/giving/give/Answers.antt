@@ -1,9 +1,9 @@
 use Rattle.std.proofs.Common.{◌≡◌, ◌<◌, ◌+◌, length, List, drop, set, ap, ◌∙◌, arith}
 use Rattle.fx_base.specs.declared.keys.Name.{Name}
 use Rattle.fx_base.specs.declared.values.Value.{Value}
-use Rattle.fx_properties.specs.declared.entries.Entry.{Entry}
-use Rattle.fx_properties.specs.Uses.{entry_of}
-use Rattle.fx_properties.specs.Changes.{given, with_values}
+use Rattle.fx_graph_model.specs.declared.entries.Entry.{Entry}
+use Rattle.fx_graph_model.specs.Uses.{entry_of}
+use Rattle.fx_graph_model.specs.Changes.{given, with_values}
 use Rattle.fx_graph.proofs.GivenLemmas.{at_item, prepared_at, prepared_less, given_more}
 use Rattle.fx_graph.proofs.giving.give.Goals as goal
 

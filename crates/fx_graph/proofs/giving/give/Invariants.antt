@@ -1,5 +1,5 @@
 use Rattle.std.proofs.Common.{◌≡◌, drop, length}
-use Rattle.fx_properties.specs.Changes.{with_values}
+use Rattle.fx_graph_model.specs.Changes.{with_values}
 use Rattle.fx_graph.specs.Given.{ArePrepared}
 use Rattle.fx_graph.proofs.giving.give.Given as goal
 

@@ -1,8 +1,8 @@
 use Rattle.std.proofs.Common.{arith}
 use Rattle.std.proofs.lemmas.List.{take_all}
-use Rattle.fx_properties.proofs.Changed.{known_within}
-use Rattle.fx_properties.proofs.Flags.{unmarked_most}
-use Rattle.fx_properties.proofs.MarkSteps.{marks_none}
+use Rattle.fx_graph_model.proofs.Changed.{known_within}
+use Rattle.fx_graph_model.proofs.Flags.{unmarked_most}
+use Rattle.fx_graph_model.proofs.MarkSteps.{marks_none}
 use Rattle.fx_graph.specs.Given.{IsBase}
 use Rattle.fx_graph.proofs.GivenLemmas.{at_item, changed_more, marks_both}
 use Rattle.fx_graph.proofs.giving.mark_changed.Goals as goal

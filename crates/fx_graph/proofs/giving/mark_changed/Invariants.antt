@@ -1,6 +1,6 @@
 use Rattle.std.proofs.Common.{take}
-use Rattle.fx_properties.specs.Changes.{changed}
-use Rattle.fx_properties.specs.Marking.{MarksAll}
+use Rattle.fx_graph_model.specs.Changes.{changed}
+use Rattle.fx_graph_model.specs.Marking.{MarksAll}
 use Rattle.fx_graph.proofs.giving.mark_changed.Given as goal
 
 abbrev pub invariant-loop-pair : goal.invariant-loop-pair

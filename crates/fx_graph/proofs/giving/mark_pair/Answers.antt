@@ -1,7 +1,7 @@
 use Rattle.std.proofs.Common.{◌≡◌, [], ◌∷◌, cond, ◌∙◌, ap, Bool, ◌<◌, length, arith}
-use Rattle.fx_properties.specs.Eager.{eager}
-use Rattle.fx_properties.specs.Changes.{changed}
-use Rattle.fx_properties.proofs.MarkSteps.{marks_none, marks_more}
+use Rattle.fx_graph_model.specs.Eager.{eager}
+use Rattle.fx_graph_model.specs.Changes.{changed}
+use Rattle.fx_graph_model.proofs.MarkSteps.{marks_none, marks_more}
 use Rattle.fx_graph.proofs.GivenLemmas.{changed-one}
 use Rattle.fx_graph.proofs.giving.mark_pair.Goals as goal
 

@@ -1,4 +1,4 @@
-use Rattle.fx_properties.proofs.Members.{none_in_nil}
+use Rattle.fx_graph_model.proofs.Members.{none_in_nil}
 use Rattle.fx_graph.proofs.reading.first_unread.Goals as goal
 
 pub loop-operand-init : goal.loop-operand-init

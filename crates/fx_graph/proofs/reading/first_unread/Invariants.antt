@@ -1,6 +1,6 @@
 use Rattle.std.proofs.Common.{◌≡◌, ℕ, false, take, Contains}
-use Rattle.fx_properties.specs.Numbers.{numbers}
-use Rattle.fx_properties.specs.Unread.{marked}
+use Rattle.fx_graph_model.specs.Numbers.{numbers}
+use Rattle.fx_graph_model.specs.Unread.{marked}
 use Rattle.fx_graph.proofs.reading.first_unread.Given as goal
 
 abbrev pub invariant-loop-operand : goal.invariant-loop-operand

@@ -1,4 +1,4 @@
-use Rattle.fx_properties.proofs.Reading.{part_none, part_end}
+use Rattle.fx_graph_model.proofs.Reading.{part_none, part_end}
 use Rattle.fx_graph.proofs.reading.settle.Goals as goal
 
 pub returns-then-not-unread-name-clause-ok : goal.returns-then-not-unread-name-clause-ok

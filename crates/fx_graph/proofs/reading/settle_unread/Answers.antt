@@ -1,8 +1,8 @@
 use Rattle.std.proofs.Common.{◌-◌, slice_index, refl, ap, ◌∙◌, arith}
 use Rattle.std.proofs.lemmas.Result.{err_from_is_err_and}
 use Rattle.fx_base.specs.declared.work.Work.{Work}
-use Rattle.fx_properties.proofs.Flags.{marked_within}
-use Rattle.fx_properties.proofs.Reading.{settles_start, read_value, measure-push}
+use Rattle.fx_graph_model.proofs.Flags.{marked_within}
+use Rattle.fx_graph_model.proofs.Reading.{settles_start, read_value, measure-push}
 use Rattle.fx_graph.proofs.ReadLemmas.{reads_from, room_above, push, pop, evaluable, cost_failed, cost_ended, pop_smaller, ended}
 use Rattle.fx_graph.proofs.reading.settle_unread.Goals as goal
 

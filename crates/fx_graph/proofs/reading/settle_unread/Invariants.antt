@@ -1,5 +1,5 @@
 use Rattle.std.proofs.Common.{◌≡◌}
-use Rattle.fx_properties.proofs.Reading.{measure}
+use Rattle.fx_graph_model.proofs.Reading.{measure}
 use Rattle.fx_graph.proofs.ReadLemmas.{Reads}
 use Rattle.fx_graph.proofs.reading.settle_unread.Given as goal
 

@@ -1,5 +1,5 @@
 use Rattle.std.proofs.Common.{◌≡◌, drop}
-use Rattle.fx_properties.specs.Refusals.{wrong_kind}
+use Rattle.fx_graph_model.specs.Refusals.{wrong_kind}
 use Rattle.fx_graph.proofs.refusals.misfit.Given as goal
 
 abbrev pub invariant-loop-pair : goal.invariant-loop-pair

@@ -1,5 +1,5 @@
 use Rattle.std.proofs.Common.{◌≡◌, drop}
-use Rattle.fx_properties.specs.Refusals.{unknown_name, pair_names}
+use Rattle.fx_graph_model.specs.Refusals.{unknown_name, pair_names}
 use Rattle.fx_graph.proofs.refusals.unknown_pair.Given as goal
 
 abbrev pub invariant-loop-pair : goal.invariant-loop-pair

@@ -5,13 +5,13 @@ use Rattle.std.proofs.lemmas.List.{get_or_past}
 use Rattle.std.proofs.lemmas.List.FromFn.{length-range_with_len}
 use Rattle.std.proofs.lemmas.Result.{on_ok_weaker}
 use Rattle.std.specs.List.{range_with_len}
-use Rattle.fx_properties.specs.declared.entries.Entry.{Entry}
-use Rattle.fx_properties.specs.Uses.{bound_in, leads}
-use Rattle.fx_properties.specs.Unread.{marked, after_reading, bound_unread, evaluations}
-use Rattle.fx_properties.specs.Changes.{State}
-use Rattle.fx_properties.proofs.Flags.{marked-by, length-by}
-use Rattle.fx_properties.proofs.Members.{tally_most}
-use Rattle.fx_properties.proofs.Walks.{leads-refl}
+use Rattle.fx_graph_model.specs.declared.entries.Entry.{Entry}
+use Rattle.fx_graph_model.specs.Uses.{bound_in, leads}
+use Rattle.fx_graph_model.specs.Unread.{marked, after_reading, bound_unread, evaluations}
+use Rattle.fx_graph_model.specs.Changes.{State}
+use Rattle.fx_graph_model.proofs.Flags.{marked-by, length-by}
+use Rattle.fx_graph_model.proofs.Members.{tally_most}
+use Rattle.fx_graph_model.proofs.Walks.{leads-refl}
 use Rattle.fx_graph.proofs.tests.read_twice.Goals as goal
 
 read_off : (es : List Entry) (name : ℕ) (flags : List Bool) → marked (after_reading es name flags) name ≡ false

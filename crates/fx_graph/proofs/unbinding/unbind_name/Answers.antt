@@ -1,6 +1,6 @@
 use Rattle.std.proofs.Common.{refl}
-use Rattle.fx_properties.proofs.Binding.{settled_unbound}
-use Rattle.fx_properties.proofs.Edges.{mirrors_plain}
+use Rattle.fx_graph_model.proofs.Binding.{settled_unbound}
+use Rattle.fx_graph_model.proofs.Edges.{mirrors_plain}
 use Rattle.fx_graph.proofs.UnbindLemmas.{used_within}
 use Rattle.fx_graph.proofs.unbinding.unbind_name.Goals as goal
 

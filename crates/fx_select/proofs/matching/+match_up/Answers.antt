@@ -1,6 +1,6 @@
 use Rattle.std.proofs.Common.{◌≡◌, ℕ, false, [], reverse, Option, Some, sym, ◌∙◌, ap, subst}
-use Rattle.fx_sheet.specs.declared.selectors.Combinator.{Combinator}
-use Rattle.fx_sheet.specs.declared.selectors.Combinator.TheVariants.{Descendant, Child}
+use Rattle.fx_css_types.specs.declared.selectors.Combinator.{Combinator}
+use Rattle.fx_css_types.specs.declared.selectors.Combinator.TheVariants.{Descendant, Child}
 use Rattle.fx_select.specs.Chains.{upward}
 use Rattle.fx_select.specs.Matching.{IsVerdict, matches_before, matches_up, somewhere}
 use Rattle.fx_select.proofs.ChainLemmas.{parent-there, upward-none}

@@ -1,6 +1,6 @@
 use Rattle.std.proofs.Common.{◌≡◌, ◌++◌, take}
-use Rattle.fx_properties.specs.Numbers.{numbers}
-use Rattle.fx_pairs.specs.Pairs.{pairs_of}
+use Rattle.fx_graph_model.specs.Numbers.{numbers}
+use Rattle.fx_store_pairs.specs.Pairs.{pairs_of}
 use Rattle.fx_store.specs.Watching.{ends_of}
 use Rattle.fx_store.proofs.watching.push_ends.Given as goal
 

@@ -1,5 +1,5 @@
 use Rattle.fx_listen.specs.Listening.{living_in}
-use Rattle.fx_pairs.specs.Pairs.{pairs_of}
+use Rattle.fx_store_pairs.specs.Pairs.{pairs_of}
 use Rattle.fx_store.proofs.WatchLemmas.{first_cost, first_is, first_known, first_values, watch_is}
 use Rattle.fx_store.proofs.watching.watch.Goals as goal
 

@@ -1,6 +1,6 @@
 use Rattle.std.proofs.Common.{ℕ, List, ◌++◌, ap, ◌∙◌}
-use Rattle.fx_properties.specs.Numbers.{numbers}
-use Rattle.fx_pairs.specs.Pairs.{pairs_of}
+use Rattle.fx_graph_model.specs.Numbers.{numbers}
+use Rattle.fx_store_pairs.specs.Pairs.{pairs_of}
 use Rattle.fx_store.specs.Watching.{ends_of}
 use Rattle.fx_store.proofs.WatchLemmas.{numbers_heard}
 use Rattle.fx_store.proofs.watching.watched_names.Goals as goal

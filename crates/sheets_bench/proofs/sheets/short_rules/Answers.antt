@@ -2,7 +2,7 @@ use Rattle.std.proofs.Common.{refl, sym, subst}
 use Rattle.std.specs.Prelude.{IsTrue}
 use Rattle.std.proofs.lemmas.List.{take_all}
 use Rattle.std.proofs.lemmas.List.Elements.{All-more}
-use Rattle.fx_sheet.specs.declared.sheets.Rule.{Rule}
+use Rattle.fx_css_types.specs.declared.sheets.Rule.{Rule}
 use Rattle.fx_select.specs.Short.{AreShortSelectors, AreShortRules}
 use Rattle.sheets_bench.proofs.sheets.short_rules.Goals as goal
 

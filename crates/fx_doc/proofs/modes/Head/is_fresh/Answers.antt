@@ -1,6 +1,6 @@
 use Rattle.std.proofs.Common.{take, not, ◌&&◌, refl, ap, sym, ◌∙◌}
 use Rattle.std.specs.String.{string_bytes}
-use Rattle.fx_markup.specs.Grammar.{is_among}
+use Rattle.fx_doc_grammar.specs.Grammar.{is_among}
 use Rattle.fx_doc.specs.Attributes.{names_of, later_names}
 use Rattle.fx_doc.proofs.Names.{fresh_is}
 use Rattle.fx_doc.proofs.modes.Head.is_fresh.Goals as goal

@@ -1,7 +1,7 @@
 use Rattle.std.proofs.Common.{◌∷◌, ◌++◌, [], cond, ap, sym, ◌∙◌}
 use Rattle.std.specs.String.{string_bytes}
 use lib.Dec.{leb}
-use Rattle.fx_markup.specs.Grammar.{is_among}
+use Rattle.fx_doc_grammar.specs.Grammar.{is_among}
 use Rattle.fx_doc.specs.Attributes.{later_names}
 use Rattle.fx_doc.proofs.Names.{later_push}
 use Rattle.fx_doc.proofs.Stacks.{head_push}

@@ -1,6 +1,6 @@
 use Rattle.std.proofs.Common.{ap, ◌∙◌, subst, Option}
-use Rattle.fx_markup.specs.Grammar.{Level as LevelView, closed, one_child}
-use Rattle.fx_markup.specs.Machine.{State}
+use Rattle.fx_doc_grammar.specs.Grammar.{Level as LevelView, closed, one_child}
+use Rattle.fx_doc_grammar.specs.Machine.{State}
 use Rattle.fx_doc.specs.Views.{nodes_of, level_view, head_view, stack_view, Moves}
 use Rattle.fx_doc.specs.declared.modes.Level.{Level}
 use Rattle.fx_doc.proofs.Trees.{stack_push, close_is}

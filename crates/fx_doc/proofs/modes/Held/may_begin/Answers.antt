@@ -1,5 +1,5 @@
 use Rattle.std.proofs.Common.{◌||◌, sym, ap, ◌∙◌}
-use Rattle.fx_markup.specs.Machine.{is_nothing}
+use Rattle.fx_doc_grammar.specs.Machine.{is_nothing}
 use Rattle.fx_doc.specs.Views.{nodes_of}
 use Rattle.fx_doc.proofs.Trees.{nothing_is}
 use Rattle.fx_doc.proofs.modes.Held.may_begin.Goals as goal

@@ -1,5 +1,5 @@
 use Rattle.std.proofs.Common.{ap, ◌∙◌}
-use Rattle.fx_markup.specs.Machine.{Opened}
+use Rattle.fx_doc_grammar.specs.Machine.{Opened}
 use Rattle.fx_doc.specs.Views.{level_view, head_view, stack_view}
 use Rattle.fx_doc.specs.declared.modes.Level.{Level}
 use Rattle.fx_doc.proofs.Trees.{stack_push, held_same}

@@ -1,6 +1,6 @@
 use Rattle.std.proofs.Common.{ap, ◌∙◌}
 use Rattle.std.specs.String.{string_bytes}
-use Rattle.fx_drafts.specs.declared.drafts.Draft.{Draft}
+use Rattle.fx_doc_drafts.specs.declared.drafts.Draft.{Draft}
 use Rattle.fx_doc.proofs.Trees.{kept_run}
 use Rattle.fx_doc.proofs.modes.Level.keep_run.Goals as goal
 

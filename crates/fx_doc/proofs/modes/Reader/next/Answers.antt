@@ -1,8 +1,8 @@
 use Rattle.std.proofs.Common.{◌≡◌, ◌∙◌, ap, sym, subst, Some, Err, Option}
-use Rattle.fx_markup.specs.Machine.{State, step, sign_place}
+use Rattle.fx_doc_grammar.specs.Machine.{State, step, sign_place}
 use Rattle.fx_doc.specs.Views.{view, stepped, Steps}
 use Rattle.fx_doc.specs.Reads.{IsStep}
-use Rattle.fx_drafts.specs.declared.drafts.Halt.{Halt}
+use Rattle.fx_doc_drafts.specs.declared.drafts.Halt.{Halt}
 use Rattle.fx_doc.proofs.Stacks.{long_of}
 use Rattle.fx_doc.proofs.modes.Reader.next.Goals as goal
 

@@ -1,6 +1,6 @@
 use Rattle.std.proofs.Common.{◌++◌, ◌+◌, ℕ, List, take, sym, ◌∙◌, ap}
-use Rattle.fx_sheet.specs.declared.sheets.Rule.{Rule}
-use Rattle.fx_sheet.specs.declared.sheets.SheetAt.{SheetAt}
+use Rattle.fx_css_types.specs.declared.sheets.Rule.{Rule}
+use Rattle.fx_css_types.specs.declared.sheets.SheetAt.{SheetAt}
 use Rattle.fx_select.specs.declared.lists.SelectorAt.{SelectorAt}
 use Rattle.fx_select.specs.Keys.{Key}
 use Rattle.fx_select.specs.Listing.{entries, listed, sheet_entries, under_key}

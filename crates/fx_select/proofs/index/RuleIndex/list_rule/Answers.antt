@@ -1,7 +1,7 @@
 use Rattle.std.proofs.Common.{◌≡◌, ◌++◌, ◌∷◌, [], List, true, None, eqb, length, refl, sym, ◌∙◌, ap, arith}
 use Rattle.std.proofs.lemmas.Bool.{eqb-true}
 use Rattle.std.proofs.lemmas.Result.{on_ok_weaker}
-use Rattle.fx_sheet.specs.declared.selectors.Selector.{Selector}
+use Rattle.fx_css_types.specs.declared.selectors.Selector.{Selector}
 use Rattle.fx_select.specs.declared.lists.SelectorAt.{SelectorAt}
 use Rattle.fx_select.specs.Keys.{InRest}
 use Rattle.fx_select.specs.Listing.{listed, rule_entries, under_key}

@@ -1,5 +1,5 @@
 use Rattle.std.proofs.Common.{◌+◌, ◌∷◌, [], ℕ, List, Some, take, ◌∙◌}
-use Rattle.fx_sheet.specs.declared.selectors.Selector.{Selector}
+use Rattle.fx_css_types.specs.declared.selectors.Selector.{Selector}
 use Rattle.fx_select.specs.declared.lists.SelectorAt.{SelectorAt}
 use Rattle.fx_select.specs.Keys.{Key, key_of}
 use Rattle.fx_select.specs.Listing.{listed, selector_entries}

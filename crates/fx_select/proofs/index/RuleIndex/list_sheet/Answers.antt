@@ -1,6 +1,6 @@
 use Rattle.std.proofs.Common.{◌++◌, ◌+◌, ℕ, List, take, ◌∙◌, ap}
-use Rattle.fx_sheet.specs.declared.sheets.Rule.{Rule}
-use Rattle.fx_sheet.specs.declared.selectors.Selector.{Selector}
+use Rattle.fx_css_types.specs.declared.sheets.Rule.{Rule}
+use Rattle.fx_css_types.specs.declared.selectors.Selector.{Selector}
 use Rattle.fx_select.specs.declared.lists.SelectorAt.{SelectorAt}
 use Rattle.fx_select.specs.Keys.{Key}
 use Rattle.fx_select.specs.Listing.{listed, rule_entries, sheet_entries, under_key}

@@ -2,7 +2,7 @@
 use Rattle.std.proofs.Common.{◌≡◌, List, sym, ◌∙◌, ap, subst}
 use Rattle.std.specs.List.{filter_map}
 use Rattle.std.proofs.lemmas.Result.{IfOk-weaker}
-use Rattle.fx_sheet.specs.declared.sheets.Candidate.{Candidate}
+use Rattle.fx_css_types.specs.declared.sheets.Candidate.{Candidate}
 use Rattle.fx_select.specs.Chains.{chain}
 use Rattle.fx_select.specs.Hits.{hits_of}
 use Rattle.fx_select.specs.Merged.{merged_of}

@@ -1,7 +1,7 @@
 use Rattle.std.proofs.Common.{ap, ◌∙◌, ◌+◌}
 use Rattle.std.proofs.lemmas.Result.{err_from_is_err_and}
-use Rattle.fx_changes.specs.Causes.{of_listen}
-use Rattle.fx_changes.specs.Making.{new_listener}
+use Rattle.fx_store_model.specs.Causes.{of_listen}
+use Rattle.fx_store_model.specs.Making.{new_listener}
 use Rattle.fx_store.proofs.KeepLemmas.{kept_added}
 use Rattle.fx_store.proofs.UnheardLemmas.{born_living, listen_allowed, seen_added}
 use Rattle.fx_store.proofs.store.Store.add_listener.Goals as goal

@@ -1,8 +1,8 @@
 use Rattle.std.proofs.Common.{◌≡◌, false, ap, sym, ◌∙◌}
 use Rattle.std.proofs.lemmas.Result.{err_from_is_err_and}
-use Rattle.fx_changes.specs.declared.changes.Change.TheVariants.{Bind}
-use Rattle.fx_changes.specs.Stored.{Stored}
-use Rattle.fx_pairs.specs.Pairs.{is_paired}
+use Rattle.fx_store_model.specs.declared.changes.Change.TheVariants.{Bind}
+use Rattle.fx_store_model.specs.Stored.{Stored}
+use Rattle.fx_store_pairs.specs.Pairs.{is_paired}
 use Rattle.fx_store.proofs.Answering.{graph_ok}
 use Rattle.fx_store.proofs.Stepping.{step_unmade}
 use Rattle.fx_store.proofs.UnderLemmas.{failed_bind, refused_bind, under_bind, under_known}

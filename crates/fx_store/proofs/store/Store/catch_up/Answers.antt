@@ -1,9 +1,9 @@
 use Rattle.std.proofs.Common.{◌≡◌, ◌≤◌, ◌+◌, ℕ, false, List, All, sym, subst}
 use Rattle.fx_listen.specs.declared.entries.Listener.{Listener}
 use Rattle.fx_listen.specs.Listening.{living_in}
-use Rattle.fx_properties.specs.Changes.{after_read_all}
-use Rattle.fx_properties.specs.Unread.{evaluations_of}
-use Rattle.fx_properties.specs.Uses.{unknown_in}
+use Rattle.fx_graph_model.specs.Changes.{after_read_all}
+use Rattle.fx_graph_model.specs.Unread.{evaluations_of}
+use Rattle.fx_graph_model.specs.Uses.{unknown_in}
 use Rattle.fx_store.specs.Watching.{watch_list}
 use Rattle.fx_store.proofs.Lasting.{kept_read}
 use Rattle.fx_store.proofs.QuietLemmas.{all_read_already, caught_up, kept_watch_known}

@@ -1,9 +1,9 @@
 use Rattle.std.proofs.Common.{◌≡◌, List, subst, Ok}
 use Rattle.std.proofs.lemmas.Result.{err_from_is_err_and}
 use Rattle.fx_base.specs.declared.keys.Name.{Name}
-use Rattle.fx_changes.specs.Making.{made_forget}
-use Rattle.fx_changes.specs.Refusals.{IsForgetAnswer}
-use Rattle.fx_properties.specs.Numbers.{numbers}
+use Rattle.fx_store_model.specs.Making.{made_forget}
+use Rattle.fx_store_model.specs.Refusals.{IsForgetAnswer}
+use Rattle.fx_graph_model.specs.Numbers.{numbers}
 use Rattle.fx_store.proofs.EndLemmas.{forget_done, forget_short}
 use Rattle.fx_store.proofs.store.Store.forget.Goals as goal
 

@@ -1,7 +1,7 @@
 use Rattle.std.proofs.Common.{◌≡◌, ap, subst, sym, Some, Err}
 use Rattle.std.proofs.lemmas.Result.{err_from_is_err_and}
-use Rattle.fx_changes.specs.Refusals.{listen_refusal}
-use Rattle.fx_changes.specs.Stored.{Stored}
+use Rattle.fx_store_model.specs.Refusals.{listen_refusal}
+use Rattle.fx_store_model.specs.Stored.{Stored}
 use Rattle.fx_store.proofs.EndLemmas.{MayListen, listen_done, listen_refused, listen_short, listen_unmade, listen_unread, listened_off}
 use Rattle.fx_store.proofs.store.Store.listen.Goals as goal
 

@@ -1,8 +1,8 @@
 use Rattle.std.proofs.Common.{◌≡◌, ◌≤◌, ◌+◌, ℕ, false, List, All, sym, subst}
 use Rattle.fx_listen.specs.declared.entries.Listener.{Listener}
 use Rattle.fx_listen.specs.Listening.{living_in}
-use Rattle.fx_properties.specs.Unread.{evaluations_of}
-use Rattle.fx_properties.specs.Uses.{unknown_in}
+use Rattle.fx_graph_model.specs.Unread.{evaluations_of}
+use Rattle.fx_graph_model.specs.Uses.{unknown_in}
 use Rattle.fx_store.specs.Watching.{watch_list}
 use Rattle.fx_store.proofs.Staying.{known_living}
 use Rattle.fx_store.proofs.Stepping.{kept_due}

@@ -1,8 +1,8 @@
 use Rattle.std.proofs.Common.{Some, ap, inr, sym, ◌∙◌}
-use Rattle.fx_changes.specs.declared.errors.StoreError.TheVariants as error
-use Rattle.fx_changes.specs.Refusals.{of_graph_refusal, or_else}
-use Rattle.fx_changes.specs.Stored.{Stored}
-use Rattle.fx_properties.specs.Refusals.{fit_refusal}
+use Rattle.fx_store_model.specs.declared.errors.StoreError.TheVariants as error
+use Rattle.fx_store_model.specs.Refusals.{of_graph_refusal, or_else}
+use Rattle.fx_store_model.specs.Stored.{Stored}
+use Rattle.fx_graph_model.specs.Refusals.{fit_refusal}
 use Rattle.fx_store.proofs.Answering.{bind_mixed}
 use Rattle.fx_store.proofs.store.Store.mixed.Goals as goal
 

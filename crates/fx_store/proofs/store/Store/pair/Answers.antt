@@ -1,8 +1,8 @@
 use Rattle.std.proofs.Common.{◌≡◌, [], ◌∷◌, ◌++◌, None, sym, subst, ◌∙◌}
 use Rattle.std.proofs.lemmas.Result.{err_from_is_err_and}
-use Rattle.fx_changes.specs.declared.changes.Change.TheVariants.{Pair}
-use Rattle.fx_changes.specs.Refusals.{pair_refusal}
-use Rattle.fx_changes.specs.Stored.{Stored}
+use Rattle.fx_store_model.specs.declared.changes.Change.TheVariants.{Pair}
+use Rattle.fx_store_model.specs.Refusals.{pair_refusal}
+use Rattle.fx_store_model.specs.Stored.{Stored}
 use Rattle.fx_store.proofs.Stepping.{step_unmade}
 use Rattle.fx_store.proofs.Twins.{own_known, own_unbound}
 use Rattle.fx_store.proofs.UnderLemmas.{failed_pair, not_some, pair_able, pair_group_unrefused, pair_values, pair_watch, refused_pair, under_known, under_pair}

@@ -1,6 +1,6 @@
 use Rattle.std.proofs.Common.{◌∙◌}
 use Rattle.std.proofs.lemmas.Result.{err_from_is_err_and}
-use Rattle.fx_changes.specs.declared.changes.Change.TheVariants.{Publish}
+use Rattle.fx_store_model.specs.declared.changes.Change.TheVariants.{Publish}
 use Rattle.fx_store.proofs.Answering.{graph_ok}
 use Rattle.fx_store.proofs.Stepping.{step_unmade}
 use Rattle.fx_store.proofs.UnderLemmas.{failed_publish, under_known, under_publish}

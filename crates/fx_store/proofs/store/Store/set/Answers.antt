@@ -1,8 +1,8 @@
 use Rattle.std.proofs.Common.{◌≡◌, [], ◌∷◌, None, sym, subst, ◌∙◌}
 use Rattle.std.proofs.lemmas.Result.{err_from_is_err_and}
-use Rattle.fx_changes.specs.declared.changes.Change.TheVariants.{Set}
-use Rattle.fx_changes.specs.Stored.{Stored}
-use Rattle.fx_properties.specs.Refusals.{set_refusal}
+use Rattle.fx_store_model.specs.declared.changes.Change.TheVariants.{Set}
+use Rattle.fx_store_model.specs.Stored.{Stored}
+use Rattle.fx_graph_model.specs.Refusals.{set_refusal}
 use Rattle.fx_store.proofs.Stepping.{step_unmade}
 use Rattle.fx_store.proofs.UnderLemmas.{failed_set, not_some, refused_set, set_unrefused, set_values, under_known, under_set}
 use Rattle.fx_store.proofs.store.Store.set.Goals as goal

@@ -1,7 +1,7 @@
 use Rattle.std.proofs.Common.{ℕ, ap, subst, Err}
 use Rattle.std.proofs.lemmas.Result.{err_from_is_err_and}
-use Rattle.fx_changes.specs.Stored.{Stored}
-use Rattle.fx_properties.specs.Uses.{Ranked}
+use Rattle.fx_store_model.specs.Stored.{Stored}
+use Rattle.fx_graph_model.specs.Uses.{Ranked}
 use Rattle.fx_store.proofs.EndLemmas.{unbind_done, unbind_failed, unbind_short}
 use Rattle.fx_store.proofs.store.Store.unbind.Goals as goal
 

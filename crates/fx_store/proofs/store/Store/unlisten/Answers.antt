@@ -1,7 +1,7 @@
 use Rattle.std.proofs.Common.{◌≡◌, Some, None, subst}
 use Rattle.std.proofs.lemmas.Result.{err_from_is_err_and}
-use Rattle.fx_changes.specs.Refusals.{unlisten_refusal}
-use Rattle.fx_changes.specs.Stored.{Stored}
+use Rattle.fx_store_model.specs.Refusals.{unlisten_refusal}
+use Rattle.fx_store_model.specs.Stored.{Stored}
 use Rattle.fx_store.proofs.EndLemmas.{unlisten_done, unlisten_refused, unlisten_short}
 use Rattle.fx_store.proofs.store.Store.unlisten.Goals as goal
 

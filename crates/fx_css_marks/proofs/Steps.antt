@@ -1,0 +1,155 @@
+-- The next mark of a walk, and how far line and column grow.
+-- Below the answers on walking.
+use Rattle.std.proofs.Common.{◌≡◌, ◌≤◌, ℕ, ◌+◌, ◌-◌, zero, suc, Bool, true, false, ◌&&◌, not, List, [], ◌∷◌, ◌++◌, length, map, take, drop, get_or, ◌<◌, Option, Some, None, refl, sym, ◌∙◌, ap, arith}
+use Rattle.std.specs.Bool.{if◌then◌else◌}
+use Rattle.std.proofs.lemmas.List.{drop-drop, take_more, take_all, map-append}
+use Rattle.std.specs.Option.{is_none}
+use lib.Dec.{eqb}
+use Rattle.fx_base.specs.declared.geometry.Place.{Place}
+use Rattle.fx_css_marks.specs.declared.marks.Mark.{Mark}
+use Rattle.fx_css_marks.specs.Bytes.{first_place, after, after_all, is_quote, is_further, begins_with}
+use Rattle.fx_css_marks.specs.Marks.{mark, space, Marked, place_of}
+use Rattle.fx_css_marks.specs.Scanning.{scanned, marks_at, mode_after}
+use Rattle.fx_css_marks.specs.Scanning as v
+use Rattle.fx_css_marks.specs.Lengths.{run_length, comment_rest}
+use Rattle.fx_css_marks.specs.Walks.{mode_of, stops, still_open, opened}
+use Rattle.fx_css_marks.proofs.Comments.{or_left, or_right}
+use Rattle.fx_css_marks.proofs.Finds.{run_front, run_most, run_within}
+use Rattle.fx_css_marks.proofs.Scans.{plain_alone, quote_opens, only_scanned}
+use Rattle.fx_css_marks.proofs.Spans.{whole_comment}
+
+-- room
+
+after_line : (p : Place) (b : ℕ) → (after p b).line ≤ p.line + 1
+after_line p b = cases (eqb b 10) (is_further b)
+  where
+    cases : (l f : Bool) → (if l then (let q : Place = record { file = p.file; line = p.line + 1; column = 1 } in q) else (if f then p else record { file = p.file; line = p.line; column = p.column + 1 })).line ≤ p.line + 1
+    cases true f = omega arith
+    cases false true = omega arith
+    cases false false = omega arith
+
+after_column : (p : Place) (b : ℕ) → (after p b).column ≤ p.column + 1
+after_column p b = cases (eqb b 10) (is_further b)
+  where
+    cases : (l f : Bool) → (if l then (let q : Place = record { file = p.file; line = p.line + 1; column = 1 } in q) else (if f then p else record { file = p.file; line = p.line; column = p.column + 1 })).column ≤ p.column + 1
+    cases true f = omega arith
+    cases false true = omega arith
+    cases false false = omega arith
+
+pub all_line : (bs : List ℕ) (p : Place) → (after_all p bs).line ≤ p.line + length bs
+all_line [] p = omega arith
+all_line (b ∷ bs) p =
+    let more : (after_all (after p b) bs).line ≤ (after p b).line + length bs = all_line bs (after p b) in
+    let one : (after p b).line ≤ p.line + 1 = after_line p b in
+    omega arith
+
+pub all_column : (bs : List ℕ) (p : Place) → (after_all p bs).column ≤ p.column + length bs
+all_column [] p = omega arith
+all_column (b ∷ bs) p =
+    let more : (after_all (after p b) bs).column ≤ (after p b).column + length bs = all_column bs (after p b) in
+    let one : (after p b).column ≤ p.column + 1 = after_column p b in
+    omega arith
+
+-- steps
+
+quoted_by : (q : ℕ) (p : Place) (b : ℕ) (bs : List ℕ) (k : Bool) → eqb b q ≡ k → scanned (v.Quoted q) p (b ∷ bs) ≡ mark b p false ∷ scanned (mode_of (still_open q b)) (after p b) bs
+unfolding marks_at mode_after
+quoted_by q p b bs true e = rw e refl
+quoted_by q p b bs false e = rw e refl
+
+pub quoted_step : (q : ℕ) (p : Place) (b : ℕ) (bs : List ℕ) → scanned (v.Quoted q) p (b ∷ bs) ≡ mark b p false ∷ scanned (mode_of (still_open q b)) (after p b) bs
+quoted_step q p b bs = quoted_by q p b bs (eqb b q) refl
+
+bare_by : (p : Place) (b : ℕ) (bs : List ℕ) (k : Bool) → is_quote b ≡ k → (eqb b 47 && begins_with 42 bs) ≡ false
+    → scanned v.Plain p (b ∷ bs) ≡ mark b p (not (is_quote b)) ∷ scanned (mode_of (opened b)) (after p b) bs
+bare_by p b bs true e n = quote_opens p b bs e ∙ rw e refl
+bare_by p b bs false e n = plain_alone p b bs (eqb b 47) refl e n ∙ rw e refl
+
+pub bare_step : (p : Place) (b : ℕ) (bs : List ℕ) → (eqb b 47 && begins_with 42 bs) ≡ false → scanned v.Plain p (b ∷ bs) ≡ mark b p (not (is_quote b)) ∷ scanned (mode_of (opened b)) (after p b) bs
+bare_step p b bs n = bare_by p b bs (is_quote b) refl n
+
+pub comment_step : (p q r : Place) (text inside rest : List ℕ) (n : ℕ) → begins_with 42 text ≡ true → n ≡ comment_rest text → inside ≡ take n text → rest ≡ drop n text → q ≡ after p 47 → r ≡ after_all q inside
+    → scanned v.Plain p (47 ∷ text) ≡ space p ∷ scanned v.Plain r rest
+comment_step p q r text inside rest n e count front back one all =
+    let i : inside ≡ take (comment_rest text) text = front ∙ ap (λ k. take k text) count in
+    let l : rest ≡ drop (comment_rest text) text = back ∙ ap (λ k. drop k text) count in
+    whole_comment p text e
+    ∙ (ap (λ y. space p ∷ scanned v.Plain (after_all (after p 47) y) (drop (comment_rest text) text)) (sym i)
+    ∙ (ap (λ y. space p ∷ scanned v.Plain (after_all (after p 47) inside) y) (sym l)
+    ∙ ap (λ y. space p ∷ scanned v.Plain y rest) (sym (all ∙ ap (λ y. after_all y inside) one))))
+
+-- marks that are passed
+
+calm_step : (quote : Option ℕ) (p : Place) (b : ℕ) (bs : List ℕ) → stops quote b ≡ false → scanned (mode_of quote) p (b ∷ bs) ≡ mark b p (is_none quote) ∷ scanned (mode_of quote) (after p b) bs
+calm_step None p b bs e =
+    let s : eqb b 47 ≡ false = or_right (is_quote b) (eqb b 47) e in
+    plain_alone p b bs (eqb b 47) refl (or_left (is_quote b) (eqb b 47) e) (rw s refl)
+calm_step (Some q) p b bs e = quoted_step q p b bs ∙ rw e refl
+
+run_by : (quote : Option ℕ) (n : ℕ) (p : Place) (b : ℕ) (bs : List ℕ) (k : Bool) → stops quote b ≡ k → suc n ≤ run_length (stops quote) (b ∷ bs)
+    → (n ≤ run_length (stops quote) bs → drop n (scanned (mode_of quote) (after p b) bs) ≡ scanned (mode_of quote) (after_all (after p b) (take n bs)) (drop n bs))
+    → drop (suc n) (scanned (mode_of quote) p (b ∷ bs)) ≡ scanned (mode_of quote) (after_all (after p b) (take n bs)) (drop n bs)
+run_by quote n p b bs true e l h =
+    let none : run_length (stops quote) (b ∷ bs) ≡ 0 = rw e refl in
+    absurd (omega arith)
+run_by quote n p b bs false e l h =
+    let more : run_length (stops quote) (b ∷ bs) ≡ suc (run_length (stops quote) bs) = rw e refl in
+    ap (λ y. drop (suc n) y) (calm_step quote p b bs e) ∙ h (omega arith)
+
+run_passed : (quote : Option ℕ) (n : ℕ) (p : Place) (bs : List ℕ) → n ≤ run_length (stops quote) bs → drop n (scanned (mode_of quote) p bs) ≡ scanned (mode_of quote) (after_all p (take n bs)) (drop n bs)
+run_passed quote zero p bs l = refl
+run_passed quote (suc n) p [] l = absurd (omega arith)
+run_passed quote (suc n) p (b ∷ bs) l = run_by quote n p b bs (stops quote b) refl l (λ m. run_passed quote n (after p b) bs m)
+
+pub pass_run : (quote : Option ℕ) (n most : ℕ) (p q : Place) (text within run rest : List ℕ) → within ≡ take most text → n ≡ run_length (stops quote) within → run ≡ take n text → rest ≡ drop n text → q ≡ after_all p run
+    → scanned (mode_of quote) q rest ≡ drop n (scanned (mode_of quote) p text)
+pass_run quote n most p q text within run rest front count ran back all =
+    let l : run_length (stops quote) (take most text) ≤ run_length (stops quote) text = run_front (stops quote) most text in
+    let is : n ≡ run_length (stops quote) (take most text) = count ∙ ap (run_length (stops quote)) front in
+    ap (λ y. scanned (mode_of quote) y rest) (all ∙ ap (λ y. after_all p y) ran)
+    ∙ (ap (λ y. scanned (mode_of quote) (after_all p (take n text)) y) back ∙ sym (run_passed quote n p text (omega arith)))
+
+pub run_most_of : (quote : Option ℕ) (n most : ℕ) (text within : List ℕ) → within ≡ take most text → n ≡ run_length (stops quote) within → (n ≤ most) × (n ≤ length text)
+run_most_of quote n most text within front count =
+    let is : n ≡ run_length (stops quote) (take most text) = count ∙ ap (run_length (stops quote)) front in
+    let l : run_length (stops quote) (take most text) ≤ most = run_most (stops quote) most text in
+    let k : run_length (stops quote) (take most text) ≤ run_length (stops quote) text = run_front (stops quote) most text in
+    let j : run_length (stops quote) text ≤ length text = run_within (stops quote) text in
+    (omega arith, omega arith)
+
+pub pass_more : (ms here more far : List Mark) (m : Mark) (i n k : ℕ) → here ≡ drop i ms → here ≡ m ∷ more → far ≡ drop n more → k ≡ i + 1 + n → far ≡ drop k ms
+pass_more ms here more far m i n k e f g h =
+    let one : more ≡ drop 1 (drop i ms) = ap (λ y. drop 1 y) (sym f ∙ e) in
+    let sum : i + (1 + n) ≡ k = omega arith in
+    g ∙ (ap (λ y. drop n y) one ∙ (drop-drop n 1 (drop i ms) ∙ (drop-drop (1 + n) i ms ∙ ap (λ y. drop y ms) sum)))
+
+pub pass_end : (ms : List Mark) (i n : ℕ) → drop i ms ≡ [] → i ≤ n → drop n ms ≡ []
+pass_end ms i n e l =
+    let s : i + (n - i) ≡ n = omega arith in
+    ap (λ k. drop k ms) (sym s) ∙ (sym (drop-drop (n - i) i ms) ∙ (ap (λ y. drop (n - i) y) e ∙ empty (n - i)))
+  where
+    empty : (k : ℕ) → drop k (let none : List Mark = [] in none) ≡ []
+    empty zero = refl
+    empty (suc k) = refl
+
+pub place_on : (file n : ℕ) (ms : List Mark) → place_of file (drop n ms) 0 ≡ place_of file ms n
+place_on file zero ms = refl
+place_on file (suc n) [] = refl
+place_on file (suc n) (m ∷ ms) = place_on file n ms
+
+pub place_told : (file n : ℕ) (text : List ℕ) (whole rest ms : List Mark) (place : Place) → whole ≡ scanned v.Plain (first_place file) text → rest ≡ drop n whole → place ≡ place_of file rest 0
+    → Marked (first_place file) text ms → place ≡ place_of file ms n
+place_told file n text whole rest ms place e f g marked =
+    g ∙ (ap (λ y. place_of file y 0) f ∙ (place_on file n whole ∙ ap (λ y. place_of file y n) (e ∙ sym (only_scanned marked))))
+
+pub found_more : (file i : ℕ) (numbers : List ℕ) (whole rest : List Mark) (old new : List Place) (place : Place) → i < length numbers → old ≡ map (place_of file whole) (take i numbers)
+    → rest ≡ drop (get_or numbers i 0) whole → place ≡ place_of file rest 0 → new ≡ old ++ (place ∷ []) → new ≡ map (place_of file whole) (take (i + 1) numbers)
+found_more file i numbers whole rest old new place l e f g h =
+    let is : place ≡ place_of file whole (get_or numbers i 0) = g ∙ (ap (λ y. place_of file y 0) f ∙ place_on file (get_or numbers i 0) whole) in
+    h ∙ (ap (λ y. y ++ (place ∷ [])) e ∙ (ap (λ y. map (place_of file whole) (take i numbers) ++ (y ∷ [])) is
+    ∙ (sym (map-append (place_of file whole) (take i numbers) (get_or numbers i 0 ∷ [])) ∙ ap (map (place_of file whole)) (sym (take_more numbers i 0 l)))))
+
+pub found_all : (file i : ℕ) (text numbers : List ℕ) (whole ms : List Mark) (places : List Place) → whole ≡ scanned v.Plain (first_place file) text → length numbers ≤ i
+    → places ≡ map (place_of file whole) (take i numbers) → Marked (first_place file) text ms → places ≡ map (place_of file ms) numbers
+found_all file i text numbers whole ms places e l f marked =
+    f ∙ (ap (map (place_of file whole)) (take_all i numbers l) ∙ ap (λ y. map (place_of file y) numbers) (e ∙ sym (only_scanned marked)))

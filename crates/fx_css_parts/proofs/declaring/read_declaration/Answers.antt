@@ -1,0 +1,15 @@
+use Rattle.std.proofs.Common.{◌≡◌, ◌+◌, Some, length, sym, ap, ◌∙◌}
+use Rattle.fx_css_parts.specs.Texts.{ident_at, trimmed}
+use Rattle.fx_css_parts.specs.Declaring.{form_of, declared_at}
+use Rattle.fx_css_parts.specs.Limits.{past_in_value}
+use Rattle.fx_css_parts.proofs.DeclarationLemmas.{declares}
+use Rattle.fx_css_parts.proofs.declaring.read_declaration.Goals as goal
+
+pub returns : goal.returns
+returns c =
+    let form : c.form_of-form.result ≡ form_of c.in-Some-2.name = c.form_of-form.ensures ∙ ap form_of c.as_str.ensures.text in
+    let read : Some c.in-Some-3.declared ≡ declared_at (form_of c.in-Some-2.name) (trimmed c.in-Some.value.now) =
+    sym c.in-Some-3.is ∙ c.in_ok-declared.ensures ∙ ap (λ f. declared_at f c.trimmed-2.result.now) form ∙ ap (λ t. declared_at (form_of c.in-Some-2.name) t) c.trimmed-2.ensures in
+    declares c.args.text.now c.split_name.result.0.now c.split_name.result.1.now c.in-Some.field-0-0.now c.in-Some.value.now c.in-Some-2.name
+    c.split_name.ensures.name c.split_name.ensures.rest c.in-Some.ensures.cases.0 (sym c.in-Some-2.is ∙ c.in_ok-name.ensures ∙ ap ident_at c.trimmed.ensures)
+    c.in-Some-3.declared _ read (c.past_in_value-past.ensures ∙ ap (λ f. past_in_value f (length c.split_name.result.0.now + 1) c.in-Some.value.now) form)

@@ -1,0 +1,150 @@
+//! Compounds: a type, classes, ids and pseudo-classes with no white between them (Selectors Level 3).
+//! Selectors are made of them.
+ghost use Rattle.std.specs.Prelude.{◌≡◌, ◌≤◌, ◌++◌, IfOk, OnOk, length, true, [], ◌∷◌};
+ghost use Rattle.std.specs.List.{prefix_len};
+ghost use Rattle.std.specs.Option.{option_map};
+ghost use Rattle.fx_look.specs.Decimals.{front, behind};
+ghost use Rattle.fx_css_parts.specs.Selecting.{is_sign, not_sign, is_any, kind_at, parts_at, compound_at};
+ghost use Rattle.fx_css_parts.specs.Texts.{stops};
+ghost use Rattle.fx_css_parts.specs.Drafts.{name_lists, with_names, names_of, no_names};
+
+use crate::texts::read_ident;
+use fx_base::{List, Text};
+use fx_css_types::{Combinator, Compound};
+use std::alloc::{AllocError, Global};
+
+/// The names in a compound, by the sign that stands before them.
+#[derive(Drop)]
+pub struct Names {
+    classes: Vec<Text>,
+    ids: Vec<Text>,
+    pseudos: Vec<Text>,
+}
+
+impl Names {
+    fn new(alloc: Global) -> Names
+        ensures { name_lists result ≡ no_names }
+    {
+        Names {
+            classes: Vec::new(alloc),
+            ids: Vec::new(alloc),
+            pseudos: Vec::new(alloc),
+        }
+    }
+
+    fn push(&mut self, sign: u8, name: Text) -> Result<(), AllocError>
+        ensures { OnOk result (name_lists self.new ≡ with_names (name_lists self.old) ((record { sign = sign; name = name }) ∷ [])) }
+    {
+        match sign {
+            b'.' => push_name(&mut self.classes, name)?,
+            b'#' => push_name(&mut self.ids, name)?,
+            b':' => push_name(&mut self.pseudos, name)?,
+            _ => {}
+        }
+        Ok(())
+    }
+}
+
+/// Puts a name behind the others. The first is given room for itself alone, since few compounds have more.
+fn push_name(names: &mut Vec<Text>, name: Text) -> Result<(), AllocError>
+    ensures { OnOk result (names.new.items ≡ names.old.items ++ name ∷ []) }
+{
+    if names.is_empty() {
+        names.reserve_exact(1)?;
+    }
+    names.push(name)?;
+    Ok(())
+}
+
+/// The compound that the text spells, behind a combinator or none.
+pub fn read_compound(
+    alloc: Global,
+    combinator: Option<Combinator>,
+    text: &[u8],
+) -> Result<Option<Compound>, AllocError>
+    ensures { IfOk result (λ o. o ≡ compound_at combinator text.now) }
+{
+    if text.is_empty() {
+        return Ok(None);
+    }
+    let (word, signs) = split_word(text);
+    let Some(kind) = read_kind(alloc, word)? else {
+        return Ok(None);
+    };
+    let Some(names) = read_names(alloc, signs)? else {
+        return Ok(None);
+    };
+    let Names {
+        classes,
+        ids,
+        pseudos,
+    } = names;
+    Ok(Some(Compound {
+        combinator,
+        kind,
+        classes: List::from_vec(classes),
+        ids: List::from_vec(ids),
+        pseudos: List::from_vec(pseudos),
+    }))
+}
+
+/// The type that the word names, if it is one, or none for any type.
+fn read_kind(alloc: Global, word: &[u8]) -> Result<Option<Option<Text>>, AllocError>
+    ensures { IfOk result (λ o. o ≡ kind_at word.now) }
+{
+    if is_any(word) {
+        return Ok(Some(None));
+    }
+    match read_ident(alloc, word)? {
+        Some(name) => Ok(Some(Some(name))),
+        None => Ok(None),
+    }
+}
+
+fn is_any(word: &[u8]) -> bool
+    ensures { result ≡ is_any word.now }
+{
+    match word {
+        [] => true,
+        [c] => *c == b'*',
+        [_, _, ..] => false,
+    }
+}
+
+fn read_names(alloc: Global, text: &[u8]) -> Result<Option<Names>, AllocError>
+    requires { stops not_sign text.now ≡ true }
+    ensures { IfOk result (λ o. option_map name_lists o ≡ names_of no_names (parts_at text.now)) }
+{
+    let mut names = Names::new(alloc);
+    let mut rest = text;
+    while let Some((sign, behind)) = rest.split_first() {
+        let (word, others) = split_word(behind);
+        let Some(name) = read_ident(alloc, word)? else {
+            return Ok(None);
+        };
+        names.push(*sign, name)?;
+        rest = others;
+    }
+    Ok(Some(names))
+}
+
+/// The text up to the first sign, and from there on.
+fn split_word(text: &[u8]) -> (&[u8], &[u8])
+    ensures word { result.0.now ≡ front not_sign text.now }
+    ensures rest { result.1.now ≡ behind not_sign text.now }
+{
+    text.split_at(word_length(text))
+}
+
+fn word_length(text: &[u8]) -> usize
+    ensures length { result ≡ prefix_len not_sign text.now }
+    ensures within { result ≤ length text.now }
+{
+    text.iter().take_while(|c| !is_sign(**c)).count()
+}
+
+fn is_sign(c: u8) -> bool
+    ensures { result ≡ is_sign c }
+{
+    matches!(c, b'.' | b'#' | b':')
+}

@@ -1,0 +1,64 @@
+//! Declarations: a name, `:` and a value (JavaFX CSS Reference Guide).
+//! The declarations of a rule and of an inline style are read here.
+ghost use Rattle.std.specs.Prelude.{◌≡◌, ◌+◌, ◌≤◌, IfOk, length};
+ghost use Rattle.std.specs.List.{prefix_len};
+ghost use Rattle.fx_look.specs.Decimals.{front, behind};
+ghost use Rattle.fx_css_parts.specs.Declaring.{form_of, not_colon};
+ghost use Rattle.fx_css_parts.specs.Parts.{declaration_at};
+
+use crate::ReadDeclaration;
+use crate::limits::past_in_value;
+use crate::texts::{read_ident, trimmed};
+use crate::values::read_declared;
+use fx_look::{StyleForm, style_named};
+use fx_css_types::Declaration;
+use std::alloc::{AllocError, Global};
+
+/// The declaration that the text spells, or none where it is bad.
+pub fn read_declaration(alloc: Global, text: &[u8]) -> Result<Option<ReadDeclaration>, AllocError>
+    ensures { IfOk result (λ o. o ≡ declaration_at text.now) }
+{
+    let (before, after) = split_name(text);
+    let Some((_, value)) = after.split_first() else {
+        return Ok(None);
+    };
+    let Some(name) = read_ident(alloc, trimmed(before))? else {
+        return Ok(None);
+    };
+    let form = form_of(name.as_str());
+    let Some(declared) = read_declared(alloc, form, trimmed(value))? else {
+        return Ok(None);
+    };
+    let past = past_in_value(&declared, form, before.len() + 1, value);
+    Ok(Some(ReadDeclaration {
+        declaration: Declaration {
+            name,
+            value: declared,
+        },
+        past,
+    }))
+}
+
+/// The form of the style declaration of this name.
+fn form_of(name: &str) -> Option<StyleForm>
+    ensures { result ≡ form_of name.now }
+{
+    let style = style_named(name)?.style()?;
+    Some(style.form)
+}
+
+/// The text up to the first `:`, and from there on.
+fn split_name(text: &[u8]) -> (&[u8], &[u8])
+    ensures name { result.0.now ≡ front not_colon text.now }
+    ensures rest { result.1.now ≡ behind not_colon text.now }
+    ensures whole { length result.0.now + length result.1.now ≡ length text.now }
+{
+    text.split_at(name_length(text))
+}
+
+fn name_length(text: &[u8]) -> usize
+    ensures length { result ≡ prefix_len not_colon text.now }
+    ensures within { result ≤ length text.now }
+{
+    text.iter().take_while(|c| **c != b':').count()
+}

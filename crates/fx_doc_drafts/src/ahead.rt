@@ -1,0 +1,100 @@
+//! Attributes as most are written, `name="value"` with nothing but plain ASCII between the quotes: found ahead as slices.
+//! Every other attribute, and every fault, is left to the reader's steps.
+ghost use Rattle.std.specs.Prelude.{◌≡◌, ◌∷◌, ◌<◌, ◌≤◌, length, IfSome};
+ghost use Rattle.std.specs.List.{prefix_len};
+ghost use Rattle.fx_doc_grammar.specs.Characters.{class_of, starts_name};
+ghost use Rattle.fx_doc_drafts.specs.Ahead.{IsAhead, is_named, is_plain, begins_name};
+
+use fx_doc_grammar::Class;
+
+/// The greatest length of a name or a value that is taken whole.
+const MOST: usize = 4096;
+
+/// An attribute that stands ahead, and the text behind it.
+#[derive(Clone, Copy)]
+pub struct Ahead<'a> {
+    pub name: &'a str,
+    pub value: &'a str,
+    pub behind: &'a str,
+}
+
+fn is_named(byte: u8) -> bool
+    ensures { result ≡ is_named byte }
+{
+    byte < 128 && Class::of(char::from(byte)).is_named()
+}
+
+fn is_plain(byte: u8) -> bool
+    ensures { result ≡ is_plain byte }
+{
+    byte >= 32 && byte < 127 && byte != b'"' && byte != b'&' && byte != b'<'
+}
+
+fn name_length(bytes: &[u8]) -> usize
+    ensures count { result ≡ prefix_len is_named bytes.now }
+    ensures within { result ≤ length bytes.now }
+{
+    bytes.iter().take_while(|byte| is_named(**byte)).count()
+}
+
+fn value_length(bytes: &[u8]) -> usize
+    ensures count { result ≡ prefix_len is_plain bytes.now }
+    ensures within { result ≤ length bytes.now }
+{
+    bytes.iter().take_while(|byte| is_plain(**byte)).count()
+}
+
+fn is_letter(class: Class) -> bool
+    ensures { result ≡ starts_name class }
+{
+    match class {
+        Class::Letter => true,
+        _ => false,
+    }
+}
+
+fn begins_name(name: &str) -> bool
+    ensures { result ≡ begins_name name.now }
+{
+    match name.as_bytes().first() {
+        Some(byte) => is_letter(Class::of(char::from(*byte))),
+        None => false,
+    }
+}
+
+/// The text behind this byte, if it begins with it.
+fn behind_byte(text: &str, byte: u8) -> Option<&str>
+    ensures { IfSome result (λ behind. text.now ≡ byte ∷ behind.now) }
+{
+    let first = *text.as_bytes().first()?;
+    if first != byte {
+        return None;
+    }
+    let (_, behind) = text.split_at_checked(1)?;
+    Some(behind)
+}
+
+/// The attribute that the text begins with, where it is written so.
+pub fn attribute_ahead(text: &str) -> Option<Ahead<'_>>
+    ensures { IfSome result (λ a. IsAhead text.now a.name.now a.value.now a.behind.now) }
+{
+    let (name, rest) = text.split_at_checked(name_length(text.as_bytes()))?;
+    if name.len() > MOST {
+        return None;
+    }
+    if !begins_name(name) {
+        return None;
+    }
+    let rest = behind_byte(rest, b'=')?;
+    let rest = behind_byte(rest, b'"')?;
+    let (value, rest) = rest.split_at_checked(value_length(rest.as_bytes()))?;
+    if value.len() > MOST {
+        return None;
+    }
+    let behind = behind_byte(rest, b'"')?;
+    Some(Ahead {
+        name,
+        value,
+        behind,
+    })
+}

@@ -1,0 +1,379 @@
+-- A machine that reads a document, one character at a time, with a stack of the open elements.
+-- The theorem does not rest on it: code is proved to be this machine, and the machine to read what the grammar spells.
+use Rattle.std.specs.Prelude.{ℕ, suc, ◌+◌, ◌*◌, Bool, true, false, cond, not, ◌&&◌, ◌||◌, List, [], ◌∷◌, ◌++◌, Option, Some, None, length, map}
+use lib.Dec.{eqb, ltb, leb}
+use lib.Utf8.{encode}
+use Rattle.fx_doc_grammar.specs.Characters.{class_of, in_name, after, is_decimal, is_hexadecimal, digit_value, is_character}
+use Rattle.fx_doc_grammar.specs.Grammar.{Head, Attr, Nodes, Nothing, Letters, Node, Level, fresh_level, one_sign, one_child, closed, value_byte, is_among, is_quote, listed, Reading}
+use Rattle.fx_doc_grammar.specs.declared.Class.{Class}
+use Rattle.fx_doc_grammar.specs.declared.Class.TheVariants.{White, Less, Greater, Slash, Equals, Bang, Question, Dash, Quotation, Apostrophe, Ampersand, Letter}
+use Rattle.fx_doc_grammar.specs.declared.Quote.{Quote}
+use Rattle.fx_doc_grammar.specs.declared.Quote.TheVariants.{Single, Double}
+use Rattle.fx_doc_grammar.specs.declared.Entity.{Entity}
+use Rattle.fx_doc_grammar.specs.declared.Entity.TheVariants.{Begun, A, Am, Amp, Ap, Apo, Apos, G, Gt, L, Lt, Q, Qu, Quo, Quot, Hash, Decimal, Hex, HexDigits}
+use Rattle.fx_doc_grammar.specs.declared.Turn.{Turn}
+use Rattle.fx_doc_grammar.specs.declared.Turn.TheVariants.{Further, Whole}
+use Rattle.fx_doc_grammar.specs.declared.Place.{Place}
+
+-- References --------------------------------------------------------------------------------------
+
+abbrev pub expect : ℕ → Turn → ℕ → Option Turn
+expect x t c = cond (eqb c x) (Some t) None
+
+abbrev pub begin_entity : ℕ → Option Turn
+begin_entity c =
+    cond (eqb c 97) (Some (Further A))
+    (cond (eqb c 103) (Some (Further G))
+    (cond (eqb c 108) (Some (Further L))
+    (cond (eqb c 113) (Some (Further Q))
+    (cond (eqb c 35) (Some (Further Hash)) None))))
+
+abbrev pub after_a : ℕ → Option Turn
+after_a c = cond (eqb c 109) (Some (Further Am)) (cond (eqb c 112) (Some (Further Ap)) None)
+
+-- one more digit, as long as the number stays among the code points
+abbrev pub decimal_digit : ℕ → ℕ → Option Turn
+decimal_digit n c = cond (is_decimal c && leb (n * 10 + digit_value c) 1114111) (Some (Further (Decimal (n * 10 + digit_value c)))) None
+
+abbrev pub hexadecimal_digit : ℕ → ℕ → Option Turn
+hexadecimal_digit n c = cond (is_hexadecimal c && leb (n * 16 + digit_value c) 1114111) (Some (Further (HexDigits (n * 16 + digit_value c)))) None
+
+abbrev pub number_end : ℕ → Option Turn
+number_end n = cond (is_character n) (Some (Whole n)) None
+
+abbrev pub entity_step : Entity → ℕ → Option Turn
+entity_step Begun c = begin_entity c
+entity_step A c = after_a c
+entity_step Am c = expect 112 (Further Amp) c
+entity_step Amp c = expect 59 (Whole 38) c
+entity_step Ap c = expect 111 (Further Apo) c
+entity_step Apo c = expect 115 (Further Apos) c
+entity_step Apos c = expect 59 (Whole 39) c
+entity_step G c = expect 116 (Further Gt) c
+entity_step Gt c = expect 59 (Whole 62) c
+entity_step L c = expect 116 (Further Lt) c
+entity_step Lt c = expect 59 (Whole 60) c
+entity_step Q c = expect 117 (Further Qu) c
+entity_step Qu c = expect 111 (Further Quo) c
+entity_step Quo c = expect 116 (Further Quot) c
+entity_step Quot c = expect 59 (Whole 34) c
+entity_step Hash c = cond (eqb c 120) (Some (Further Hex)) (decimal_digit 0 c)
+entity_step (Decimal n) c = cond (eqb c 59) (number_end n) (decimal_digit n c)
+entity_step Hex c = hexadecimal_digit 0 c
+entity_step (HexDigits n) c = cond (eqb c 59) (number_end n) (hexadecimal_digit n c)
+
+-- States ------------------------------------------------------------------------------------------
+
+-- the open elements, the innermost outside, with what stands before each
+pub data Stack : Type 0 where
+  Bottom : Stack
+  Opened : Stack → Level → Head → Stack
+
+pub record Held : Type 0 where
+  pub imports : List (List ℕ)
+  pub stack : Stack
+  pub level : Level
+
+pub data Mode : Type 0 where
+  Inside : Mode
+  Referring : Place → Entity → Mode
+  Opening : Place → Mode
+  Banged : Mode
+  BangDashed : Mode
+  Commented : Mode
+  Dashed : Mode
+  DashDashed : Mode
+  Asked : Mode
+  Instructing : List ℕ → Mode
+  NameAsked : List ℕ → Mode
+  Instructed : List ℕ → List ℕ → Mode
+  EndAsked : List ℕ → List ℕ → Mode
+  Naming : Place → List ℕ → Mode
+  Spaced : Head → Mode
+  Tight : Head → Mode
+  Keyed : Head → Place → List ℕ → Mode
+  KeySpaced : Head → Place → List ℕ → Mode
+  Signed : Head → Place → List ℕ → Mode
+  -- the value so far, and its count of signs
+  Quoted : Head → Place → List ℕ → Quote → List ℕ → ℕ → Mode
+  ValueReferring : Head → Place → List ℕ → Quote → List ℕ → ℕ → Place → Entity → Mode
+  Slashed : Head → Mode
+  -- what is left of the open name
+  Ending : List ℕ → Mode
+  Ended : Mode
+
+pub record State : Type 0 where
+  pub held : Held
+  pub mode : Mode
+
+abbrev pub at : Held → Mode → Option State
+at h m = Some (record { held = h; mode = m })
+
+abbrev pub some_if : Bool → Option State → Option State
+some_if true s = s
+some_if false s = None
+
+abbrev pub initial : State
+initial = record { held = record { imports = []; stack = Bottom; level = fresh_level }; mode = Inside }
+
+abbrev pub is_open : Stack → Bool
+is_open Bottom = false
+is_open (Opened s l h) = true
+
+abbrev pub is_nothing : Nodes → Bool
+is_nothing Nothing = true
+is_nothing (Letters n r p) = false
+is_nothing (Node n h inner) = false
+
+-- an element may begin here: within another, or as the first
+abbrev pub may_begin : Held → Bool
+may_begin h = is_open h.stack || is_nothing h.level.nodes
+
+abbrev pub with_level : Held → Level → Held
+with_level h l = record { imports = h.imports; stack = h.stack; level = l }
+
+-- white outside the elements is not kept
+abbrev pub sign_in : Stack → Place → ℕ → Held → Held
+sign_in Bottom p c h = h
+sign_in (Opened s l head) p c h = with_level h (one_sign p c h.level)
+
+abbrev pub with_sign : Place → ℕ → Held → Held
+with_sign p c h = sign_in h.stack p c h
+
+-- an instruction is whole: before the first element it may be an import
+abbrev pub with_instruction : Held → List ℕ → List ℕ → Held
+with_instruction h name inside = record { imports = h.imports ++ cond (may_begin h && not (is_open h.stack)) (listed name inside) []; stack = h.stack; level = h.level }
+
+abbrev pub with_leaf : Held → Head → Held
+with_leaf h head = with_level h (one_child h.level head Nothing)
+
+abbrev pub open_element : Held → Head → Held
+open_element h head = record { imports = h.imports; stack = Opened h.stack h.level head; level = fresh_level }
+
+abbrev pub close_in : List (List ℕ) → Stack → Level → Option State
+close_in imports Bottom l = None
+close_in imports (Opened s before head) l = at (record { imports = imports; stack = s; level = one_child before head (closed l) }) Inside
+
+abbrev pub close : Held → Option State
+close h = close_in h.imports h.stack h.level
+
+abbrev pub begin_end : Stack → Held → Option State
+begin_end Bottom h = None
+begin_end (Opened s l head) h = at h (Ending head.name)
+
+abbrev pub keys_of : List Attr → List (List ℕ)
+keys_of ats = map (λ (a : Attr). a.name) ats
+
+abbrev pub is_fresh : List ℕ → Head → Bool
+is_fresh key head = not (is_among key (keys_of head.attributes))
+
+abbrev pub with_attribute : Head → Place → List ℕ → List ℕ → Head
+with_attribute head q key value = record { name = head.name; attributes = head.attributes ++ (record { name = key; value = value; place = q } ∷ []); place = head.place }
+
+-- Steps, one function for each mode ---------------------------------------------------------------
+
+abbrev pub in_inside : Place → Held → ℕ → Class → Option State
+in_inside p h c White = at (with_sign p c h) Inside
+in_inside p h c Less = at h (Opening p)
+in_inside p h c Ampersand = some_if (is_open h.stack) (at h (Referring p Begun))
+in_inside p h c _ = some_if (is_open h.stack) (at (with_sign p c h) Inside)
+
+abbrev pub in_referring : Place → Held → Option Turn → Option State
+in_referring q h (Some (Further e)) = at h (Referring q e)
+in_referring q h (Some (Whole n)) = at (with_sign q n h) Inside
+in_referring q h None = None
+
+abbrev pub in_opening : Place → Held → ℕ → Class → Option State
+in_opening q h c Letter = some_if (may_begin h) (at h (Naming q (c ∷ [])))
+in_opening q h c Bang = at h Banged
+in_opening q h c Question = at h Asked
+in_opening q h c Slash = begin_end h.stack h
+in_opening q h c _ = None
+
+abbrev pub in_banged : Held → Class → Option State
+in_banged h Dash = at h BangDashed
+in_banged h _ = None
+
+abbrev pub in_bang_dashed : Held → Class → Option State
+in_bang_dashed h Dash = at h Commented
+in_bang_dashed h _ = None
+
+abbrev pub in_commented : Held → Class → Option State
+in_commented h Dash = at h Dashed
+in_commented h _ = at h Commented
+
+abbrev pub in_dashed : Held → Class → Option State
+in_dashed h Dash = at h DashDashed
+in_dashed h _ = at h Commented
+
+abbrev pub in_dash_dashed : Held → Class → Option State
+in_dash_dashed h Dash = at h DashDashed
+in_dash_dashed h Greater = at h Inside
+in_dash_dashed h _ = at h Commented
+
+abbrev pub in_asked : Held → ℕ → Class → Option State
+in_asked h c Letter = at h (Instructing (c ∷ []))
+in_asked h c _ = None
+
+abbrev pub in_instructing : List ℕ → Held → ℕ → Class → Option State
+in_instructing n h c White = at h (Instructed n (encode c))
+in_instructing n h c Question = at h (NameAsked n)
+in_instructing n h c k = some_if (in_name k) (at h (Instructing (n ++ (c ∷ []))))
+
+abbrev pub in_name_asked : List ℕ → Held → Class → Option State
+in_name_asked n h Greater = at (with_instruction h n []) Inside
+in_name_asked n h _ = None
+
+abbrev pub in_instructed : List ℕ → List ℕ → Held → ℕ → Class → Option State
+in_instructed n x h c Question = at h (EndAsked n x)
+in_instructed n x h c _ = at h (Instructed n (x ++ encode c))
+
+-- behind `?`, which belongs to the text unless `>` follows
+abbrev pub in_end_asked : List ℕ → List ℕ → Held → ℕ → Class → Option State
+in_end_asked n x h c Greater = at (with_instruction h n x) Inside
+in_end_asked n x h c Question = at h (EndAsked n (x ++ (63 ∷ [])))
+in_end_asked n x h c _ = at h (Instructed n ((x ++ (63 ∷ [])) ++ encode c))
+
+abbrev pub in_naming : Place → List ℕ → Held → ℕ → Class → Option State
+in_naming q n h c White = at h (Spaced (record { name = n; attributes = []; place = q }))
+in_naming q n h c Slash = at h (Slashed (record { name = n; attributes = []; place = q }))
+in_naming q n h c Greater = at (open_element h (record { name = n; attributes = []; place = q })) Inside
+in_naming q n h c k = some_if (in_name k) (at h (Naming q (n ++ (c ∷ []))))
+
+abbrev pub in_spaced : Place → Head → Held → ℕ → Class → Option State
+in_spaced p head h c White = at h (Spaced head)
+in_spaced p head h c Slash = at h (Slashed head)
+in_spaced p head h c Greater = at (open_element h head) Inside
+in_spaced p head h c Letter = at h (Keyed head p (c ∷ []))
+in_spaced p head h c _ = None
+
+-- behind a value: no attribute begins without white before it
+abbrev pub in_tight : Head → Held → Class → Option State
+in_tight head h White = at h (Spaced head)
+in_tight head h Slash = at h (Slashed head)
+in_tight head h Greater = at (open_element h head) Inside
+in_tight head h _ = None
+
+abbrev pub in_keyed : Head → Place → List ℕ → Held → ℕ → Class → Option State
+in_keyed head q k h c White = some_if (is_fresh k head) (at h (KeySpaced head q k))
+in_keyed head q k h c Equals = some_if (is_fresh k head) (at h (Signed head q k))
+in_keyed head q k h c kind = some_if (in_name kind) (at h (Keyed head q (k ++ (c ∷ []))))
+
+abbrev pub in_key_spaced : Head → Place → List ℕ → Held → Class → Option State
+in_key_spaced head q k h White = at h (KeySpaced head q k)
+in_key_spaced head q k h Equals = at h (Signed head q k)
+in_key_spaced head q k h _ = None
+
+abbrev pub in_signed : Head → Place → List ℕ → Held → Class → Option State
+in_signed head q k h White = at h (Signed head q k)
+in_signed head q k h Quotation = at h (Quoted head q k Double [] 0)
+in_signed head q k h Apostrophe = at h (Quoted head q k Single [] 0)
+in_signed head q k h _ = None
+
+-- a character of a value that is no `<` and no `&`
+abbrev pub in_value : Bool → Head → Place → List ℕ → Quote → List ℕ → ℕ → Held → ℕ → Class → Option State
+in_value true head q k u v n h c kind = at h (Tight (with_attribute head q k v))
+in_value false head q k u v n h c kind = at h (Quoted head q k u (v ++ value_byte kind c) (n + 1))
+
+abbrev pub in_quoted : Place → Head → Place → List ℕ → Quote → List ℕ → ℕ → Held → ℕ → Class → Option State
+in_quoted p head q k u v n h c Less = None
+in_quoted p head q k u v n h c Ampersand = at h (ValueReferring head q k u v n p Begun)
+in_quoted p head q k u v n h c kind = in_value (is_quote u kind) head q k u v n h c kind
+
+abbrev pub in_value_referring : Head → Place → List ℕ → Quote → List ℕ → ℕ → Place → Held → Option Turn → Option State
+in_value_referring head q k u v n r h (Some (Further e)) = at h (ValueReferring head q k u v n r e)
+in_value_referring head q k u v n r h (Some (Whole x)) = at h (Quoted head q k u (v ++ encode x) (n + 1))
+in_value_referring head q k u v n r h None = None
+
+abbrev pub in_slashed : Head → Held → Class → Option State
+in_slashed head h Greater = at (with_leaf h head) Inside
+in_slashed head h _ = None
+
+abbrev pub in_ended : Held → Class → Option State
+in_ended h White = at h Ended
+in_ended h Greater = close h
+in_ended h _ = None
+
+abbrev pub in_ending : List ℕ → Held → ℕ → Class → Option State
+in_ending [] h c k = in_ended h k
+in_ending (x ∷ rest) h c k = some_if (eqb c x) (at h (Ending rest))
+
+abbrev pub move : Place → Held → Mode → ℕ → Class → Option State
+move p h Inside c k = in_inside p h c k
+move p h (Referring q e) c k = in_referring q h (entity_step e c)
+move p h (Opening q) c k = in_opening q h c k
+move p h Banged c k = in_banged h k
+move p h BangDashed c k = in_bang_dashed h k
+move p h Commented c k = in_commented h k
+move p h Dashed c k = in_dashed h k
+move p h DashDashed c k = in_dash_dashed h k
+move p h Asked c k = in_asked h c k
+move p h (Instructing n) c k = in_instructing n h c k
+move p h (NameAsked n) c k = in_name_asked n h k
+move p h (Instructed n x) c k = in_instructed n x h c k
+move p h (EndAsked n x) c k = in_end_asked n x h c k
+move p h (Naming q n) c k = in_naming q n h c k
+move p h (Spaced head) c k = in_spaced p head h c k
+move p h (Tight head) c k = in_tight head h k
+move p h (Keyed head q key) c k = in_keyed head q key h c k
+move p h (KeySpaced head q key) c k = in_key_spaced head q key h k
+move p h (Signed head q key) c k = in_signed head q key h k
+move p h (Quoted head q key u v n) c k = in_quoted p head q key u v n h c k
+move p h (ValueReferring head q key u v n r e) c k = in_value_referring head q key u v n r h (entity_step e c)
+move p h (Slashed head) c k = in_slashed head h k
+move p h (Ending rest) c k = in_ending rest h c k
+move p h Ended c k = in_ended h k
+
+abbrev pub step : Place → State → ℕ → Option State
+step p s c = move p s.held s.mode c (class_of c)
+
+abbrev pub next : Place → Option State → ℕ → Option State
+next p None c = None
+next p (Some s) c = step p s c
+
+abbrev pub run : Place → Option State → List ℕ → Option State
+run p o [] = o
+run p o (c ∷ cs) = run (after p c) (next p o c) cs
+
+-- what is read where the text ends
+abbrev pub answer_of : Held → Stack → Mode → Bool → Option Reading
+answer_of h Bottom Inside false = Some (record { imports = h.imports; root = h.level.nodes })
+answer_of h _ _ _ = None
+
+abbrev pub answer : State → Option Reading
+answer s = answer_of s.held s.held.stack s.mode (is_nothing s.held.level.nodes)
+
+-- Limits ------------------------------------------------------------------------------------------
+
+abbrev pub stack_depth : Stack → ℕ
+stack_depth Bottom = 0
+stack_depth (Opened s l h) = suc (stack_depth s)
+
+abbrev pub is_naming : Mode → Bool
+is_naming (Naming q n) = true
+is_naming _ = false
+
+-- an element begins within 128 open ones
+abbrev pub is_deep : State → Bool
+is_deep s = is_naming s.mode && leb 128 (stack_depth s.held.stack)
+
+abbrev pub mode_long : Mode → Bool
+mode_long (Instructing n) = ltb 4096 (length n)
+mode_long (Naming q n) = ltb 4096 (length n)
+mode_long (Keyed head q key) = ltb 4096 (length key)
+mode_long (Quoted head q key u v n) = ltb 4096 n
+mode_long (ValueReferring head q key u v n r e) = ltb 4096 n
+mode_long _ = false
+
+-- the run at hand is too long
+abbrev pub level_long : Held → Bool
+level_long h = ltb 4096 h.level.count
+
+abbrev pub is_long : State → Bool
+is_long s = mode_long s.mode || level_long s.held
+
+-- where the sign begins whose last character stands at p
+abbrev pub sign_place : Place → Mode → Place
+sign_place p (Referring q e) = q
+sign_place p (ValueReferring head q key u v n r e) = r
+sign_place p _ = p

@@ -1,7 +1,0 @@
-use Rattle.std.proofs.Common.{length, take}
-use Rattle.fx_properties.specs.Numbers.{numbers}
-use Rattle.fx_properties.specs.Users.{Roomier}
-use Rattle.fx_edges.proofs.linking.reserve_links.Given as goal
-
-abbrev pub invariant-loop-operand : goal.invariant-loop-operand
-invariant-loop-operand l = Roomier (numbers (take l.operand-index l.operands)) (length l.operands) l.fn.users l.users

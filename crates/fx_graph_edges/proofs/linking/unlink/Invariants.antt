@@ -1,0 +1,10 @@
+use Rattle.std.proofs.Common.{ℕ, ◌≤◌, take}
+use Rattle.fx_graph_model.specs.Numbers.{numbers}
+use Rattle.fx_graph_model.specs.Users.{room_of, Unlinks}
+use Rattle.fx_graph_edges.proofs.linking.unlink.Given as goal
+
+abbrev pub invariant-loop-operand : goal.invariant-loop-operand
+invariant-loop-operand l = record {
+  unlinked : Unlinks l.user (numbers (take l.operand-index l.operands)) l.fn.users l.users;
+  grown : (name : ℕ) → room_of l.fn.users name ≤ room_of l.users name;
+}

@@ -1,0 +1,124 @@
+-- When each call is refused, and with which error. The errors are tested in their order, each over all names.
+use Rattle.std.specs.Prelude.{ℕ, ◌≡◌, ◌+◌, ◌⊎◌, nat_lt, Bool, false, cond, not, List, [], ◌∷◌, length, map, Option, Some, None, Result, Ok, Err, Contains}
+use Rattle.fx_base.specs.Printing.{kind_of}
+use Rattle.fx_base.specs.declared.keys.Name.{Name}
+use Rattle.fx_base.specs.declared.kinds.Kind.{Kind}
+use Rattle.fx_base.specs.declared.values.Value.{Value}
+use Rattle.fx_expr.specs.declared.tree.Expr.{Expr}
+use Rattle.fx_expr.specs.Tree.{tree}
+use Rattle.fx_expr.specs.Typing.{kind_in}
+use Rattle.fx_graph_model.specs.declared.entries.Entry.{Entry}
+use Rattle.fx_graph_model.specs.declared.errors.GraphError.{GraphError}
+use Rattle.fx_graph_model.specs.declared.errors.GraphError.TheVariants.{Unknown, ReadOnly, WrongKind, Bound, Cycle, Full, InUse, Memory}
+use Rattle.fx_graph_model.specs.Changes.{with_binding}
+use Rattle.fx_graph_model.specs.Equality.{same_kind}
+use Rattle.fx_graph_model.specs.Numbers.{numbers}
+use Rattle.fx_graph_model.specs.Uses.{entry_of, operands_in, uses, bound_in, unknown_in, leads}
+
+-- the call is refused just as said, and takes no memory
+abbrev pub IsFirmAnswer : {T : Type 0} → Option GraphError → Result T GraphError → Type 0
+IsFirmAnswer None (Ok value) = Unit {0}
+IsFirmAnswer None (Err error) = ⊥
+IsFirmAnswer (Some refusal) (Ok value) = ⊥
+IsFirmAnswer (Some refusal) (Err error) = error ≡ refusal
+
+-- the call is refused just as said; memory may be wanting
+abbrev pub IsAnswer : {T : Type 0} → Option GraphError → Result T GraphError → Type 0
+IsAnswer None (Ok value) = Unit {0}
+IsAnswer None (Err error) = error ≡ Memory
+IsAnswer (Some refusal) (Ok value) = ⊥
+IsAnswer (Some refusal) (Err error) = (error ≡ refusal) ⊎ (error ≡ Memory)
+
+-- the first refusal, and else the second
+abbrev pub or_else : Option GraphError → Option GraphError → Option GraphError
+or_else None others = others
+or_else (Some refusal) others = Some refusal
+
+-- this error of the first that passes the test
+abbrev pub refused_first : {X : Type 0} → (X → GraphError) → (X → Bool) → List X → Option GraphError
+refused_first error test [] = None
+refused_first error test (x ∷ xs) = cond (test x) (Some (error x)) (refused_first error test xs)
+
+abbrev pub unknown_name : List Entry → List Name → Option GraphError
+unknown_name entries names = refused_first Unknown (λ (name : Name). unknown_in entries name.0) names
+
+abbrev pub read_only_in : List Entry → ℕ → Bool
+read_only_in entries name = (entry_of entries name).read_only
+
+abbrev pub kind_at : List Entry → ℕ → Kind
+kind_at entries name = (entry_of entries name).kind
+
+-- the names of pairs of a name and a value
+abbrev pub pair_names : List (Name × Value) → List Name
+pair_names pairs = map (λ (pair : Name × Value). pair.0) pairs
+
+-- a name is to have a value of another kind than its own
+abbrev pub wrong_kind : List Entry → List (Name × Value) → Option GraphError
+wrong_kind entries pairs =
+    refused_first (λ (pair : Name × Value). WrongKind pair.0)
+    (λ (pair : Name × Value). not (same_kind (kind_of pair.1) (kind_at entries pair.0.0)))
+    pairs
+
+abbrev pub declare_refusal : List Entry → Option GraphError
+declare_refusal entries = cond (nat_lt (length entries) 4000000) None (Some Full)
+
+unfoldable pub set_refusal : List (Name × Value) → List Entry → Option GraphError
+set_refusal pairs entries =
+    or_else (unknown_name entries (pair_names pairs))
+    (or_else (refused_first ReadOnly (λ (name : Name). read_only_in entries name.0) (pair_names pairs))
+    (or_else (wrong_kind entries pairs)
+    (refused_first Bound (λ (name : Name). bound_in entries name.0) (pair_names pairs))))
+
+unfoldable pub publish_refusal : List (Name × Value) → List Entry → Option GraphError
+publish_refusal pairs entries = or_else (unknown_name entries (pair_names pairs)) (wrong_kind entries pairs)
+
+-- it has this kind, and none is another
+abbrev pub is_of : Option Kind → Kind → Bool
+is_of None kind = false
+is_of (Some found) kind = same_kind found kind
+
+-- the expression has the property's kind over its operands
+abbrev pub fits : List Entry → ℕ → Expr → List ℕ → Bool
+fits entries name expr operands = is_of (kind_in (tree expr) (map (kind_at entries) operands)) (kind_at entries name)
+
+-- how many operands all bindings together have
+unfoldable pub operand_count : List Entry → ℕ
+operand_count [] = 0
+operand_count (entry ∷ entries) = length (operands_in entry.definition) + operand_count entries
+
+-- the names are known, the property may be bound, and the expression has its kind
+unfoldable pub fit_refusal : Name → Expr → List Name → List Entry → Option GraphError
+fit_refusal name expr operands entries =
+    or_else (unknown_name entries (name ∷ operands))
+    (or_else (cond (read_only_in entries name.0) (Some (ReadOnly name)) None)
+    (cond (fits entries name.0 expr (numbers operands)) None (Some (WrongKind name))))
+
+-- no operand reads the property, and there is room for the operands
+unfoldable pub link_refusal : Name → Expr → List Name → List Entry → Option GraphError
+link_refusal name expr operands entries =
+    or_else (refused_first Cycle (λ (operand : Name). leads entries operand.0 name.0) operands)
+    (cond (nat_lt 1000000 (operand_count (with_binding name.0 expr (numbers operands) entries))) (Some Full) None)
+
+unfoldable pub bind_refusal : Name → Expr → List Name → List Entry → Option GraphError
+bind_refusal name expr operands entries =
+    or_else (fit_refusal name expr operands entries) (link_refusal name expr operands entries)
+
+-- of a read or an unbinding
+abbrev pub unknown_refusal : Name → List Entry → Option GraphError
+unknown_refusal name entries = cond (unknown_in entries name.0) (Some (Unknown name)) None
+
+-- who uses one of the names is one of them
+abbrev pub IsFree : List ℕ → List Entry → Type 0
+IsFree names entries = (user used : ℕ) → Contains names used → Contains (uses entries user) used → Contains names user
+
+-- all names are known, and this one, which isn't among them, uses one of them
+abbrev pub IsForgetRefusal : List Name → List Entry → GraphError → Type 0
+IsForgetRefusal names entries (Unknown name) = unknown_name entries names ≡ Some (Unknown name)
+IsForgetRefusal names entries (InUse user) =
+    (unknown_name entries names ≡ None) × (Contains (numbers names) user.0 → ⊥)
+    × ((used : ℕ) × Contains (numbers names) used × Contains (uses entries user.0) used)
+IsForgetRefusal names entries _ = ⊥
+
+abbrev pub IsForgetAnswer : List Name → List Entry → Result Unit GraphError → Type 0
+IsForgetAnswer names entries (Ok value) = (unknown_name entries names ≡ None) × IsFree (numbers names) entries
+IsForgetAnswer names entries (Err error) = IsForgetRefusal names entries error

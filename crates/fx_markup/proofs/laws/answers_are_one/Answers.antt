@@ -1,5 +1,0 @@
-use Rattle.fx_markup.proofs.Verdicts.{one_verdict}
-use Rattle.fx_markup.proofs.laws.answers_are_one.Goals as goal
-
-pub returns : goal.returns
-returns c = one_verdict

@@ -1,9 +1,0 @@
-use Rattle.std.proofs.Common.{◌≡◌, drop}
-use Rattle.fx_pairs.specs.Pairs.{numbers, pairs_of}
-use Rattle.fx_pairs.specs.Gathering.{with_partners}
-use Rattle.fx_pairs.proofs.grouping.add_partners.Given as goal
-
-abbrev pub invariant-loop-pair : goal.invariant-loop-pair
-invariant-loop-pair l =
-    with_partners l.name.0 (pairs_of (drop l.pair-index l.pairs)) (numbers l.names.items)
-    ≡ with_partners l.name.0 (pairs_of l.pairs) (numbers l.fn.names.items)

@@ -1,6 +1,0 @@
--- the law is a lemma
-use Rattle.fx_properties.proofs.Changed.{closed_marking}
-use Rattle.fx_properties.proofs.laws.marks_stay_closed.Goals as goal
-
-pub returns : goal.returns
-returns c = closed_marking

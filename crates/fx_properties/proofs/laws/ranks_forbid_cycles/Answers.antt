@@ -1,6 +1,0 @@
--- the law is a lemma
-use Rattle.fx_properties.proofs.Walks.{acyclic}
-use Rattle.fx_properties.proofs.laws.ranks_forbid_cycles.Goals as goal
-
-pub returns : goal.returns
-returns c = acyclic

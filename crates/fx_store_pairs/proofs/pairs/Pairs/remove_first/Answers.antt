@@ -1,0 +1,26 @@
+-- the first pair of the two stands at the place, if there is one
+use Rattle.std.proofs.Common.{◌<◌, ◌≤◌, List, length, sym, ap, ◌∙◌, arith}
+use Rattle.std.specs.List.{position_or_len}
+use Rattle.fx_base.specs.declared.keys.Name.{Name}
+use Rattle.fx_store_pairs.specs.Pairs.{is_pair, pairs_of, without_pair}
+use Rattle.fx_store_pairs.proofs.Leaving.{first_gone, none_gone}
+use Rattle.fx_store_pairs.proofs.pairs.Pairs.remove_first.Goals as goal
+
+pub returns-then-place-len : goal.returns-then-place-len
+returns-then-place-len c =
+    let found = c.place_of-place.ensures
+    ∙ ap (λ (pairs : List (Name × Name)). position_or_len (is_pair c.args.one.0 c.args.other.0) (pairs_of pairs)) c.as_slice.ensures.value in
+    let within : c.place_of-place.result < length c.self.inside.pairs.items = omega (arith, ap length c.as_slice.ensures.value) in
+    ap pairs_of c.remove.ensures.items
+    ∙ first_gone c.args.one.0 c.args.other.0 c.self.inside.pairs.items c.place_of-place.result found within
+    ∙ ap (without_pair c.args.one.0 c.args.other.0) c.self.view_is
+
+pub returns-else-place-len : goal.returns-else-place-len
+returns-else-place-len c =
+    let found = c.place_of-place.ensures
+    ∙ ap (λ (pairs : List (Name × Name)). position_or_len (is_pair c.args.one.0 c.args.other.0) (pairs_of pairs)) c.as_slice.ensures.value in
+    let past : length c.self.inside.pairs.items ≤ position_or_len (is_pair c.args.one.0 c.args.other.0) (pairs_of c.self.inside.pairs.items) =
+    omega (arith, ap length c.as_slice.ensures.value) in
+    sym c.self.view_is
+    ∙ none_gone c.args.one.0 c.args.other.0 c.self.inside.pairs.items past
+    ∙ ap (without_pair c.args.one.0 c.args.other.0) c.self.view_is

@@ -1,3 +1,2 @@
 pub mod GeometryLemmas
-pub mod IdentifierLemmas
 pub mod TextLemmas

@@ -21,7 +21,10 @@ blue_of pixel = pixel % 256
 
 -- the pixel after a colour was laid over it
 unfoldable pub blended : Color → ℕ → ℕ
-blended color under = pixel_of (channel color.r color.a (red_of under)) (channel color.g color.a (green_of under)) (channel color.b color.a (blue_of under))
+blended color under = pixel_of
+    (channel color.r color.a (red_of under))
+    (channel color.g color.a (green_of under))
+    (channel color.b color.a (blue_of under))
 
 -- the pixel before anything is laid over it
 abbrev pub white : ℕ

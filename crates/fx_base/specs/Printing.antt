@@ -1,8 +1,8 @@
 -- How a value is printed.
-use Rattle.std.specs.Prelude.{ℕ, Bool, true, false, List, [], ◌∷◌, ◌++◌, ◌/◌, ◌%◌, ◌==◌, codes, if◌then◌else◌}
+use Rattle.std.specs.Prelude.{ℕ, Bool, true, false, List, [], ◌∷◌, ◌++◌, ◌/◌, ◌%◌, ◌==◌, codes, if◌then◌else◌, slice_index_or}
 use Rattle.std.specs.List.{flat_map}
-use Rattle.std.specs.Prelude.{slice_index_or}
 use Rattle.std.specs.Fmt.{digit_glyph, signed_decimal}
+use Rattle.fx_text.specs.Characters.{backslash, carriage_return, line_feed, number_sign, space}
 use Rattle.fx_base.specs.Constants.{constants_of}
 use Rattle.fx_base.specs.declared.color.Color.{Color as Paint}
 use Rattle.fx_base.specs.declared.geometry.Sides.{Sides as Insets}
@@ -23,18 +23,23 @@ kind_of (Sides sides) = kind.Sides
 
 -- a byte of a text: a backslash, a line feed and a carriage return are written as two characters
 abbrev pub escaped : ℕ → List ℕ
-escaped byte = if byte == 92 then 92 ∷ 92 ∷ [] else (if byte == 10 then 92 ∷ 110 ∷ [] else (if byte == 13 then 92 ∷ 114 ∷ [] else byte ∷ []))
+escaped byte =
+    if byte == backslash then codes "\\\\"
+    else (if byte == line_feed then codes "\\n"
+    else (if byte == carriage_return then codes "\\r" else byte ∷ []))
 
 abbrev pub two_digits : ℕ → List ℕ
 two_digits n = digit_glyph false (n / 16) ∷ digit_glyph false (n % 16) ∷ []
 
 -- `#rrggbbaa`
 abbrev pub hexadecimal : Paint → List ℕ
-hexadecimal c = 35 ∷ (two_digits c.r ++ (two_digits c.g ++ (two_digits c.b ++ two_digits c.a)))
+hexadecimal c = number_sign ∷ (two_digits c.r ++ (two_digits c.g ++ (two_digits c.b ++ two_digits c.a)))
 
 -- `top right bottom left`
 abbrev pub sides_text : Insets → List ℕ
-sides_text s = signed_decimal s.top ++ (32 ∷ (signed_decimal s.right ++ (32 ∷ (signed_decimal s.bottom ++ (32 ∷ signed_decimal s.left)))))
+sides_text s =
+    signed_decimal s.top ++ (space ∷ (signed_decimal s.right
+    ++ (space ∷ (signed_decimal s.bottom ++ (space ∷ signed_decimal s.left)))))
 
 -- the constant at this place of its family
 abbrev pub constant_at : Family → ℕ → List ℕ

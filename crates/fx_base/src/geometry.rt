@@ -1,12 +1,5 @@
-//! Places in files, rectangles and insets.
-
-/// A character of a file: the file by its place in the list of files, line and column counted from 1.
-#[derive(Clone, Copy, PartialEq, Eq, Debug)]
-pub struct Place {
-    pub file: u32,
-    pub line: u32,
-    pub column: u32,
-}
+//! Rectangles and insets.
+ghost use Rattle.std.specs.Prelude.{◌≡◌, ◌↔◌, IsTrue};
 
 /// A rectangle in pixels: its left and top edge, its width and height (JavaFX `Rectangle2D`).
 #[derive(Clone, Copy, PartialEq, Eq, Debug)]
@@ -24,4 +17,13 @@ pub struct Sides {
     pub right: i64,
     pub bottom: i64,
     pub left: i64,
+}
+
+impl Sides {
+    /// Are the two the same four lengths? `==` answers the same.
+    pub fn equals(self, other: Sides) -> bool
+        ensures { IsTrue result ↔ (self ≡ other) }
+    {
+        self == other
+    }
 }

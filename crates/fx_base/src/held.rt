@@ -1,6 +1,6 @@
 //! What holds the characters of a text: the value itself where they are few, and memory of its own where they are many.
 //! Between `ShortText` and `Text`.
-ghost use Rattle.std.specs.Prelude.{◌≡◌, ◌↔◌, [], IfOk, IfSome, IsAscii, IsSome};
+ghost use Rattle.std.specs.Prelude.{◌≡◌, ◌↔◌, [], IfOk, IfSome, IsAscii, IsSome, string_bytes};
 ghost use Rattle.fx_base.specs.Held.{held_bytes};
 
 use crate::short_texts::{ROOM, ShortText};
@@ -53,6 +53,16 @@ impl Held {
         }
         let text = unsafe { str::from_utf8_unchecked(bytes) };
         Ok(Some(Held::Long(String::from_str(alloc, text)?)))
+    }
+
+    /// The text of the string, whose memory is kept where the text is long.
+    pub(crate) fn from_string(text: String) -> Held
+        ensures { held_bytes result ≡ string_bytes text }
+    {
+        if text.len() <= ROOM {
+            return Held::Short(ShortText::from_str(text.as_str()));
+        }
+        Held::Long(text)
     }
 
     /// Lends the text.

@@ -2,12 +2,12 @@
 
 /// A node of the scene: its slot in the arena, and the number of its birth, which tells it from every
 /// other node that stood in the slot.
-#[derive(Clone, Copy, PartialEq, Eq, Debug)]
+#[derive(Clone, Copy, PartialEq, Eq, PartialOrd, Ord, Hash, Default, Debug)]
 pub struct NodeKey {
     pub slot: usize,
     pub birth: u32,
 }
 
 /// A property by its number, counted from 0 in order of declaration.
-#[derive(Clone, Copy, PartialEq, Eq, Debug)]
+#[derive(Clone, Copy, PartialEq, Eq, PartialOrd, Ord, Hash, Default, Debug)]
 pub struct Name(pub u32);

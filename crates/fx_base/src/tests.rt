@@ -68,15 +68,6 @@ fn bounds_texts(rt: HostRuntime) -> Result<(), Fail> {
     let whole = Str::from_string(long).copy(alloc)?;
     assert!(rt; Text::from_string(String::from_str(alloc, whole.as_str())?).is_none());
     assert!(rt; Text::new(alloc).equals(""));
-    for (text, answer) in [
-        ("a_1", true),
-        ("_", true),
-        ("", false),
-        ("1a", false),
-        ("a-b", false),
-    ] {
-        assert_eq!(rt; is_identifier(text), answer, "{text}");
-    }
     Ok(())
 }
 
@@ -167,4 +158,19 @@ fn counts_in_no_room(rt: HostRuntime) {
         Blank::new(1),
         Blank::new(1),
     );
+}
+
+#[test]
+fn compares_and_walks(rt: HostRuntime) -> Result<(), Fail> {
+    let alloc = rt.alloc();
+    let mut numbers = Vec::new(alloc);
+    numbers.push(1)?;
+    let one = List::from_vec(numbers);
+    assert!(rt; one.is_same(&one) && !one.is_same(&List::new(alloc)));
+    assert!(rt; Some(1).is_same(&Some(1)) && !None.is_same(&Some(1)));
+    let position = Position::START.after('\n').after('é');
+    assert_eq!(rt; position, Position { line: 2, column: 2 });
+    assert_eq!(rt; Position::START.after_bytes("\né".as_bytes()), position);
+    assert!(rt; Name(1) < Name(2) && NodeKey::default() == NodeKey { slot: 0, birth: 0 });
+    Ok(())
 }

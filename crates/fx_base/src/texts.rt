@@ -13,7 +13,7 @@ use thiserror::Error;
 pub const TEXT_LIMIT: usize = 4096;
 
 /// A text of at most 4,096 characters. Contracts see its bytes. One of at most 30 bytes stands in the value
-/// itself, unless it was given as a `String`.
+/// itself.
 #[derive(Drop)]
 pub struct Text {
     held: Held,
@@ -73,7 +73,7 @@ impl Text {
         Ok(Text { held })
     }
 
-    /// The text in place of the string, unless it has more than 4,096 characters.
+    /// The text of the string, unless it has more than 4,096 characters. The memory of a long one is kept.
     pub fn from_string(text: String) -> Option<Text>
         ensures found { IfSome result (λ t. t ≡ string_bytes text) }
         ensures none { IsNone result ↔ (4096 < length (chars (string_bytes text))) }
@@ -82,7 +82,7 @@ impl Text {
             return None;
         }
         Some(Text {
-            held: Held::Long(text),
+            held: Held::from_string(text),
         })
     }
 

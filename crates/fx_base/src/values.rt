@@ -47,7 +47,7 @@ impl Value {
             (Value::Text(a), Value::Text(b)) => a.equals(b.as_str()),
             (Value::Choice(a, i), Value::Choice(b, j)) => a == b && i == j,
             (Value::Color(a), Value::Color(b)) => a == b,
-            (Value::Sides(a), Value::Sides(b)) => same_sides(*a, *b),
+            (Value::Sides(a), Value::Sides(b)) => a.equals(*b),
             _ => false,
         }
     }
@@ -176,10 +176,4 @@ fn push_escaped(all: &mut Vec<u8>, byte: u8) -> Result<(), AllocError>
         b'\r' => all.extend_from_slice(b"\\r"),
         _ => all.extend_from_slice(&[byte]),
     }
-}
-
-fn same_sides(a: Sides, b: Sides) -> bool
-    ensures { IsTrue result ↔ (a ≡ b) }
-{
-    a == b
 }

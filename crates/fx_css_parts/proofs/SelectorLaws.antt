@@ -5,7 +5,7 @@ use Rattle.std.specs.Option.{option_and_then, option_map}
 use Rattle.std.specs.Cmp.Derive.{both_true}
 use Rattle.std.proofs.lemmas.Bool.{and_parts}
 use Rattle.std.proofs.lemmas.Bool.Decides.{nat_tests}
-use Rattle.fx_base.specs.Identifier.{is_letter}
+use Rattle.fx_text.specs.Classes.{is_letter}
 use Rattle.fx_css_types.specs.declared.selectors.Combinator.{Combinator}
 use Rattle.fx_css_types.specs.declared.selectors.Combinator.TheVariants.{Descendant, Child}
 use Rattle.fx_css_types.specs.declared.selectors.Compound.{Compound}

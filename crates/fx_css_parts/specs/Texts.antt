@@ -2,7 +2,7 @@
 -- White, marks and identifiers are ASCII, so no byte of a longer character is one of theirs.
 use Rattle.std.specs.Prelude.{◌≡◌, ℕ, Bool, true, false, not, ◌||◌, ◌&&◌, ◌==◌, nat_le, if◌then◌else◌, List, [], ◌∷◌, ◌++◌, length, Option, Some, None, IsTrue}
 use Rattle.std.specs.List.{list_all}
-use Rattle.fx_base.specs.Identifier.{is_letter, is_letter_or_digit}
+use Rattle.fx_text.specs.Classes.{is_letter, is_letter_or_digit}
 use Rattle.fx_look.specs.Colors.{is_white}
 
 abbrev pub is_later : ℕ → Bool

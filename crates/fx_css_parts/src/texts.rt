@@ -2,7 +2,7 @@
 //! Selectors and declarations are cut into such texts.
 ghost use Rattle.std.specs.Prelude.{◌≡◌, ◌≤◌, IfOk, length, true};
 ghost use Rattle.std.specs.List.{list_all};
-ghost use Rattle.fx_base.specs.Identifier.{is_letter, is_letter_or_digit};
+ghost use Rattle.fx_text.specs.Classes.{is_letter, is_letter_or_digit};
 ghost use Rattle.fx_look.specs.Colors.{is_white};
 ghost use Rattle.fx_css_parts.specs.Texts.{is_later, is_word, behind_dash, is_ident, trim_front, trim_back, trimmed, ident_at};
 

@@ -1,7 +1,7 @@
 -- The tokens of a text, found from the left.
 use Rattle.std.specs.Prelude.{ℕ, ◌++◌, ◌==◌, length, drop, List, [], ◌∷◌, Option, None, Some, if◌then◌else◌, encode_utf8, option_and_then, zero, suc}
 use Rattle.std.specs.Option.{option_map}
-use Rattle.fx_base.specs.Identifier.{is_letter, is_letter_or_digit}
+use Rattle.fx_text.specs.Classes.{is_letter, is_letter_or_digit}
 use Rattle.fx_base.specs.declared.values.Value.TheVariants as value
 use Rattle.fx_expr.specs.declared.tokens.Token.{Token}
 use Rattle.fx_expr.specs.declared.tokens.Token.TheVariants.{Constant, Binary}

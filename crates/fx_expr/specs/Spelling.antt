@@ -3,7 +3,7 @@ use Rattle.std.specs.Prelude.{◌≡◌, ℕ, Bool, true, false, ◌++◌, ◌&&
 use Rattle.std.specs.List.{list_all, list_any}
 use Rattle.std.specs.Str.{chars}
 use Rattle.std.specs.Cmp.Lexicographic.{pointwise}
-use Rattle.fx_base.specs.Identifier.{is_identifier, is_letter, is_letter_or_digit}
+use Rattle.fx_text.specs.Classes.{is_identifier, is_letter, is_letter_or_digit}
 use Rattle.fx_base.specs.declared.values.Value.TheVariants as value
 use Rattle.fx_expr.specs.declared.tree.BinarySign.{BinarySign}
 use Rattle.fx_expr.specs.declared.tree.BinarySign.TheVariants as binary

@@ -3,7 +3,7 @@ ghost use Rattle.std.specs.Prelude.{◌≡◌, ◌<◌, ◌≤◌, IfOk, IfSome,
 ghost use Rattle.std.specs.Option.{option_map};
 ghost use Rattle.std.specs.List.{list_any};
 ghost use Rattle.std.specs.String.{string_bytes};
-ghost use Rattle.fx_base.specs.Identifier.{is_letter, is_letter_or_digit};
+ghost use Rattle.fx_text.specs.Classes.{is_letter, is_letter_or_digit};
 ghost use Rattle.fx_expr.specs.Decimal.{passing, behind};
 ghost use Rattle.fx_expr.specs.Spelling.{has_name, is_true_word, is_false_word, is_truth_word, word_token};
 ghost use Rattle.fx_expr.specs.Scanning.{name_at, names_at, with_names, path_at, words_at};

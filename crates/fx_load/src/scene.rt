@@ -9,7 +9,8 @@ ghost use Rattle.fx_plain.specs.Script.{same_text, small_number};
 ghost use Rattle.fx_plain.specs.World.{is_named};
 ghost use Rattle.fx_load.specs.Parts.{RegionsPushed, part_region};
 
-use fx_base::{Color, Text, is_identifier};
+use fx_base::{Color, Text};
+use fx_text::is_identifier;
 use fx_doc::{Attribute, Content, Document, Element};
 use fx_plain::Node;
 use fx_script::small_number;

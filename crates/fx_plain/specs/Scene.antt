@@ -2,7 +2,7 @@
 use Rattle.std.specs.Prelude.{ℕ, Bool, true, false, ◌==◌, ◌&&◌, ◌||◌, ◌+◌, ◌*◌, ◌-◌, List, [], ◌∷◌, ◌++◌, Option, Some, None, codes, drop, length, nat_eq, nat_le, not, is_some, if◌then◌else◌}
 use Rattle.std.specs.List.{filter_map, find, list_all, list_any, starts_with}
 use Rattle.std.specs.Option.{option_and_then, option_map, unwrap_or}
-use Rattle.fx_base.specs.Identifier.{is_identifier}
+use Rattle.fx_text.specs.Classes.{is_identifier}
 use Rattle.fx_base.specs.declared.color.Color.{Color}
 use Rattle.fx_doc_grammar.specs.Grammar.{Attr, Nodes, Nothing, Letters, Node as Element, Reading}
 use Rattle.fx_plain.specs.Script.{same_text, small_number}

@@ -3,7 +3,7 @@ use Rattle.std.specs.Prelude.{ℕ, Bool, ◌==◌, ◌||◌, ◌&&◌, List, [],
 use Rattle.std.specs.Char.{is_ascii_digit}
 use Rattle.std.specs.Cmp.Lexicographic.{pointwise}
 use Rattle.std.specs.List.{fold, list_all, prefix_len, starts_with}
-use Rattle.fx_base.specs.Identifier.{is_identifier}
+use Rattle.fx_text.specs.Classes.{is_identifier}
 use Rattle.fx_plain.specs.declared.lines.Line.{Line}
 use Rattle.fx_plain.specs.declared.lines.Line.TheVariants.{Skip, Set, Get, Pulse, NotBuilt}
 use Rattle.fx_plain.specs.declared.lines.Target.{Target}

@@ -4,7 +4,8 @@ ghost use Rattle.std.specs.Char.{is_ascii_digit};
 ghost use Rattle.std.specs.List.{list_all, prefix_len, starts_with};
 ghost use Rattle.fx_plain.specs.Script.{line_of, command_of, word_in, behind_word, behind, is_space, is_blank, got, setting, target_of, target_from, number_named, number_behind, number_behind_dot, number_of_digits, are_few_digits, small_number};
 
-use fx_base::{Text, TextError, is_identifier};
+use fx_base::{Text, TextError};
+use fx_text::is_identifier;
 use fx_plain::{Line, Number, Target};
 use std::alloc::{AllocError, Global};
 

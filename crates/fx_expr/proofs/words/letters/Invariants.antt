@@ -1,7 +1,7 @@
 -- the letters so far and those that are left
 use Rattle.std.proofs.Common.{◌≡◌, ◌++◌, length}
 use Rattle.std.specs.String.{string_bytes}
-use Rattle.fx_base.specs.Identifier.{is_letter_or_digit}
+use Rattle.fx_text.specs.Classes.{is_letter_or_digit}
 use Rattle.fx_expr.specs.Decimal.{passing, behind}
 use Rattle.fx_expr.proofs.words.letters.Given as goal
 

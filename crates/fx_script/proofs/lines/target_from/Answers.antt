@@ -3,8 +3,8 @@ use Rattle.std.proofs.Common.{◌≡◌, ℕ, ◌<◌, ◌≤◌, true, false, L
 use Rattle.std.specs.Prelude.{Err}
 use Rattle.std.specs.Str.{chars, IsUtf8}
 use Rattle.std.proofs.lemmas.Str.{IsUtf8-from_ascii, chars-IsAscii}
-use Rattle.fx_base.specs.Identifier.{is_identifier}
-use Rattle.fx_base.proofs.IdentifierLemmas.{IsAscii-identifier}
+use Rattle.fx_text.specs.Classes.{is_identifier}
+use Rattle.fx_text.proofs.ClassLemmas.{IsAscii-identifier}
 use Rattle.fx_script.proofs.lines.target_from.Goals as goal
 
 not_identifier : (node : List ℕ) → (IsUtf8 node → ⊥) → is_identifier node ≡ false

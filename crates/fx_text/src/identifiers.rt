@@ -1,7 +1,7 @@
 //! Identifiers, as the names of nodes, properties, owners and actions are.
 ghost use Rattle.std.specs.Prelude.{◌≡◌};
 ghost use Rattle.std.specs.List.{list_all};
-ghost use Rattle.fx_base.specs.Identifier.{is_identifier, is_letter, is_letter_or_digit};
+ghost use Rattle.fx_text.specs.Classes.{is_identifier, is_letter, is_letter_or_digit};
 
 /// Is the text an ASCII letter or `_`, followed by letters, digits and `_` alone?
 pub fn is_identifier(text: &str) -> bool
@@ -22,17 +22,21 @@ fn spells_identifier(text: &[u8]) -> bool
 fn all_letters_or_digits(text: &[u8]) -> bool
     ensures { result ≡ list_all is_letter_or_digit text.now }
 {
-    text.iter().all(|c| is_letter_or_digit(*c))
+    text.iter().all(|byte| is_letter_or_digit(*byte))
 }
 
-fn is_letter(c: u8) -> bool
-    ensures { result ≡ is_letter c }
+/// Is the byte an ASCII letter or `_`?
+#[inline]
+pub fn is_letter(byte: u8) -> bool
+    ensures { result ≡ is_letter byte }
 {
-    matches!(c, b'A'..=b'Z' | b'a'..=b'z' | b'_')
+    matches!(byte, b'A'..=b'Z' | b'a'..=b'z' | b'_')
 }
 
-fn is_letter_or_digit(c: u8) -> bool
-    ensures { result ≡ is_letter_or_digit c }
+/// Is the byte an ASCII letter, a digit or `_`?
+#[inline]
+pub fn is_letter_or_digit(byte: u8) -> bool
+    ensures { result ≡ is_letter_or_digit byte }
 {
-    is_letter(c) || matches!(c, b'0'..=b'9')
+    is_letter(byte) || matches!(byte, b'0'..=b'9')
 }

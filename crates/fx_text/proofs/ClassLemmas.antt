@@ -5,7 +5,7 @@ use Rattle.std.specs.Str.{IsAscii}
 use Rattle.std.proofs.lemmas.Bool.{and_parts}
 use Rattle.std.proofs.lemmas.Bool.Decides.{nat_tests}
 use Rattle.std.proofs.lemmas.Str.Ascii.{IsAscii-cons, IsAscii-nil}
-use Rattle.fx_base.specs.Identifier.{is_identifier, is_letter, is_letter_or_digit}
+use Rattle.fx_text.specs.Classes.{is_identifier, is_letter, is_letter_or_digit}
 
 letter_or_digit_small : (c : ℕ) → is_letter_or_digit c ≡ true → c < 128
 letter_or_digit_small c h = grind (arith, nat_tests)

@@ -1,0 +1,5 @@
+pub mod Characters
+pub mod Classes
+pub mod Digits
+pub mod Fronts
+pub mod Trimming

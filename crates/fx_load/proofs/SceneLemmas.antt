@@ -12,10 +12,10 @@ use Rattle.fx_doc.specs.declared.document.Content.TheFolds as f
 use Rattle.fx_doc.specs.declared.document.Content.TheViews as w
 use Rattle.fx_doc.specs.declared.document.Element.{Element}
 use Rattle.fx_doc.proofs.Trees.{element_head, element_node, nodes_of_push, nothing_is}
-use Rattle.fx_plain.specs.Scene.{all_differ, names_of, one_more, region_named, regions_of}
-use Rattle.fx_plain.specs.Script.{same_text}
-use Rattle.fx_plain.specs.World.{is_named}
-use Rattle.fx_plain.specs.declared.nodes.Node.{Node}
+use Rattle.fx_load.specs.Scene.{all_differ, names_of, one_more, region_named, regions_of}
+use Rattle.std.specs.Str.{bytes_eq}
+use Rattle.fx_world.specs.World.{is_named}
+use Rattle.fx_world.specs.declared.nodes.Node.{Node}
 use Rattle.fx_load.specs.Parts.{RegionsPushed, part_region}
 
 pub find-map : {A B : Type 0} (test : B → Bool) (f : A → B) (xs : List A) → find test (map f xs) ≡ option_map f (find (λ x. test (f x)) xs)
@@ -119,14 +119,14 @@ pub empty_region : (e : Element) → eqb (vec_len (w.out-Element e).content) 0 �
 empty_region e h = ap part_region (element_node e Nothing) ∙ bare (element_head e).name (element_head e).attributes (nodes_of (w.out-Element e).content.items) (sym (content_is e) ∙ h)
 
 -- a name among those of the nodes behind it
-any_named : (name : List ℕ) (nodes : List Node) → list_any (λ other. same_text other name) (names_of nodes) ≡ list_any (is_named name) nodes
+any_named : (name : List ℕ) (nodes : List Node) → list_any (λ other. bytes_eq other name) (names_of nodes) ≡ list_any (is_named name) nodes
 any_named name [] = refl
 any_named name (n ∷ ns) = named n.name (any_named name ns)
   where
-    named : (own : Option (List ℕ)) → list_any (λ other. same_text other name) (names_of ns) ≡ list_any (is_named name) ns
-        → list_any (λ other. same_text other name) (cons_option own (names_of ns)) ≡ (option_map_or (λ o. same_text o name) own false || list_any (is_named name) ns)
+    named : (own : Option (List ℕ)) → list_any (λ other. bytes_eq other name) (names_of ns) ≡ list_any (is_named name) ns
+        → list_any (λ other. bytes_eq other name) (cons_option own (names_of ns)) ≡ (option_map_or (λ o. bytes_eq o name) own false || list_any (is_named name) ns)
     named None e = e
-    named (Some o) e = ap (λ b. same_text o name || b) e
+    named (Some o) e = ap (λ b. bytes_eq o name || b) e
 
 pub differ_more : (nodes : List Node) (i : ℕ) (n : Node) → i < length nodes → n ≡ get_or nodes i n
     → all_differ (names_of (drop i nodes)) ≡ (option_map_or (λ name. not (list_any (is_named name) (drop (i + 1) nodes))) n.name true && all_differ (names_of (drop (i + 1) nodes)))

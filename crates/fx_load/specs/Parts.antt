@@ -1,8 +1,8 @@
 -- What one piece of a document means to a scene.
 use Rattle.std.specs.Prelude.{◌≡◌, Bool, true, false, List, ◌++◌, Option, Some, None}
 use Rattle.fx_doc_grammar.specs.Grammar.{Nodes, Nothing, Letters, Node as Element}
-use Rattle.fx_plain.specs.Scene.{region_named}
-use Rattle.fx_plain.specs.declared.nodes.Node.{Node}
+use Rattle.fx_load.specs.Scene.{region_named}
+use Rattle.fx_world.specs.declared.nodes.Node.{Node}
 
 -- the region that a piece by itself is, if it is one
 abbrev pub part_region : Nodes → Option Node

@@ -1,6 +1,6 @@
 -- What the answer of a reading step says of the plain player's.
 use Rattle.std.specs.Prelude.{◌≡◌, ⊤, Result, Ok, Err}
-use Rattle.fx_plain.specs.Faults.{Fault}
+use Rattle.fx_load.specs.Faults.{Fault}
 use Rattle.fx_load.specs.Views.{fault_of}
 use Rattle.fx_load.specs.declared.files.LoadError.{LoadError}
 use Rattle.fx_load.specs.declared.files.LoadError.TheVariants.{Fault as IsFault, Failed, Memory}

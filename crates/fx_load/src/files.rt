@@ -2,14 +2,13 @@
 ghost use Rattle.std.specs.Prelude.{◌≡◌, ◌≤◌, IfOk, Some, length};
 ghost use Rattle.fx_port.specs.Causes.{HasCause};
 ghost use Rattle.fx_port.specs.Files.{Files};
-ghost use Rattle.fx_plain.specs.Faults.{fault_at, whole_fault};
-ghost use Rattle.fx_plain.specs.Loading.{bytes_of};
+ghost use Rattle.fx_load.specs.Faults.{fault_at, whole_fault};
+ghost use Rattle.fx_load.specs.Loading.{bytes_of};
 ghost use Rattle.fx_load.specs.Says.{LoadSays};
 ghost use Rattle.fx_load.specs.Views.{fault_of};
 ghost use Rattle.fx_load.specs.declared.files.LoadError.TheVariants.{Failed};
 
 use fx_doc_grammar::Place;
-use fx_plain::FaultKind;
 use fx_port::{FetchError, Fetched, Shelf};
 use std::alloc::{AllocError, Global};
 
@@ -21,6 +20,23 @@ pub const FILE_LIMIT: usize = 4_194_304;
 pub struct Run<'a> {
     pub scene: &'a str,
     pub script: &'a str,
+}
+
+/// Why a file is refused.
+#[derive(Clone, Copy, PartialEq, Eq, Debug)]
+pub enum FaultKind {
+    /// The file is absent.
+    Missing,
+    /// The file has more than 4,194,304 bytes.
+    TooLarge,
+    /// The file isn't UTF-8.
+    NotUtf8,
+    /// No document goes on as the file does.
+    Markup,
+    /// The file passes a limit on depth or on the length of a text.
+    Limit,
+    /// The file is of a form that this player doesn't read.
+    NotBuilt,
 }
 
 /// Why a file is refused, and where: line and column from 1, or 0 and 0 for the whole file.
@@ -86,7 +102,8 @@ pub fn read_file<'a, F: Shelf>(
     ensures held { F.held shelf.new ≡ F.held shelf.old }
     ensures cause { HasCause Failed (F.faults shelf.old) (F.faults shelf.new) result }
     ensures within { IfOk result (λ bytes. length bytes.items ≤ 4194304) }
-    ensures says { (files : Files) → F.held shelf.old ≡ Some files → LoadSays (λ bytes. bytes.items) result (bytes_of files name.now) }
+    ensures says { (files : Files) → F.held shelf.old ≡ Some files → LoadSays (λ bytes. bytes.items) result
+        (bytes_of files name.now) }
 {
     match shelf.fetch(alloc, name, FILE_LIMIT) {
         Ok(Fetched::Whole(bytes)) => Ok(bytes),

@@ -6,5 +6,5 @@ mod loading;
 mod scene;
 mod scripts;
 
-pub use files::{FileFault, LoadError, Run};
+pub use files::{FaultKind, FileFault, LoadError, Run};
 pub use loading::{Loaded, load};

@@ -5,8 +5,8 @@ ghost use Rattle.fx_doc.specs.Judgements.{Judgement, Tells};
 ghost use Rattle.fx_doc.specs.Reads.{HasFault};
 ghost use Rattle.fx_doc.specs.Views.{reading};
 ghost use Rattle.fx_doc_grammar.specs.Verdicts.{Reads};
-ghost use Rattle.fx_plain.specs.Loading.{elaborate, nodes_of_judgement, nodes_of_scene, nodes_of_verdict};
-ghost use Rattle.fx_plain.specs.declared.nodes.Node.{Node};
+ghost use Rattle.fx_load.specs.Loading.{elaborate, nodes_of_judgement, nodes_of_scene, nodes_of_verdict};
+ghost use Rattle.fx_world.specs.declared.nodes.Node.{Node};
 ghost use Rattle.fx_port.specs.Causes.{HasCause};
 ghost use Rattle.fx_port.specs.Files.{Files};
 ghost use Rattle.fx_load.specs.Loads.{loaded_of};
@@ -14,13 +14,14 @@ ghost use Rattle.fx_load.specs.Says.{LoadSays};
 ghost use Rattle.fx_load.specs.Views.{run_of};
 ghost use Rattle.fx_load.specs.declared.files.LoadError.TheVariants.{Failed};
 
-use crate::files::{FileFault, LoadError, Run, read_file};
+use crate::files::{FaultKind, FileFault, LoadError, Run, read_file};
 use crate::scene::scene_nodes;
 use crate::scripts::read_script;
 use fx_doc::{DocError, Document, place_behind, read_document};
 use fx_doc_grammar::Place;
-use fx_plain::{FaultKind, Line, Node};
 use fx_port::Shelf;
+use fx_script::Line;
+use fx_world::Node;
 use std::alloc::Global;
 
 /// A scene and a script that can be played.
@@ -38,7 +39,8 @@ pub fn load<'a, F: Shelf>(
 ) -> Result<Loaded, LoadError<'a>>
     ensures held { F.held shelf.new ≡ F.held shelf.old }
     ensures cause { HasCause Failed (F.faults shelf.old) (F.faults shelf.new) result }
-    ensures says { (files : Files) → F.held shelf.old ≡ Some files → LoadSays loaded_of result (elaborate (run_of run.now) files) }
+    ensures says { (files : Files) → F.held shelf.old ≡ Some files → LoadSays loaded_of result
+        (elaborate (run_of run.now) files) }
     ensures few { IfOk result (λ loaded. vec_len loaded.lines ≤ 100000) }
 {
     let script = read_file(alloc, shelf, run.script)?;
@@ -78,7 +80,8 @@ fn nodes_in<'a>(
 fn refused<'a>(name: &'a str, bytes: &[u8], error: DocError) -> LoadError<'a>
     requires size { length bytes.now ≤ 4194304 }
     requires fault { HasFault bytes.now error }
-    ensures says { (j : Judgement) → Tells (Err error) j → LoadSays (λ (nodes : Vec Node Global). nodes.items) (Err result) (nodes_of_judgement name.now bytes.now j) }
+    ensures says { (j : Judgement) → Tells (Err error) j →
+        LoadSays (λ (nodes : Vec Node Global). nodes.items) (Err result) (nodes_of_judgement name.now bytes.now j) }
     ensures fetches_nothing { ¬ (result ≡ LoadError.Failed) }
 {
     match error {

@@ -4,20 +4,22 @@ ghost use Rattle.std.specs.List.{find, list_all, list_any};
 ghost use Rattle.std.specs.Option.{option_and_then, option_map, option_map_or};
 ghost use Rattle.fx_doc.specs.Views.{attr_view, nodes_of, onto, onto_element, reading};
 ghost use Rattle.fx_doc_grammar.specs.Grammar.{Nothing};
-ghost use Rattle.fx_plain.specs.Scene.{all_differ, checked, color_of_digits, color_of_style, has_both_sizes, has_name, hex_pair, hex_value, is_good_id, is_good_place, is_good_size, is_good_style, is_pane, is_pane_attribute, is_region, is_region_attribute, names_of, node_of, number_at, pane_of, pane_with_regions, region_named, region_of, regions_of, scene_of, value_at};
-ghost use Rattle.fx_plain.specs.Script.{same_text, small_number};
-ghost use Rattle.fx_plain.specs.World.{is_named};
+ghost use Rattle.fx_load.specs.Scene.{all_differ, checked, color_of_digits, color_of_style, has_both_sizes, has_name, hex_pair, is_good_id, is_good_place, is_good_size, is_good_style, is_pane, is_pane_attribute, is_region, is_region_attribute, names_of, node_of, number_at, pane_of, pane_with_regions, region_named, region_of, regions_of, scene_of, value_at};
+ghost use Rattle.fx_text.specs.Classes.{hex_value};
+ghost use Rattle.std.specs.Str.{bytes_eq};
+ghost use Rattle.fx_script.specs.Script.{small_number};
+ghost use Rattle.fx_world.specs.World.{is_named};
 ghost use Rattle.fx_load.specs.Parts.{RegionsPushed, part_region};
 
 use fx_base::{Color, Text};
-use fx_text::is_identifier;
 use fx_doc::{Attribute, Content, Document, Element};
-use fx_plain::Node;
 use fx_script::small_number;
+use fx_text::{hex_pair, is_identifier};
+use fx_world::Node;
 use std::alloc::{AllocError, Global};
 
 /// The nodes in document order, the pane first, if the document is a pane with regions.
-#[tactic(auto, unfolding(fx_plain::specs::Scene::scene_of))]
+#[tactic(auto, unfolding(crate::specs::Scene::scene_of))]
 pub fn scene_nodes(alloc: Global, document: &Document) -> Result<Option<Vec<Node>>, AllocError>
     ensures { IfOk result (λ nodes. option_map (λ v. v.items) nodes ≡ scene_of (reading document.now)) }
 {
@@ -28,7 +30,7 @@ pub fn scene_nodes(alloc: Global, document: &Document) -> Result<Option<Vec<Node
 }
 
 fn imports_layout(imports: &[Text]) -> bool
-    ensures { result ≡ list_any (same_text (codes "javafx.scene.layout.*")) imports.now }
+    ensures { result ≡ list_any (bytes_eq (codes "javafx.scene.layout.*")) imports.now }
 {
     imports
         .iter()
@@ -36,7 +38,8 @@ fn imports_layout(imports: &[Text]) -> bool
 }
 
 fn pane_with_regions(alloc: Global, root: &Element) -> Result<Option<Vec<Node>>, AllocError>
-    ensures { IfOk result (λ nodes. option_map (λ v. v.items) nodes ≡ pane_with_regions (onto_element root.now Nothing)) }
+    ensures { IfOk result (λ nodes. option_map (λ v. v.items) nodes ≡
+        pane_with_regions (onto_element root.now Nothing)) }
 {
     if root.name.as_str() != "Pane" {
         return Ok(None);
@@ -58,7 +61,8 @@ fn push_regions(
     content: &[Content],
     nodes: &mut Vec<Node>,
 ) -> Result<bool, AllocError>
-    ensures { IfOk result (λ all. RegionsPushed all (regions_of (nodes_of content.now)) nodes.old.items nodes.new.items) }
+    ensures { IfOk result (λ all.
+        RegionsPushed all (regions_of (nodes_of content.now)) nodes.old.items nodes.new.items) }
 {
     for part in content {
         match region_of_part(alloc, part)? {
@@ -158,7 +162,7 @@ fn is_pane_attribute_each(attributes: &[Attribute]) -> bool
     attributes.iter().all(|a| is_pane_attribute(a))
 }
 
-#[tactic(auto, unfolding(fx_plain::specs::Scene::node_of))]
+#[tactic(auto, unfolding(crate::specs::Scene::node_of))]
 fn node_of(alloc: Global, attributes: &[Attribute]) -> Result<Node, AllocError>
     ensures { IfOk result (λ node. node ≡ node_of (map attr_view attributes.now)) }
 {
@@ -212,14 +216,14 @@ fn color_at(attributes: &[Attribute], name: &str) -> Option<Color>
     }
 }
 
-#[tactic(auto, unfolding(fx_plain::specs::Scene::is_region_attribute))]
+#[tactic(auto, unfolding(crate::specs::Scene::is_region_attribute))]
 fn is_region_attribute(a: &Attribute) -> bool
     ensures { result ≡ is_region_attribute (attr_view a.now) }
 {
     (is_good_id(a) || is_good_size(a)) || (is_good_place(a) || is_good_style(a))
 }
 
-#[tactic(auto, unfolding(fx_plain::specs::Scene::is_pane_attribute))]
+#[tactic(auto, unfolding(crate::specs::Scene::is_pane_attribute))]
 fn is_pane_attribute(a: &Attribute) -> bool
     ensures { result ≡ is_pane_attribute (attr_view a.now) }
 {
@@ -263,7 +267,7 @@ fn is_good_style(a: &Attribute) -> bool
 }
 
 /// `-fx-background-color:#rrggbb`.
-#[tactic(auto, unfolding(fx_plain::specs::Scene::color_of_style))]
+#[tactic(auto, unfolding(crate::specs::Scene::color_of_style))]
 fn color_of_style(style: &[u8]) -> Option<Color>
     ensures { result ≡ color_of_style style.now }
 {
@@ -274,7 +278,7 @@ fn color_of_style(style: &[u8]) -> Option<Color>
     }
 }
 
-#[tactic(auto, unfolding(fx_plain::specs::Scene::color_of_digits))]
+#[tactic(auto, unfolding(crate::specs::Scene::color_of_digits))]
 fn color_of_digits(digits: &[u8]) -> Option<Color>
     ensures { result ≡ color_of_digits digits.now }
 {
@@ -285,25 +289,6 @@ fn color_of_digits(digits: &[u8]) -> Option<Color>
             b: hex_pair(*e, *f)?,
             a: 255,
         }),
-        _ => None,
-    }
-}
-
-fn hex_pair(high: u8, low: u8) -> Option<u8>
-    ensures { result ≡ hex_pair high low }
-{
-    Some(hex_value(high)? * 16 + hex_value(low)?)
-}
-
-#[tactic(auto, unfolding(fx_plain::specs::Scene::hex_value))]
-fn hex_value(digit: u8) -> Option<u8>
-    ensures value { result ≡ hex_value digit }
-    ensures small { IfSome result (λ value. value < 16) }
-{
-    match digit {
-        b'0'..=b'9' => Some(digit - b'0'),
-        b'a'..=b'f' => Some(digit - b'a' + 10),
-        b'A'..=b'F' => Some(digit - b'A' + 10),
         _ => None,
     }
 }

@@ -3,13 +3,12 @@ ghost use Rattle.std.specs.Prelude.{◌≡◌, ◌≤◌, Err, IfOk, length, map
 ghost use Rattle.std.specs.Char.{is_ascii};
 ghost use Rattle.std.specs.List.{list_all};
 ghost use Rattle.std.specs.Str.Lines.{lines};
-ghost use Rattle.fx_plain.specs.Loading.{script_of};
-ghost use Rattle.fx_plain.specs.Script.{line_of};
+ghost use Rattle.fx_load.specs.Loading.{script_of};
+ghost use Rattle.fx_script.specs.Script.{line_of};
 ghost use Rattle.fx_load.specs.Says.{LoadSays};
 
-use crate::files::{FileFault, LoadError};
-use fx_plain::{FaultKind, Line};
-use fx_script::read_line;
+use crate::files::{FaultKind, FileFault, LoadError};
+use fx_script::{Line, read_line};
 use std::alloc::{AllocError, Global};
 
 /// The most lines of a script.

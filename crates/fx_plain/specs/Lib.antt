@@ -1,10 +1,3 @@
 pub mod CommandLine
-pub mod Faults
-pub mod Frame
-pub mod Loading
-pub mod Picture
 pub mod PlainPlayer
-pub mod Refusals
-pub mod Scene
-pub mod Script
-pub mod World
+pub mod Playing

@@ -2,10 +2,11 @@
 use Rattle.std.specs.Prelude.{◌≡◌, ℕ, List, Option, Some, None, Result, Ok, Err}
 use Rattle.fx_port.specs.Files.{Files}
 use Rattle.fx_port.specs.Pieces.{grown}
-use Rattle.fx_plain.specs.CommandLine.{Plan, OfFiles, accept}
-use Rattle.fx_plain.specs.Faults.{Fault, fault_line, usage_line}
-use Rattle.fx_plain.specs.Loading.{Loaded, elaborate, first_world}
-use Rattle.fx_plain.specs.World.{written_by_all}
+use Rattle.fx_plain.specs.CommandLine.{Plan, OfFiles, accept, usage_line}
+use Rattle.fx_load.specs.Faults.{Fault, fault_line}
+use Rattle.fx_load.specs.Loading.{Loaded, elaborate}
+use Rattle.fx_world.specs.World.{first_world}
+use Rattle.fx_plain.specs.Playing.{written_by_all}
 use Rattle.fx_plain.specs.declared.answers.Status.{Status}
 use Rattle.fx_plain.specs.declared.answers.Status.TheVariants.{Done, Usage, Refused, ReadFault, WriteFault, NoMemory}
 
@@ -16,7 +17,8 @@ pub record Output : Type 0 where
 -- a fault is told in one line; else all script lines are taken, one by one
 abbrev pub output_of_loaded : Result Loaded Fault → Output
 output_of_loaded (Err fault) = record { bytes = fault_line fault; status = Refused }
-output_of_loaded (Ok loaded) = record { bytes = written_by_all (first_world loaded.nodes) 1 loaded.lines; status = Done }
+output_of_loaded (Ok loaded) =
+    record { bytes = written_by_all (first_world loaded.nodes) 1 loaded.lines; status = Done }
 
 abbrev pub output_of_plan : Option Plan → Files → Output
 output_of_plan None files = record { bytes = usage_line; status = Usage }

@@ -1,19 +1,23 @@
 //! Laws of the plain player, each the contract of a function that does nothing.
 ghost use Rattle.std.specs.Prelude.{◌≡◌, ℕ, None};
-ghost use Rattle.fx_plain.specs.Refusals.{refused_line};
-ghost use Rattle.fx_plain.specs.World.{World, place_of, world_after, written_by};
-ghost use Rattle.fx_plain.specs.declared.answers.Refusal.TheVariants as refusal;
-ghost use Rattle.fx_plain.specs.declared.lines.Line.TheVariants as line;
-ghost use Rattle.fx_plain.specs.declared.lines.Target.{Target};
+ghost use Rattle.fx_plain.specs.Playing.{refused_line, written_by};
+ghost use Rattle.fx_world.specs.World.{World, place_of, world_after};
+ghost use Rattle.fx_world.specs.declared.refusals.Refusal.TheVariants as refusal;
+ghost use Rattle.fx_script.specs.declared.commands.Line.TheVariants as line;
+ghost use Rattle.fx_script.specs.declared.commands.Target.{Target};
 
 /// A refused line prints its one line and leaves the world as it was: a line of another form, and one that sets or
 /// reads a number of no node.
-#[tactic(auto, unfolding(crate::specs::World::written_by, crate::specs::World::world_after))]
+#[tactic(auto, unfolding(crate::specs::Playing::written_by, fx_world::specs::World::world_after))]
 pub fn refused_lines_change_nothing()
     ensures other_forms { (world : World) (number : ℕ) →
-        (world_after world line.NotBuilt ≡ world) × (written_by world number line.NotBuilt ≡ refused_line number refusal.NotBuilt) }
-    ensures sets { (world : World) (number value : ℕ) (target : Target) → place_of world.nodes target.node ≡ None →
-        (world_after world (line.Set target value) ≡ world) × (written_by world number (line.Set target value) ≡ refused_line number refusal.Unknown) }
+        (world_after world line.NotBuilt ≡ world) × (written_by world number line.NotBuilt ≡
+        refused_line number refusal.NotBuilt) }
+    ensures sets { (world : World) (number value : ℕ) (target : Target) →
+        place_of world.nodes target.node ≡ None →
+        (world_after world (line.Set target value) ≡ world) × (written_by world number (line.Set target value) ≡
+        refused_line number refusal.Unknown) }
     ensures gets { (world : World) (number : ℕ) (target : Target) → place_of world.nodes target.node ≡ None →
-        (world_after world (line.Get target) ≡ world) × (written_by world number (line.Get target) ≡ refused_line number refusal.Unknown) }
+        (world_after world (line.Get target) ≡ world) × (written_by world number (line.Get target) ≡
+        refused_line number refusal.Unknown) }
 {}

@@ -1,13 +1,9 @@
-//! The plain player: what a run prints, defined on lists, with no flags, caches or buffers. The definitions stand
-//! in specs/; here are the small types that they speak of, which the player's code has too.
+//! The plain player: all that a run writes, defined on lists, with no flags, caches or buffers. It folds the lines of a
+//! script over the world; what is judged stands beside what judges it, in the crates below.
 #![tactic(auto)]
 
 mod answers;
 mod laws;
-mod lines;
-mod nodes;
 
-pub use answers::{FaultKind, Refusal, Status};
+pub use answers::Status;
 pub use laws::refused_lines_change_nothing;
-pub use lines::{Line, Target};
-pub use nodes::{Node, Number, Size};

@@ -1,2 +1,1 @@
-pub mod PaintLemmas
 pub mod PlayLemmas

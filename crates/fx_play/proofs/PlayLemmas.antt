@@ -1,59 +1,19 @@
--- Looking a node up, and rows of a frame one after another.
+-- Looking a node up, and lines one after another.
 use Rattle.std.proofs.Common.{◌≤◌, take, drop, ◌≡◌, ◌<◌, ℕ, ◌+◌, ◌-◌, suc, List, [], ◌∷◌, ◌++◌, Option, Some, length, get_or, map, slice_get, sym, ◌∙◌, ap, refl, arith, append-nil, Result, Ok, Err}
 use Rattle.std.specs.List.{flat_map, join_with_byte, range_with_len}
 use Rattle.std.specs.Option.{option_and_then}
 use Rattle.std.proofs.Math.Seq.{take_all}
 use Rattle.std.proofs.lemmas.List.{drop_more}
 use Rattle.std.proofs.lemmas.Option.{slice_get_read}
-use Rattle.fx_port.specs.Pieces.{Writes, grown}
-use Rattle.fx_port.proofs.Growth.{goes_on, reaches_end, stops_within, up_to_start}
-use Rattle.fx_plain.specs.Frame.{pixel_text, row_of, row_text}
-use Rattle.fx_plain.specs.World.{World, node_named, place_of, world_after, written_by, written_by_all}
-use Rattle.fx_plain.specs.declared.lines.Line.{Line}
-use Rattle.fx_plain.specs.declared.nodes.Node.{Node}
-use Rattle.fx_plain.specs.declared.nodes.Size.{Size}
+use Rattle.fx_world.specs.World.{World, node_named, place_of, world_after}
+use Rattle.fx_plain.specs.Playing.{written_by, written_by_all}
+use Rattle.fx_script.specs.declared.commands.Line.{Line}
+use Rattle.fx_world.specs.declared.nodes.Node.{Node}
 
 -- the node at the place of its name
 pub node_at : (nodes : List Node) (name : List ℕ) (place : ℕ) (n : Node) → Some place ≡ place_of nodes name → place < length nodes → n ≡ get_or nodes place n
     → node_named nodes name ≡ Some n
 node_at nodes name place n e h is = ap (option_and_then (slice_get nodes)) (sym e) ∙ slice_get_read nodes (length nodes) place n refl h is
-
--- pieces joined by a byte: the first, and each other one behind the byte
-pub join-cons : (byte : ℕ) (text : ℕ → List ℕ) (x : ℕ) (xs : List ℕ) → join_with_byte byte (map text (x ∷ xs)) ≡ text x ++ flat_map (λ p. byte ∷ text p) xs
-join-cons byte text x [] = sym (append-nil (text x))
-join-cons byte text x (y ∷ xs) = ap (λ l. text x ++ (byte ∷ l)) (join-cons byte text y xs)
-
--- a row's pixels by its first and the others
-pub joined_row : (row : List ℕ) → 1 ≤ length row
-    → pixel_text (get_or row 0 0) ++ flat_map (λ p. 32 ∷ pixel_text p) (take (length row - 1) (drop 1 row)) ≡ join_with_byte 32 (map pixel_text row)
-joined_row [] h = absurd (omega arith)
-joined_row (x ∷ xs) h =
-    let all : take (suc (length xs) - 1) xs ≡ xs = take_all (suc (length xs) - 1) xs (omega arith) in
-    ap (λ l. pixel_text x ++ flat_map (λ p. 32 ∷ pixel_text p) l) all ∙ sym (join-cons 32 pixel_text x xs)
-
--- the rows of an image from a row on
-abbrev pub rows_from : (ℕ → ℕ → ℕ) → Size → ℕ → List ℕ
-rows_from pixel size y = flat_map (λ y. row_text (row_of pixel size y)) (range_with_len y (size.height - y))
-
-pub rows_from-cons : (pixel : ℕ → ℕ → ℕ) (size : Size) (y : ℕ) → y < size.height → rows_from pixel size y ≡ row_text (row_of pixel size y) ++ rows_from pixel size (y + 1)
-rows_from-cons pixel size y h =
-    let e : size.height - y ≡ suc (size.height - (y + 1)) = omega arith in
-    rw e refl
-
--- bytes, and then what a call writes
-pub writes_behind : {T E : Type 0} {old mid new : Option (List ℕ)} (result : Result T E) (front back : List ℕ)
-    → mid ≡ grown old front → Writes mid new result back → Writes old new result (front ++ back)
-writes_behind {old = old} (Ok x) front back e w =
-    record { ok = reaches_end (goes_on back [] (goes_on front back (up_to_start old (front ++ back)) refl e) (sym (append-nil back)) w.ok) refl; err = tt }
-writes_behind {old = old} (Err x) front back e w =
-    record { ok = tt; err = stops_within [] (goes_on front back (up_to_start old (front ++ back)) refl e) (sym (append-nil back)) w.err }
-
--- one row more
-pub row_next : (pixel : ℕ → ℕ → ℕ) (size : Size) (y n : ℕ) (given : List ℕ) → y < size.height → n ≡ size.width
-    → given ≡ row_text (map (λ x. pixel x y) (range_with_len 0 n)) → rows_from pixel size y ≡ given ++ rows_from pixel size (y + 1)
-row_next pixel size y n given h wide is =
-    rows_from-cons pixel size y h
-    ∙ ap (λ l. l ++ rows_from pixel size (y + 1)) (sym (is ∙ ap (λ n. row_text (map (λ x. pixel x y) (range_with_len 0 n))) wide))
 
 -- one line more
 pub line_next : (world : World) (number : ℕ) (lines : List Line) (i : ℕ) (line : Line) → i < length lines → line ≡ get_or lines i line

@@ -1,4 +1,3 @@
 pub mod Ends
-pub mod Painting
+pub mod Words
 pub mod Worlds
-pub mod Runs

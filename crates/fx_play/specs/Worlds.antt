@@ -1,5 +1,5 @@
 -- The player as the definitions have it.
-use Rattle.fx_plain.specs.World.{World}
+use Rattle.fx_world.specs.World.{World}
 use Rattle.fx_play.specs.declared.player.Player.{Player}
 
 abbrev pub world_of : Player → World

@@ -1,8 +1,6 @@
 //! The player as one call: words, files and a sink in, a status out. What it writes is the plain player's output.
 #![tactic(auto)]
 
-mod frame;
-mod painting;
 mod player;
 mod top;
 mod words;

@@ -1,17 +1,17 @@
 //! Playing script lines: what each writes, and what it makes of the nodes.
 ghost use Rattle.std.specs.Prelude.{◌≡◌, ◌≤◌, ◌<◌, ◌+◌, ◌-◌, ◌^◌, IfOk, IfSome, OnOk, length, slice_get, vec_len};
-ghost use Rattle.fx_plain.specs.Loading.{first_world};
-ghost use Rattle.fx_plain.specs.Picture.{clamped, window_for};
-ghost use Rattle.fx_plain.specs.Refusals.{refusal_word, refused_line};
-ghost use Rattle.fx_plain.specs.World.{frame_of, node_named, nodes_after_set, nodes_with, number_name, number_of, place_of, read_text, set_text, size_value, value_line, window_of, with_number, world_after, written_by, written_by_all};
+ghost use Rattle.fx_world.specs.World.{first_world, clamped, window_for, node_named, nodes_after_set, nodes_with, number_of, place_of, size_value, window_of, with_number, world_after};
+ghost use Rattle.fx_plain.specs.Playing.{refusal_word, refused_line, frame_of, read_text, set_text, value_line, written_by, written_by_all};
+ghost use Rattle.fx_script.specs.Script.{number_name};
 ghost use Rattle.fx_play.specs.Worlds.{world_of};
 ghost use Rattle.fx_port.specs.Causes.{HasCause};
 ghost use Rattle.fx_port.specs.Pieces.{Writes};
 ghost use Rattle.fx_port.specs.declared.pieces.PutError.TheVariants.{Failed};
 
-use crate::frame::put_frame;
-use fx_plain::{Line, Node, Number, Refusal, Size, Target};
+use fx_paint::put_frame;
 use fx_port::{PutError, Sink};
+use fx_script::{Line, Number, Target, number_name};
+use fx_world::{Node, Refusal, Size};
 use std::alloc::{AllocError, Global};
 
 /// The nodes in document order with the root first, the window from the first frame on, and the frames written.
@@ -32,7 +32,8 @@ pub fn put_lines<O: Sink>(
     requires few { length lines.now ≤ 100000 }
     requires fresh { player.frames ≡ 0 }
     ensures cause { HasCause Failed (O.faults out.old) (O.faults out.new) result }
-    ensures writes { Writes (O.written out.old) (O.written out.new) result (written_by_all (world_of player) 1 lines.now) }
+    ensures writes { Writes (O.written out.old) (O.written out.new) result
+        (written_by_all (world_of player) 1 lines.now) }
 {
     let mut player = player;
     let mut number = 1;
@@ -57,7 +58,7 @@ impl Player {
     }
 
     /// Takes the line with this number.
-    #[tactic(auto, unfolding(fx_plain::specs::World::written_by, fx_plain::specs::World::world_after))]
+    #[tactic(auto, unfolding(fx_plain::specs::Playing::written_by, fx_world::specs::World::world_after))]
     fn take<O: Sink>(
         &mut self,
         alloc: Global,
@@ -67,7 +68,8 @@ impl Player {
     ) -> Result<(), PutError>
         requires { self.old.frames < 2 ^ 64 - 1 }
         ensures cause { HasCause Failed (O.faults out.old) (O.faults out.new) result }
-        ensures writes { Writes (O.written out.old) (O.written out.new) result (written_by (world_of self.old) number line.now) }
+        ensures writes { Writes (O.written out.old) (O.written out.new) result
+            (written_by (world_of self.old) number line.now) }
         ensures world { OnOk result (world_of self.new ≡ world_after (world_of self.old) line.now) }
         ensures frames { self.new.frames ≤ self.old.frames + 1 }
     {
@@ -89,8 +91,10 @@ impl Player {
         out: &mut O,
     ) -> Result<(), PutError>
         ensures cause { HasCause Failed (O.faults out.old) (O.faults out.new) result }
-        ensures writes { Writes (O.written out.old) (O.written out.new) result (set_text number (place_of self.old.nodes.items target.now.node)) }
-        ensures nodes { OnOk result (self.new.nodes.items ≡ nodes_after_set self.old.nodes.items target.now value (place_of self.old.nodes.items target.now.node)) }
+        ensures writes { Writes (O.written out.old) (O.written out.new) result
+            (set_text number (place_of self.old.nodes.items target.now.node)) }
+        ensures nodes { OnOk result (self.new.nodes.items ≡
+            nodes_after_set self.old.nodes.items target.now value (place_of self.old.nodes.items target.now.node)) }
         ensures window { self.new.window ≡ self.old.window }
         ensures frames { self.new.frames ≡ self.old.frames }
     {
@@ -111,7 +115,8 @@ impl Player {
         out: &mut O,
     ) -> Result<(), PutError>
         ensures cause { HasCause Failed (O.faults out.old) (O.faults out.new) result }
-        ensures writes { Writes (O.written out.old) (O.written out.new) result (read_text number target.now (node_named self.now.nodes.items target.now.node)) }
+        ensures writes { Writes (O.written out.old) (O.written out.new) result
+            (read_text number target.now (node_named self.now.nodes.items target.now.node)) }
     {
         match place_of(self.nodes.as_slice(), target.node.as_str()) {
             Some(place) => put_value(alloc, target, &self.nodes[place], out),
@@ -119,7 +124,7 @@ impl Player {
         }
     }
 
-    #[tactic(auto, unfolding(fx_plain::specs::World::world_after))]
+    #[tactic(auto, unfolding(fx_world::specs::World::world_after))]
     fn pulse<O: Sink>(&mut self, alloc: Global, out: &mut O) -> Result<(), PutError>
         requires { self.old.frames < 2 ^ 64 - 1 }
         ensures cause { HasCause Failed (O.faults out.old) (O.faults out.new) result }
@@ -220,30 +225,20 @@ fn put_value<O: Sink>(
     out: &mut O,
 ) -> Result<(), PutError>
     ensures cause { HasCause Failed (O.faults out.old) (O.faults out.new) result }
-    ensures writes { Writes (O.written out.old) (O.written out.new) result (value_line target.now (number_of node.now target.now.number)) }
+    ensures writes { Writes (O.written out.old) (O.written out.new) result
+        (value_line target.now (number_of node.now target.now.number)) }
 {
     let text = value_text(alloc, target, number_of(node, target.number))?;
     out.put(text.as_slice())
 }
 
-#[tactic(auto, unfolding(fx_plain::specs::World::value_line))]
+#[tactic(auto, unfolding(fx_plain::specs::Playing::value_line))]
 fn value_text(alloc: Global, target: &Target, value: i64) -> Result<Vec<u8>, AllocError>
     ensures { IfOk result (λ text. text.items ≡ value_line target.now value) }
 {
     let node = target.node.as_str();
     let name = number_name(target.number);
     Ok(format!(in alloc; "value {node}.{name} {value}\n")?.into_bytes())
-}
-
-fn number_name(number: Number) -> &'static str
-    ensures { result.now ≡ number_name number }
-{
-    match number {
-        Number::LayoutX => "layoutX",
-        Number::LayoutY => "layoutY",
-        Number::PrefWidth => "prefWidth",
-        Number::PrefHeight => "prefHeight",
-    }
 }
 
 fn put_refused<O: Sink>(
@@ -259,7 +254,7 @@ fn put_refused<O: Sink>(
     out.put(text.as_slice())
 }
 
-#[tactic(auto, unfolding(fx_plain::specs::Refusals::refused_line))]
+#[tactic(auto, unfolding(fx_plain::specs::Playing::refused_line))]
 fn refused_text(alloc: Global, number: u64, refusal: Refusal) -> Result<Vec<u8>, AllocError>
     ensures { IfOk result (λ text. text.items ≡ refused_line number refusal) }
 {

@@ -63,7 +63,7 @@ fn played<L: Ledgers>(
 fn plays_worked_runs(rt: HostRuntime) -> Result<(), Fail> {
     let alloc = rt.alloc();
     let files: &[&str] = &["s.fxml", "s.txt"];
-    let rows: [(&[&str], &[u8], &str, &[u64], &[(u64, usize)], Status, &str); 9] = [
+    let rows: [(&[&str], &[u8], &str, &[u64], &[(u64, usize)], Status, &str); 10] = [
         (
             files,
             SCENE,
@@ -93,6 +93,8 @@ fn plays_worked_runs(rt: HostRuntime) -> Result<(), Fail> {
             "frame 1 4 2 damage 1\n0 0 4 2\nffffff ffffff ffffff ffffff\nffffff ffffff ffffff ffffff\nfra",
         ),
         (files, SCENE, "pulse", &[1], &[], Status::ReadFault, ""),
+        // A third fetch would fail: the script and the scene are fetched once.
+        (files, SCENE, "", &[3], &[], Status::Done, ""),
         (
             files,
             b"<Pane/>",

@@ -1,7 +1,7 @@
 //! The top call.
 ghost use Rattle.std.specs.Prelude.{◌≡◌, ◌⊎◌, IfOk, IsSome, None};
-ghost use Rattle.fx_plain.specs.CommandLine.{accept};
-ghost use Rattle.fx_plain.specs.Faults.{fault_line, kind_word, usage_line};
+ghost use Rattle.fx_plain.specs.CommandLine.{accept, usage_line};
+ghost use Rattle.fx_load.specs.Faults.{fault_line, kind_word};
 ghost use Rattle.fx_plain.specs.PlainPlayer.{Answers, IsAnswer, IsOver, output};
 ghost use Rattle.fx_plain.specs.declared.answers.Status.TheVariants as status;
 ghost use Rattle.fx_port.specs.Causes.{HasCause, Rose};
@@ -9,13 +9,14 @@ ghost use Rattle.fx_port.specs.Files.{Files};
 ghost use Rattle.fx_port.specs.Pieces.{GrewByPrefix, Writes};
 ghost use Rattle.fx_port.specs.declared.pieces.PutError.TheVariants.{Failed};
 ghost use Rattle.fx_play.specs.Ends.{ended_as};
-ghost use Rattle.fx_load.specs.Views.{fault_of, texts};
+ghost use Rattle.fx_load.specs.Views.{fault_of};
+ghost use Rattle.fx_play.specs.Words.{texts};
 
 use crate::player::{Player, put_lines};
 use crate::words::read_words;
 use fx_base::{Ledgers, Work};
-use fx_load::{FileFault, LoadError, load};
-use fx_plain::{FaultKind, Status};
+use fx_load::{FaultKind, FileFault, LoadError, load};
+use fx_plain::Status;
 use fx_port::{PutError, Shelf, Sink};
 use std::alloc::{AllocError, Global};
 
@@ -33,8 +34,8 @@ pub fn play<F: Shelf, O: Sink, L: Ledgers>(
     work: &mut Work<L>,
 ) -> Status
     // Done, Usage and Refused: all that the plain player writes, and its status.
-    ensures answers { (files : Files) → IsOver (F.held shelf.old) (accept (texts words.now)) files → IsAnswer result →
-        Answers (O.written out.old) (O.written out.new) result (output (texts words.now) files) }
+    ensures answers { (files : Files) → IsOver (F.held shelf.old) (accept (texts words.now)) files →
+        IsAnswer result → Answers (O.written out.old) (O.written out.new) result (output (texts words.now) files) }
 
     // Whatever the answer, no more than a part of it.
     ensures prefix { (files : Files) → IsOver (F.held shelf.old) (accept (texts words.now)) files →
@@ -47,11 +48,14 @@ pub fn play<F: Shelf, O: Sink, L: Ledgers>(
 
     // Over any shelf and any sink, each answer's cause.
     ensures read { result ≡ status.ReadFault →
-        (Rose (F.faults shelf.old) (F.faults shelf.new)) × (IsSome (accept (texts words.now)) × (O.written out.new ≡ O.written out.old)) }
+        (Rose (F.faults shelf.old) (F.faults shelf.new)) × (IsSome (accept (texts words.now)) × (O.written out.new ≡
+        O.written out.old)) }
     ensures write { result ≡ status.WriteFault → Rose (O.faults out.old) (O.faults out.new) }
     ensures usage { result ≡ status.Usage → accept (texts words.now) ≡ None }
     ensures played { (result ≡ status.Done) ⊎ (result ≡ status.Refused) → IsSome (accept (texts words.now)) }
     ensures held { F.held shelf.new ≡ F.held shelf.old }
+    // Nothing that this player does is counted.
+    ensures counted { work.new ≡ work.old }
 {
     let _work = work;
     let Some(run) = read_words(words) else {
@@ -83,7 +87,7 @@ fn ended(written: Result<(), PutError>, status: Status) -> Status
     }
 }
 
-#[tactic(auto, unfolding(fx_plain::specs::Faults::usage_line))]
+#[tactic(auto, unfolding(fx_plain::specs::CommandLine::usage_line))]
 fn put_usage<O: Sink>(out: &mut O) -> Result<(), PutError>
     ensures cause { HasCause Failed (O.faults out.old) (O.faults out.new) result }
     ensures writes { Writes (O.written out.old) (O.written out.new) result usage_line }
@@ -99,7 +103,7 @@ fn put_fault<O: Sink>(alloc: Global, fault: &FileFault<'_>, out: &mut O) -> Resu
     out.put(text.as_slice())
 }
 
-#[tactic(auto, unfolding(fx_plain::specs::Faults::fault_line))]
+#[tactic(auto, unfolding(fx_load::specs::Faults::fault_line))]
 fn fault_text(alloc: Global, fault: &FileFault<'_>) -> Result<Vec<u8>, AllocError>
     ensures { IfOk result (λ text. text.items ≡ fault_line (fault_of fault.now)) }
 {

@@ -2,7 +2,7 @@
 ghost use Rattle.std.specs.Prelude.{◌≡◌};
 ghost use Rattle.std.specs.Option.{option_map};
 ghost use Rattle.fx_plain.specs.CommandLine.{accept, plan_of};
-ghost use Rattle.fx_load.specs.Views.{plan_of_run, texts};
+ghost use Rattle.fx_play.specs.Words.{plan_of_run, texts};
 
 use fx_load::Run;
 

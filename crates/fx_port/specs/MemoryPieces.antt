@@ -12,4 +12,5 @@ pub record SinkState : Type 0 where
 
 -- how many bytes this call takes before it fails, if it is one that fails; the first entry of a call counts
 abbrev pub bytes_before_failure : List (ℕ × ℕ) → ℕ → Option ℕ
-bytes_before_failure failing call = option_map (λ (entry : ℕ × ℕ). entry.1) (find (λ (entry : ℕ × ℕ). entry.0 == call) failing)
+bytes_before_failure failing call =
+    option_map (λ (entry : ℕ × ℕ). entry.1) (find (λ (entry : ℕ × ℕ). entry.0 == call) failing)

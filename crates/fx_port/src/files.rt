@@ -53,5 +53,6 @@ pub trait Shelf {
         ensures within { IfOk result (λ fetched. IsWithin most (found_by fetched)) }
 
         // where the files are told: which bytes, and exactly when the name is absent or the file longer
-        ensures content { IfOk result (λ fetched. IfSome (held self.old) (λ files. found_by fetched ≡ found_in files name.now most)) };
+        ensures content { IfOk result (λ fetched.
+            IfSome (held self.old) (λ files. found_by fetched ≡ found_in files name.now most)) };
 }

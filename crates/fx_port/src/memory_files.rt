@@ -62,7 +62,8 @@ impl Shelf for MemoryShelf {
         ensures cause { HasCause FetchError.Failed self.old.faults self.new.faults result }
         ensures held { Some (files_of self.new.entries) ≡ Some (files_of self.old.entries) }
         ensures within { IfOk result (λ fetched. IsWithin most (found_by fetched)) }
-        ensures content { IfOk result (λ fetched. IfSome (Some (files_of self.old.entries)) (λ files. found_by fetched ≡ found_in files name.now most)) }
+        ensures content { IfOk result (λ fetched.
+            IfSome (Some (files_of self.old.entries)) (λ files. found_by fetched ≡ found_in files name.now most)) }
         ensures kept { (self.new.entries ≡ self.old.entries) × (self.new.failing ≡ self.old.failing) }
         ensures numbered { self.new.calls ≡ next_count self.old.calls }
         ensures listed { (result ≡ Err FetchError.Failed) ↔ Contains self.old.failing self.new.calls }

@@ -2,15 +2,18 @@
 ghost use Rattle.std.specs.Prelude.{◌≡◌, ◌≤◌, ◌||◌, ◌==◌, IfOk, IsTrue, length, codes, nat_eq, not};
 ghost use Rattle.std.specs.Char.{is_ascii_digit};
 ghost use Rattle.std.specs.List.{list_all, prefix_len, starts_with};
-ghost use Rattle.fx_plain.specs.Script.{line_of, command_of, word_in, behind_word, behind, is_space, is_blank, got, setting, target_of, target_from, number_named, number_behind, number_behind_dot, number_of_digits, are_few_digits, small_number};
+ghost use Rattle.fx_script.specs.Script.{line_of, command_of, word_in, behind_word, is_space, in_word, before_dot, got, setting, target_of, target_from, number_named, number_name, number_behind, number_behind_dot, are_few_digits, small_number};
+ghost use Rattle.fx_text.specs.Fronts.{behind};
+ghost use Rattle.fx_text.specs.Classes.{is_blank};
+ghost use Rattle.fx_text.specs.Digits.{number_of_digits};
 
+use crate::commands::{Line, Number, Target};
 use fx_base::{Text, TextError};
 use fx_text::is_identifier;
-use fx_plain::{Line, Number, Target};
 use std::alloc::{AllocError, Global};
 
 /// What one line asks for.
-#[tactic(auto, unfolding(fx_plain::specs::Script::line_of))]
+#[tactic(auto, unfolding(crate::specs::Script::line_of))]
 pub fn read_line(alloc: Global, text: &[u8]) -> Result<Line, AllocError>
     ensures { IfOk result (λ line. line ≡ line_of text.now) }
 {
@@ -32,7 +35,7 @@ fn is_blank(text: &[u8]) -> bool
     text.iter().all(|c| *c == b' ' || *c == b'\t')
 }
 
-#[tactic(auto, unfolding(fx_plain::specs::Script::command_of))]
+#[tactic(auto, unfolding(crate::specs::Script::command_of))]
 fn read_command(alloc: Global, word: &[u8], rest: &[u8]) -> Result<Line, AllocError>
     ensures { IfOk result (λ line. line ≡ command_of word.now rest.now) }
 {
@@ -73,7 +76,7 @@ fn setting(target: Option<Target>, value: Option<u32>) -> Line
 }
 
 /// `ID.P`, a node's name and one of its numbers.
-#[tactic(auto, unfolding(fx_plain::specs::Script::target_of))]
+#[tactic(auto, unfolding(crate::specs::Script::target_of))]
 fn read_target(alloc: Global, word: &[u8]) -> Result<Option<Target>, AllocError>
     ensures { IfOk result (λ target. target ≡ target_of word.now) }
 {
@@ -113,7 +116,7 @@ fn number_behind_dot(text: &[u8]) -> Option<Number>
     }
 }
 
-#[tactic(auto, unfolding(fx_plain::specs::Script::number_named))]
+#[tactic(auto, unfolding(crate::specs::Script::number_named))]
 fn number_named(name: &[u8]) -> Option<Number>
     ensures { result ≡ number_named name.now }
 {
@@ -130,7 +133,7 @@ fn number_named(name: &[u8]) -> Option<Number>
     }
 }
 
-#[tactic(auto, unfolding(fx_plain::specs::Script::number_behind))]
+#[tactic(auto, unfolding(crate::specs::Script::number_behind))]
 fn number_behind(text: &[u8]) -> Option<u32>
     ensures { result ≡ number_behind text.now }
 {
@@ -141,7 +144,7 @@ fn number_behind(text: &[u8]) -> Option<u32>
 }
 
 /// One to six digits, of a number of at most 100,000.
-#[tactic(auto, unfolding(fx_plain::specs::Script::small_number))]
+#[tactic(auto, unfolding(crate::specs::Script::small_number))]
 pub fn small_number(text: &[u8]) -> Option<u32>
     ensures { result ≡ small_number text.now }
 {
@@ -177,6 +180,18 @@ fn number_of_digits(digits: &[u8]) -> u32
         number = number * 10 + u32::from(*digit - b'0');
     }
     number
+}
+
+/// The name of a number of nodes.
+pub fn number_name(number: Number) -> &'static str
+    ensures { result.now ≡ number_name number }
+{
+    match number {
+        Number::LayoutX => "layoutX",
+        Number::LayoutY => "layoutY",
+        Number::PrefWidth => "prefWidth",
+        Number::PrefHeight => "prefHeight",
+    }
 }
 
 fn all_spaces(text: &[u8]) -> bool
@@ -215,14 +230,14 @@ fn spaces_in(text: &[u8]) -> usize
 }
 
 fn word_len(text: &[u8]) -> usize
-    ensures len { result ≡ prefix_len (λ c. not (is_space c)) text.now }
+    ensures len { result ≡ prefix_len in_word text.now }
     ensures within { result ≤ length text.now }
 {
     text.iter().take_while(|c| **c != b' ').count()
 }
 
 fn dot_in(word: &[u8]) -> usize
-    ensures len { result ≡ prefix_len (λ c. not (c == 46)) word.now }
+    ensures len { result ≡ prefix_len before_dot word.now }
     ensures within { result ≤ length word.now }
 {
     word.iter().take_while(|c| **c != b'.').count()

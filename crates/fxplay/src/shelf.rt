@@ -92,7 +92,8 @@ fn read_within<R: Read>(alloc: Global, reader: &mut R, most: usize) -> Result<Fe
     ensures within { IfOk result (λ fetched. IsWithin most (found_by fetched)) }
 
     // of a reader whose bytes are known: all of them, and `Longer` exactly where there are more
-    ensures content { IfOk result (λ fetched. IfSome (R.remaining reader.old) (λ bytes. found_by fetched ≡ found_of_bytes (Some bytes) most)) }
+    ensures content { IfOk result (λ fetched. IfSome (R.remaining reader.old) (λ bytes. found_by fetched ≡
+        found_of_bytes (Some bytes) most)) }
 {
     let mut bytes = Vec::new(alloc);
     let mut window = [0u8; WINDOW];

@@ -7,7 +7,7 @@ ghost use Rattle.fx_plain.specs.declared.answers.Status.TheVariants as status;
 ghost use Rattle.fx_port.specs.Causes.{Rose};
 ghost use Rattle.fx_port.specs.Files.{Files};
 ghost use Rattle.fx_port.specs.Pieces.{GrewByPrefix};
-ghost use Rattle.fx_load.specs.Views.{texts};
+ghost use Rattle.fx_play.specs.Words.{texts};
 
 use fx_base::{Ledgers, Work};
 use fx_play::{Status, play};
@@ -32,8 +32,8 @@ pub fn start<F: Shelf, O: Sink, L: Ledgers>(
     requires painted { (painted.name ≡ L.painted_name) × (painted.parts ≡ 1) }
 
     // what is printed, and the status, are the plain player's
-    ensures answers { (files : Files) → IsOver (F.held shelf.old) (accept (texts words.now)) files → IsAnswer result →
-        Answers (O.written out.old) (O.written out.new) result (output (texts words.now) files) }
+    ensures answers { (files : Files) → IsOver (F.held shelf.old) (accept (texts words.now)) files →
+        IsAnswer result → Answers (O.written out.old) (O.written out.new) result (output (texts words.now) files) }
     ensures prefix { (files : Files) → IsOver (F.held shelf.old) (accept (texts words.now)) files →
         GrewByPrefix (O.written out.old) (O.written out.new) (output (texts words.now) files).bytes }
     ensures complete { (files : Files) → IsOver (F.held shelf.old) (accept (texts words.now)) files →
@@ -42,7 +42,8 @@ pub fn start<F: Shelf, O: Sink, L: Ledgers>(
 
     // each answer's cause, over any shelf and any sink
     ensures read { result ≡ status.ReadFault →
-        (Rose (F.faults shelf.old) (F.faults shelf.new)) × (IsSome (accept (texts words.now)) × (O.written out.new ≡ O.written out.old)) }
+        (Rose (F.faults shelf.old) (F.faults shelf.new)) × (IsSome (accept (texts words.now)) × (O.written out.new ≡
+        O.written out.old)) }
     ensures write { result ≡ status.WriteFault → Rose (O.faults out.old) (O.faults out.new) }
     ensures usage { result ≡ status.Usage → accept (texts words.now) ≡ None }
     ensures played { (result ≡ status.Done) ⊎ (result ≡ status.Refused) → IsSome (accept (texts words.now)) }

@@ -1,6 +1,6 @@
 -- whether all names differ is what it is of the nodes left
 use Rattle.std.proofs.Common.{◌≡◌, drop}
-use Rattle.fx_plain.specs.Scene.{all_differ, names_of}
+use Rattle.fx_load.specs.Scene.{all_differ, names_of}
 use Rattle.fx_load.proofs.scene.all_differ.Given as goal
 
 abbrev pub invariant-loop-i : goal.invariant-loop-i

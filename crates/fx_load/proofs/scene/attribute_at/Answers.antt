@@ -2,7 +2,7 @@
 use Rattle.std.proofs.Common.{◌∙◌, sym, ap}
 use Rattle.std.specs.Option.{option_map}
 use Rattle.fx_doc.specs.Views.{attr_view}
-use Rattle.fx_plain.specs.Scene.{has_name}
+use Rattle.fx_load.specs.Scene.{has_name}
 use Rattle.fx_load.proofs.SceneLemmas.{find-map, option_map-now}
 use Rattle.fx_load.proofs.scene.attribute_at.Goals as goal
 

@@ -2,7 +2,7 @@
 use Rattle.std.proofs.Common.{◌∙◌, sym}
 use Rattle.std.proofs.lemmas.List.Folds.{list_all-map}
 use Rattle.fx_doc.specs.Views.{attr_view}
-use Rattle.fx_plain.specs.Scene.{is_region_attribute}
+use Rattle.fx_load.specs.Scene.{is_region_attribute}
 use Rattle.fx_load.proofs.scene.is_region.Goals as goal
 
 pub returns : goal.returns

@@ -1,7 +1,7 @@
 -- the parts so far are regions, and these are appended
 use Rattle.std.proofs.Common.{take, true}
 use Rattle.fx_doc.specs.Views.{nodes_of}
-use Rattle.fx_plain.specs.Scene.{regions_of}
+use Rattle.fx_load.specs.Scene.{regions_of}
 use Rattle.fx_load.specs.Parts.{RegionsPushed}
 use Rattle.fx_load.proofs.scene.push_regions.Given as goal
 

@@ -1,6 +1,6 @@
 -- the lines so far are read
 use Rattle.std.proofs.Common.{◌≡◌, List, ℕ, Bor, map, take}
-use Rattle.fx_plain.specs.Script.{line_of}
+use Rattle.fx_script.specs.Script.{line_of}
 use Rattle.fx_load.proofs.scripts.read_lines.Given as goal
 
 abbrev pub invariant-loop-text : goal.invariant-loop-text

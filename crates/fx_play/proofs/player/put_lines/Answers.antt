@@ -1,6 +1,7 @@
 -- one line more is taken, or a prefix of what it writes is written
 use Rattle.std.proofs.Common.{◌+◌, ◌++◌, ◌∙◌, sym, ap, arith, drop}
-use Rattle.fx_plain.specs.World.{World, world_after, written_by, written_by_all}
+use Rattle.fx_world.specs.World.{World, world_after}
+use Rattle.fx_plain.specs.Playing.{written_by, written_by_all}
 use Rattle.fx_play.specs.Worlds.{world_of}
 use Rattle.fx_port.proofs.Growth.{goes_on, stops_within, Writes-at_err}
 use Rattle.fx_play.proofs.PlayLemmas.{line_next}

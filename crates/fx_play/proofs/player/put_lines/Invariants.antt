@@ -1,6 +1,6 @@
 -- the lines so far are taken, and what they write is written
 use Rattle.std.proofs.Common.{◌≡◌, ◌≤◌, ◌+◌, drop}
-use Rattle.fx_plain.specs.World.{written_by_all}
+use Rattle.fx_plain.specs.Playing.{written_by_all}
 use Rattle.fx_play.specs.Worlds.{world_of}
 use Rattle.fx_port.specs.Pieces.{GrewUpTo}
 use Rattle.fx_play.proofs.player.put_lines.Given as goal

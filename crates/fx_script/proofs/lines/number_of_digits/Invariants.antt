@@ -1,10 +1,11 @@
 -- the number of the digits so far, which is less than ten to the power of their count
 use Rattle.std.proofs.Common.{◌≡◌, ◌<◌, ◌^◌, take}
-use Rattle.fx_plain.specs.Script.{number_of_digits}
+use Rattle.std.specs.List.{fold}
+use Rattle.fx_script.proofs.DigitLemmas.{more}
 use Rattle.fx_script.proofs.lines.number_of_digits.Given as goal
 
 abbrev pub invariant-loop-digit : goal.invariant-loop-digit
 invariant-loop-digit l = record {
   small : l.number < 10 ^ l.digit-index;
-  read : l.number ≡ number_of_digits (take l.digit-index l.digits);
+  read : l.number ≡ fold more 0 (take l.digit-index l.digits);
 }

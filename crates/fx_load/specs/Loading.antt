@@ -1,0 +1,87 @@
+-- Loading: the files of a run, in the order of work, and the first fault.
+use Rattle.std.specs.Prelude.{ℕ, Bool, ◌&&◌, List, Option, Some, None, Result, Ok, Err, length, map, take, nat_le, if◌then◌else◌}
+use Rattle.std.specs.Char.{is_ascii}
+use Rattle.std.specs.List.{list_all}
+use Rattle.std.specs.Str.Lines.{lines}
+use Rattle.fx_doc.specs.Judgements.{Judgement, NoText, Judged, judgement}
+use Rattle.fx_doc.specs.Reads.{document_text}
+use Rattle.fx_doc_grammar.specs.Characters.{start, after_all}
+use Rattle.fx_doc_grammar.specs.Verdicts.{Verdict, Reads, Stops, Deep, Long as TooLong}
+use Rattle.fx_port.specs.Files.{Files, Found, found_in, whole, absent, longer}
+use Rattle.fx_load.specs.Faults.{Fault, fault_at, whole_fault}
+use Rattle.fx_load.specs.Scene.{scene_of}
+use Rattle.fx_script.specs.Script.{line_of}
+use Rattle.fx_world.specs.World.{World}
+use Rattle.fx_load.specs.declared.files.FaultKind.TheVariants.{Missing, TooLarge, NotUtf8, Markup, Limit, NotBuilt}
+use Rattle.fx_script.specs.declared.commands.Line.{Line}
+use Rattle.fx_world.specs.declared.nodes.Node.{Node}
+
+-- a run over files, by their names
+pub record Run : Type 0 where
+  pub scene : List ℕ
+  pub script : List ℕ
+
+-- the most bytes of a file
+abbrev pub file_limit : ℕ
+file_limit = 4194304
+
+abbrev pub bytes_found : List ℕ → Found → Result (List ℕ) Fault
+bytes_found name (whole bytes) = Ok bytes
+bytes_found name absent = Err (whole_fault Missing name)
+bytes_found name longer = Err (whole_fault TooLarge name)
+
+-- the bytes of a file
+abbrev pub bytes_of : Files → List ℕ → Result (List ℕ) Fault
+bytes_of files name = bytes_found name (found_in files name file_limit)
+
+-- a script is ASCII and has at most 100,000 lines
+abbrev pub script_of : List ℕ → List ℕ → Result (List Line) Fault
+script_of name bytes =
+    if list_all is_ascii bytes && nat_le (length (lines bytes)) 100000
+    then Ok (map line_of (lines bytes)) else Err (whole_fault NotBuilt name)
+
+abbrev pub nodes_or_fault : List ℕ → Option (List Node) → Result (List Node) Fault
+nodes_or_fault name None = Err (whole_fault NotBuilt name)
+nodes_or_fault name (Some nodes) = Ok nodes
+
+-- a document that is read is a scene of this form or not; every other verdict has its fault at its place
+abbrev pub nodes_of_verdict : List ℕ → Verdict → Result (List Node) Fault
+nodes_of_verdict name (Reads reading) = nodes_or_fault name (scene_of reading)
+nodes_of_verdict name (Stops place) = Err (fault_at Markup name place)
+nodes_of_verdict name (Deep place) = Err (fault_at Limit name place)
+nodes_of_verdict name (TooLong place) = Err (fault_at Limit name place)
+
+-- the first byte that is no text stands behind the characters before it
+abbrev pub nodes_of_judgement : List ℕ → List ℕ → Judgement → Result (List Node) Fault
+nodes_of_judgement name bytes (NoText n) =
+    Err (fault_at NotUtf8 name (after_all start (document_text (take n bytes))))
+nodes_of_judgement name bytes (Judged verdict) = nodes_of_verdict name verdict
+
+-- the nodes of a scene file
+unfoldable pub nodes_of_scene : List ℕ → List ℕ → Result (List Node) Fault
+nodes_of_scene name bytes = nodes_of_judgement name bytes (judgement bytes)
+
+-- a scene and a script that can be played
+pub record Loaded : Type 0 where
+  pub nodes : List Node
+  pub lines : List Line
+
+abbrev pub loaded_with_nodes : List Line → Result (List Node) Fault → Result Loaded Fault
+loaded_with_nodes lines (Err fault) = Err fault
+loaded_with_nodes lines (Ok nodes) = Ok (record { nodes = nodes; lines = lines })
+
+abbrev pub loaded_with_scene : List ℕ → List Line → Result (List ℕ) Fault → Result Loaded Fault
+loaded_with_scene scene lines (Err fault) = Err fault
+loaded_with_scene scene lines (Ok bytes) = loaded_with_nodes lines (nodes_of_scene scene bytes)
+
+abbrev pub loaded_with_lines : Run → Files → Result (List Line) Fault → Result Loaded Fault
+loaded_with_lines run files (Err fault) = Err fault
+loaded_with_lines run files (Ok lines) = loaded_with_scene run.scene lines (bytes_of files run.scene)
+
+abbrev pub loaded_with_script : Run → Files → Result (List ℕ) Fault → Result Loaded Fault
+loaded_with_script run files (Err fault) = Err fault
+loaded_with_script run files (Ok bytes) = loaded_with_lines run files (script_of run.script bytes)
+
+-- the script is fetched and read first, then the scene
+abbrev pub elaborate : Run → Files → Result Loaded Fault
+elaborate run files = loaded_with_script run files (bytes_of files run.script)

@@ -1,0 +1,4 @@
+pub mod Frame
+pub mod Painting
+pub mod Picture
+pub mod Runs

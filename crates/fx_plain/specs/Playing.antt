@@ -1,0 +1,57 @@
+-- What each script line prints.
+use Rattle.std.specs.Prelude.{ℕ, ℤ, ◌+◌, List, [], ◌∷◌, ◌++◌, Option, Some, None, codes}
+use Rattle.std.specs.Fmt.{decimal, signed_decimal}
+use Rattle.fx_text.specs.Characters.{full_stop, line_feed, space}
+use Rattle.fx_script.specs.Script.{number_name}
+use Rattle.fx_script.specs.declared.commands.Line.{Line}
+use Rattle.fx_script.specs.declared.commands.Line.TheVariants.{Skip, Set, Get, Pulse, NotBuilt}
+use Rattle.fx_script.specs.declared.commands.Target.{Target}
+use Rattle.fx_world.specs.World.{World, node_named, number_of, place_of, window_of, world_after}
+use Rattle.fx_world.specs.declared.nodes.Node.{Node}
+use Rattle.fx_world.specs.declared.refusals.Refusal.{Refusal}
+use Rattle.fx_world.specs.declared.refusals.Refusal.TheVariants as refusal
+use Rattle.fx_paint.specs.Frame.{frame_text}
+use Rattle.fx_paint.specs.Picture.{pixel, shapes_of}
+
+abbrev pub refusal_word : Refusal → List ℕ
+refusal_word refusal.NotBuilt = codes "notbuilt"
+refusal_word refusal.Unknown = codes "unknown"
+
+-- `refused LINE WORD`
+unfoldable pub refused_line : ℕ → Refusal → List ℕ
+refused_line number refusal =
+    codes "refused " ++ (decimal number ++ (space ∷ (refusal_word refusal ++ (line_feed ∷ []))))
+
+-- `value NAME V`
+unfoldable pub value_line : Target → ℤ → List ℕ
+value_line target value =
+    codes "value " ++ (target.node ++ (full_stop ∷ (number_name target.number
+    ++ (space ∷ (signed_decimal value ++ (line_feed ∷ []))))))
+
+-- what `get` prints of the node there
+abbrev pub read_text : ℕ → Target → Option Node → List ℕ
+read_text number target None = refused_line number refusal.Unknown
+read_text number target (Some node) = value_line target (number_of node target.number)
+
+-- what `set` prints: nothing, unless it is refused
+abbrev pub set_text : ℕ → Option ℕ → List ℕ
+set_text number None = refused_line number refusal.Unknown
+set_text number (Some place) = []
+
+-- the frame of the present nodes, painted from scratch
+abbrev pub frame_of : World → List ℕ
+frame_of world = frame_text (world.frames + 1) (window_of world) (pixel (shapes_of world.nodes))
+
+-- what the line with this number prints
+unfoldable pub written_by : World → ℕ → Line → List ℕ
+written_by world number Skip = []
+written_by world number (Set target value) = set_text number (place_of world.nodes target.node)
+written_by world number (Get target) = read_text number target (node_named world.nodes target.node)
+written_by world number Pulse = frame_of world
+written_by world number NotBuilt = refused_line number refusal.NotBuilt
+
+-- all lines from this number on
+abbrev pub written_by_all : World → ℕ → List Line → List ℕ
+written_by_all world number [] = []
+written_by_all world number (line ∷ lines) =
+    written_by world number line ++ written_by_all (world_after world line) (number + 1) lines

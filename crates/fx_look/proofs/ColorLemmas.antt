@@ -12,13 +12,17 @@ use Rattle.std.proofs.lemmas.Bool.Decides.{eqb_tells, leb_tells, nat_tests}
 use Rattle.std.proofs.lemmas.List.{map-append, length-append}
 use Rattle.std.proofs.lemmas.List.Sums.{AllPass-from_list_all}
 use Rattle.fx_base.specs.declared.color.Color.{Color}
-use Rattle.fx_look.specs.Decimals.{Decimal, IsSign, IsDecimal, decimal_at, number_of_digits, front, behind}
+use Rattle.fx_text.specs.Classes.{hex_value, is_white}
+use Rattle.fx_text.specs.Digits.{number_of_digits}
+use Rattle.fx_text.specs.Fronts.{front, behind, stops}
+use Rattle.fx_text.proofs.DigitLemmas.{ten_power}
+use Rattle.fx_text.proofs.FrontLemmas.{tells, bytes_tell, or_parts, else_gives, map_gives, bind_gives, behind-stop, front-passes, front_and_behind}
+use Rattle.fx_look.specs.Decimals.{Decimal, IsSign, IsDecimal, decimal_at}
 use Rattle.fx_look.specs.ColorNames.{names}
-use Rattle.fx_look.specs.Colors.{color, solid, same_letters, IsNamed, hex_value, IsHexDigit, IsHex, short, long, shared, is_white, IsArgument, IsChannel, IsOpacity, IsRgb, IsRgba, IsColor, hexadecimal, rgb, rgba, transparent, named, entry_at, strip, pair_value, twice_value, three, hex_at, before_mark, argument_at, channel_value, opacity_value, channel_at, opacity_at, ended, rgb_at, rgba_at, word_at, color_at}
+use Rattle.fx_look.specs.Colors.{color, solid, same_letters, IsNamed, IsHexDigit, IsHex, short, long, shared, IsArgument, IsChannel, IsOpacity, IsRgb, IsRgba, IsColor, hexadecimal, rgb, rgba, transparent, named, entry_at, strip, pair_value, twice_value, three, hex_at, before_mark, argument_at, channel_value, opacity_value, channel_at, opacity_at, ended, rgb_at, rgba_at, word_at, color_at}
 use Rattle.fx_look.specs.Rounding.{digits_of, leading}
-use Rattle.fx_look.proofs.RoundingLemmas.{quotient, ten_power, leading_front, leading_all}
+use Rattle.fx_look.proofs.RoundingLemmas.{quotient, leading_front, leading_all}
 use Rattle.std.proofs.Math.Nat.{pow-le-pow_right}
-use Rattle.fx_look.proofs.FrontLemmas.{tells, bytes_tell, or_parts, else_gives, map_gives, bind_gives, stops, behind-stop, front-passes, front_and_behind}
 use Rattle.fx_look.proofs.DecimalLemmas.{goes_on, decimal_sound, decimal_complete, begins, begins_digits}
 
 -- hexadecimal colours

@@ -5,8 +5,10 @@ use Rattle.std.specs.Char.{is_ascii_digit}
 use Rattle.std.proofs.lemmas.Bool.{and_parts, not-true}
 use Rattle.std.proofs.lemmas.Bool.Decides.{eqb_tells, nat_tests}
 use Rattle.std.proofs.lemmas.List.Folds.{list_all-append}
-use Rattle.fx_look.specs.Decimals.{Decimal, IsSign, IsDigits, IsFraction, IsDecimal, is_minus, behind_sign, front, behind, digits_at, fraction_at, with_fraction, decimal_at}
-use Rattle.fx_look.proofs.FrontLemmas.{else_gives, map_gives, bind_gives, stops, prefix_len-stop, front-stop, behind-stop, front-passes, front_and_behind, front_some}
+use Rattle.fx_text.specs.Digits.{IsDigits}
+use Rattle.fx_text.specs.Fronts.{front, behind, stops}
+use Rattle.fx_text.proofs.FrontLemmas.{else_gives, map_gives, bind_gives, prefix_len-stop, front-stop, behind-stop, front-passes, front_and_behind, front_some}
+use Rattle.fx_look.specs.Decimals.{Decimal, IsSign, IsFraction, IsDecimal, is_minus, behind_sign, digits_at, fraction_at, with_fraction, decimal_at}
 
 -- the pieces that the reading finds are pieces of the grammar
 

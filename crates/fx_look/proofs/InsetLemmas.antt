@@ -7,11 +7,12 @@ use Rattle.std.specs.Option.{option_and_then, option_map}
 use Rattle.std.proofs.lemmas.Bool.{and_parts, not-true, not-false}
 use Rattle.std.proofs.lemmas.List.Folds.{list_all-append, list_any-append}
 use Rattle.fx_base.specs.declared.geometry.Sides.{Sides}
-use Rattle.fx_look.specs.Decimals.{Decimal, IsSign, IsFraction, IsDecimal, front, behind}
+use Rattle.fx_text.specs.Classes.{is_white}
+use Rattle.fx_text.specs.Fronts.{front, behind, stops}
+use Rattle.fx_text.proofs.FrontLemmas.{tells, map_gives, bind_gives, front-stop, behind-stop, front-passes, front_and_behind, front_some, behind_stops}
+use Rattle.fx_look.specs.Decimals.{Decimal, IsSign, IsFraction, IsDecimal}
 use Rattle.fx_look.specs.Numbers.{IsUnbounded, IsNumber, IsPlain, IsSize, IsPower, Power, number_at, size_at}
-use Rattle.fx_look.specs.Colors.{is_white}
 use Rattle.fx_look.specs.Insets.{sides, IsGap, IsSides, not_white, word, behind_word, four, sides_at}
-use Rattle.fx_look.proofs.FrontLemmas.{tells, map_gives, bind_gives, stops, front-stop, behind-stop, front-passes, front_and_behind, front_some, behind_stops}
 use Rattle.fx_look.proofs.NumberLemmas.{number_sound, number_complete, size_sound, size_complete}
 use Rattle.fx_look.proofs.ColorLemmas.{digit_no_white}
 

@@ -1,8 +1,9 @@
 pub mod ColorLemmas
-pub mod FrontLemmas
+pub use Rattle.fx_text.proofs.FrontLemmas
 pub mod InsetLemmas
 pub mod DecimalLemmas
 pub mod NumberLemmas
 pub mod ReadingLemmas
 pub mod RoundingLemmas
 pub mod StyleLemmas
+pub mod TableLemmas

@@ -6,9 +6,11 @@ use Rattle.std.specs.Char.{is_ascii_digit}
 use Rattle.std.specs.Str.{bytes_eq}
 use Rattle.std.specs.Option.{option_map}
 use Rattle.std.proofs.lemmas.Bool.Decides.{nat_tests}
-use Rattle.fx_look.specs.Decimals.{Decimal, IsDigits, is_minus, behind_sign, decimal_at, number_of_digits}
+use Rattle.fx_text.specs.Digits.{IsDigits, number_of_digits}
+use Rattle.fx_text.specs.Fronts.{stops}
+use Rattle.fx_text.proofs.FrontLemmas.{tells, bytes_tell, or_parts, then_gives, map_gives, bind_gives}
+use Rattle.fx_look.specs.Decimals.{Decimal, is_minus, behind_sign, decimal_at}
 use Rattle.fx_look.specs.Numbers.{Power, IsExponent, IsPower, IsUnbounded, IsNumber, IsPlain, IsSize, one, number_of, few_digits, exponent_at, power_of, power_at, with_power, number_at, with_unit, size_at}
-use Rattle.fx_look.proofs.FrontLemmas.{tells, bytes_tell, or_parts, then_gives, map_gives, bind_gives, stops}
 use Rattle.fx_look.proofs.DecimalLemmas.{goes_on, sign_sound, decimal_sound, decimal_complete, sign_complete, begins_digits}
 
 -- exponents

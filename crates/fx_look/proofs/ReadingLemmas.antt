@@ -1,10 +1,8 @@
 -- The reading of values meets the grammar of each kind.
-use Rattle.std.proofs.Common.{◌≡◌, ℕ, zero, suc, ◌+◌, ◌<◌, ◌≤◌, inl, inr, Bool, true, false, cond, not, nat_lt, List, [], ◌∷◌, length, map, codes, Option, Some, None, refl, sym, ap, ◌∙◌, subst, arith, slice_index_or}
+use Rattle.std.proofs.Common.{◌≡◌, ℕ, zero, suc, ◌<◌, ◌≤◌, inl, inr, Bool, true, false, nat_lt, List, [], ◌∷◌, length, codes, Option, Some, None, refl, sym, ap, ◌∙◌, arith, slice_index_or}
 use Rattle.std.specs.Prelude.{IfSome, IfNone, IfOk, Result, Ok, Err, slice_get}
-use Rattle.std.specs.List.{position, prefix_len}
 use Rattle.std.specs.Str.{chars, bytes_eq}
 use Rattle.std.proofs.lemmas.Bool.Decides.{leb_tells, nat_tests}
-use Rattle.std.proofs.lemmas.List.{length-map}
 use Rattle.std.proofs.lemmas.List.Quantifiers.{position-Some}
 use Rattle.fx_base.specs.Constants.{constants_of}
 use Rattle.fx_base.specs.Printing.{truth_text}
@@ -14,13 +12,15 @@ use Rattle.fx_base.specs.declared.kinds.Kind.{Kind}
 use Rattle.fx_base.specs.declared.kinds.Kind.TheVariants as kind
 use Rattle.fx_base.specs.declared.values.Value.{Value}
 use Rattle.fx_base.specs.declared.values.Value.TheVariants.{Int, Bool as Truth, Text, Choice, Color, Sides}
+use Rattle.fx_text.proofs.FrontLemmas.{tells, bytes_tell, else_gives, map_gives}
 use Rattle.fx_look.specs.Numbers.{IsNumber, number_at}
 use Rattle.fx_look.specs.Colors.{color_at, same_letters}
 use Rattle.fx_look.specs.Insets.{sides_at}
 use Rattle.fx_look.specs.Readings.{IsTruth, IsValue, truth_at, place_of, text_at, value_at}
-use Rattle.fx_look.proofs.FrontLemmas.{tells, bytes_tell, else_gives, map_gives}
 use Rattle.fx_look.proofs.NumberLemmas.{number_sound, number_complete}
 use Rattle.fx_look.proofs.ColorLemmas.{letters_decide, color_sound, color_complete}
+pub use Rattle.fx_look.proofs.TableLemmas.{position-map}
+use Rattle.fx_look.proofs.TableLemmas.{all_first, first_of_name}
 use Rattle.fx_look.proofs.InsetLemmas.{sides_sound, sides_complete, numbers_read}
 
 -- truths
@@ -64,41 +64,14 @@ place_sound constants text place e =
     by_test : (constant : List ℕ) → bytes_eq constant text ≡ true → constant ≡ text
     by_test constant t = elim (bytes_tell constant text) [ inl u ↦ u.1 | inr u ↦ absurd (cc) ]
 
+constants_first : (family : Family) → all_first (constants_of family) ≡ true
+constants_first Pos = refl
+constants_first Priority = refl
+constants_first HPos = refl
+constants_first VPos = refl
+
 place_complete : (family : Family) (place : ℕ) (text : List ℕ) → slice_get (constants_of family) place ≡ Some text → place_of (constants_of family) text ≡ Some place
-place_complete Pos zero text e = let t : codes "TOP_LEFT" ≡ text = cc in subst (λ v. place_of (constants_of Pos) v ≡ Some 0) t refl
-place_complete Pos (suc zero) text e = let t : codes "TOP_CENTER" ≡ text = cc in subst (λ v. place_of (constants_of Pos) v ≡ Some 1) t refl
-place_complete Pos (suc (suc zero)) text e = let t : codes "TOP_RIGHT" ≡ text = cc in subst (λ v. place_of (constants_of Pos) v ≡ Some 2) t refl
-place_complete Pos (suc (suc (suc zero))) text e = let t : codes "CENTER_LEFT" ≡ text = cc in subst (λ v. place_of (constants_of Pos) v ≡ Some 3) t refl
-place_complete Pos (suc (suc (suc (suc zero)))) text e = let t : codes "CENTER" ≡ text = cc in subst (λ v. place_of (constants_of Pos) v ≡ Some 4) t refl
-place_complete Pos (suc (suc (suc (suc (suc zero))))) text e = let t : codes "CENTER_RIGHT" ≡ text = cc in subst (λ v. place_of (constants_of Pos) v ≡ Some 5) t refl
-place_complete Pos (suc (suc (suc (suc (suc (suc zero)))))) text e = let t : codes "BOTTOM_LEFT" ≡ text = cc in subst (λ v. place_of (constants_of Pos) v ≡ Some 6) t refl
-place_complete Pos (suc (suc (suc (suc (suc (suc (suc zero))))))) text e = let t : codes "BOTTOM_CENTER" ≡ text = cc in subst (λ v. place_of (constants_of Pos) v ≡ Some 7) t refl
-place_complete Pos (suc (suc (suc (suc (suc (suc (suc (suc zero)))))))) text e = let t : codes "BOTTOM_RIGHT" ≡ text = cc in subst (λ v. place_of (constants_of Pos) v ≡ Some 8) t refl
-place_complete Pos (suc (suc (suc (suc (suc (suc (suc (suc (suc p))))))))) text e = absurd (cc)
-place_complete Priority zero text e = let t : codes "NEVER" ≡ text = cc in subst (λ v. place_of (constants_of Priority) v ≡ Some 0) t refl
-place_complete Priority (suc zero) text e = let t : codes "SOMETIMES" ≡ text = cc in subst (λ v. place_of (constants_of Priority) v ≡ Some 1) t refl
-place_complete Priority (suc (suc zero)) text e = let t : codes "ALWAYS" ≡ text = cc in subst (λ v. place_of (constants_of Priority) v ≡ Some 2) t refl
-place_complete Priority (suc (suc (suc p))) text e = absurd (cc)
-place_complete HPos zero text e = let t : codes "LEFT" ≡ text = cc in subst (λ v. place_of (constants_of HPos) v ≡ Some 0) t refl
-place_complete HPos (suc zero) text e = let t : codes "CENTER" ≡ text = cc in subst (λ v. place_of (constants_of HPos) v ≡ Some 1) t refl
-place_complete HPos (suc (suc zero)) text e = let t : codes "RIGHT" ≡ text = cc in subst (λ v. place_of (constants_of HPos) v ≡ Some 2) t refl
-place_complete HPos (suc (suc (suc p))) text e = absurd (cc)
-place_complete VPos zero text e = let t : codes "TOP" ≡ text = cc in subst (λ v. place_of (constants_of VPos) v ≡ Some 0) t refl
-place_complete VPos (suc zero) text e = let t : codes "CENTER" ≡ text = cc in subst (λ v. place_of (constants_of VPos) v ≡ Some 1) t refl
-place_complete VPos (suc (suc zero)) text e = let t : codes "BOTTOM" ≡ text = cc in subst (λ v. place_of (constants_of VPos) v ≡ Some 2) t refl
-place_complete VPos (suc (suc (suc p))) text e = absurd (cc)
-
--- the place in a list of views
-
-mapped_len : {A B : Type 0} (f : A → B) (p : B → Bool) (xs : List A) → prefix_len p (map f xs) ≡ prefix_len (λ x. p (f x)) xs
-mapped_len f p [] = refl
-mapped_len f p (x ∷ xs) = ap (λ n. cond (p (f x)) (1 + n) 0) (mapped_len f p xs)
-
-pub position-map : {A B : Type 0} (f : A → B) (p : B → Bool) (xs : List A) → position (λ x. p (f x)) xs ≡ position p (map f xs)
-position-map f p xs = rw (mapped_len f (λ y. not (p y)) xs, length-map xs f) refl
-
-pub position_small : {A : Type 0} (p : A → Bool) (xs : List A) (d : A) (place : ℕ) → position p xs ≡ Some place → place < length xs
-position_small p xs d place e = (position-Some p xs place d e).0
+place_complete family place text e = first_of_name (constants_of family) place text (constants_first family) e
 
 -- values
 

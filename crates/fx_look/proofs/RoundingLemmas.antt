@@ -3,46 +3,25 @@ use Rattle.std.proofs.Common.{◌≡◌, ℕ, zero, suc, ◌+◌, ◌-◌, ◌*�
 use Rattle.std.specs.List.{list_all, list_any}
 use Rattle.std.specs.Char.{is_ascii_digit}
 use Rattle.std.proofs.lemmas.Bool.{and_parts}
-use Rattle.std.proofs.lemmas.Bool.Decides.{eqb_tells, leb_tells, nat_tests}
+use Rattle.std.proofs.lemmas.Bool.Decides.{eqb_tells, leb_tells}
 use Rattle.std.proofs.lemmas.Nat.{div-mul-add, pow-add}
 use Rattle.std.proofs.lemmas.List.{length-append, length-drop, length-replicate, take-append-drop}
 use Rattle.std.proofs.lemmas.List.Folds.{list_all-append, list_any-append}
-use Rattle.std.proofs.Math.Nat.{pow-suc, one-le-pow, pow-le-pow_right, mul-le-mul_right}
+use Rattle.std.proofs.Math.Nat.{pow-suc, pow-le-pow_right, mul-le-mul_right}
 use Rattle.std.proofs.Math.Bool.{or-false}
 use Rattle.std.proofs.Math.Seq.{take-suc, take-append_seam}
 use Rattle.std.specs.Cmp.Derive.{both_true}
-use Rattle.fx_look.specs.Decimals.{Decimal, number_of_digits}
+use Rattle.fx_text.specs.Digits.{number_of_digits}
+use Rattle.fx_text.proofs.DigitLemmas.{number-append, number_small, ten_power}
+use Rattle.fx_text.proofs.FrontLemmas.{tells}
+use Rattle.fx_look.specs.Decimals.{Decimal}
 use Rattle.fx_look.specs.Numbers.{Power, above, below, rounded, saturated, number_of}
 use Rattle.fx_look.specs.Rounding.{digits_of, leading, rounds_away, rounded_at, size_of}
-use Rattle.fx_look.proofs.FrontLemmas.{tells}
 
 pub quotient : (n a w r : ℕ) → n ≡ a * w + r → r < w → n / w ≡ a
 quotient n a w r e small = rw e (div-mul-add a w r small)
 
--- the number of two texts of digits, one behind the other
-
-regroup : (v a b n m : ℕ) → v * (a * b) + (n * b + m) ≡ (v * a + n) * b + m
-regroup v a b n m = omega arith
-
-pub number-append : (xs ys : List ℕ) → number_of_digits (xs ++ ys) ≡ number_of_digits xs * 10 ^ length ys + number_of_digits ys
-number-append [] ys = omega arith
-number-append (c ∷ cs) ys =
-    let power : 10 ^ length (cs ++ ys) ≡ 10 ^ length cs * 10 ^ length ys = ap (λ n. 10 ^ n) (length-append cs ys) ∙ pow-add 10 (length cs) (length ys) in
-    rw (power, number-append cs ys) (regroup (c - 48) (10 ^ length cs) (10 ^ length ys) (number_of_digits cs) (number_of_digits ys))
-
-pub ten_power : (n : ℕ) → 0 < 10 ^ n
-ten_power n = let p = one-le-pow n 10 (omega arith) in omega (arith, p)
-
-digit_small : (c : ℕ) → is_ascii_digit c ≡ true → c - 48 ≤ 9
-digit_small c e = let q = and_parts (nat_le 48 c) (nat_le c 57) e in grind (arith, nat_tests, q.0, q.1)
-
-pub number_small : (ds : List ℕ) → list_all is_ascii_digit ds ≡ true → number_of_digits ds < 10 ^ length ds
-number_small [] e = omega arith
-number_small (c ∷ cs) e =
-    let q = and_parts (is_ascii_digit c) (list_all is_ascii_digit cs) e in
-    let ih = number_small cs q.1 in
-    let most = mul-le-mul_right (10 ^ length cs) (digit_small c q.0) in
-    rw (pow-suc 10 (length cs)) (omega (arith, ih, most))
+-- zeros behind the last digit
 
 number-zeros : (k : ℕ) → number_of_digits (replicate k 48) ≡ 0
 number-zeros zero = refl

@@ -1,11 +1,16 @@
 -- Colours as texts: first the grammar, by cases on the text, then the reading.
-use Rattle.std.specs.Prelude.{◌≡◌, ℕ, ◌+◌, ◌-◌, ◌*◌, ◌/◌, ◌^◌, ◌≤◌, Bool, ◌||◌, ◌&&◌, ◌==◌, nat_le, nat_lt, if◌then◌else◌, List, [], ◌∷◌, ◌++◌, length, codes, Option, Some, None, IsTrue, min}
+use Rattle.std.specs.Prelude.{◌≡◌, ℕ, ◌+◌, ◌*◌, ◌/◌, ◌^◌, ◌≤◌, Bool, ◌==◌, nat_lt, if◌then◌else◌, List, [], ◌∷◌, ◌++◌, length, codes, Option, Some, None, IsTrue, min}
 use Rattle.std.specs.List.{list_all, find, Contains}
 use Rattle.std.specs.Option.{option_and_then, option_map, option_map_or}
 use Rattle.std.specs.Str.{bytes_eq, str_to_ascii_lowercase}
 use Rattle.fx_base.specs.Pixel.{red_of, green_of, blue_of}
 use Rattle.fx_base.specs.declared.color.Color.{Color}
-use Rattle.fx_look.specs.Decimals.{Decimal, IsDecimal, decimal_at, number_of_digits, behind}
+use Rattle.fx_text.specs.Characters.{comma, number_sign, right_parenthesis}
+use Rattle.fx_text.specs.Classes.{hex_value}
+use Rattle.fx_text.specs.Digits.{number_of_digits}
+use Rattle.fx_text.specs.Fronts.{behind}
+pub use Rattle.fx_text.specs.Classes.{is_white}
+use Rattle.fx_look.specs.Decimals.{Decimal, IsDecimal, decimal_at}
 use Rattle.fx_look.specs.ColorNames.{names}
 
 abbrev pub color : ℕ → ℕ → ℕ → ℕ → Color
@@ -26,26 +31,23 @@ pub record IsNamed (text : List ℕ) (c : Color) : Type 0 where
   pub same : IsTrue (same_letters name text)
   pub value : c ≡ solid pixel
 
--- the value of a hexadecimal digit, in either case of letters
-abbrev pub hex_value : ℕ → Option ℕ
-hex_value c = if nat_le 48 c && nat_le c 57 then Some (c - 48)
-    else (if nat_le 65 c && nat_le c 70 then Some (c - 55) else (if nat_le 97 c && nat_le c 102 then Some (c - 87) else None))
-
 abbrev pub IsHexDigit : ℕ → ℕ → Type 0
 IsHexDigit c value = hex_value c ≡ Some value
 
 -- `#rgb`, `#rrggbb` and `#rrggbbaa`; in the first each digit counts twice
 pub data IsHex : List ℕ → Color → Type 0 where
   short : (x y z r g b : ℕ) → IsHexDigit x r → IsHexDigit y g → IsHexDigit z b
-      → IsHex (35 ∷ x ∷ y ∷ z ∷ []) (color (17 * r) (17 * g) (17 * b) 255)
-  long : (x0 x1 y0 y1 z0 z1 r0 r1 g0 g1 b0 b1 : ℕ) → IsHexDigit x0 r0 → IsHexDigit x1 r1 → IsHexDigit y0 g0 → IsHexDigit y1 g1 → IsHexDigit z0 b0 → IsHexDigit z1 b1
-      → IsHex (35 ∷ x0 ∷ x1 ∷ y0 ∷ y1 ∷ z0 ∷ z1 ∷ []) (color (16 * r0 + r1) (16 * g0 + g1) (16 * b0 + b1) 255)
-  shared : (x0 x1 y0 y1 z0 z1 w0 w1 r0 r1 g0 g1 b0 b1 a0 a1 : ℕ) → IsHexDigit x0 r0 → IsHexDigit x1 r1 → IsHexDigit y0 g0 → IsHexDigit y1 g1 → IsHexDigit z0 b0 → IsHexDigit z1 b1 → IsHexDigit w0 a0 → IsHexDigit w1 a1
-      → IsHex (35 ∷ x0 ∷ x1 ∷ y0 ∷ y1 ∷ z0 ∷ z1 ∷ w0 ∷ w1 ∷ []) (color (16 * r0 + r1) (16 * g0 + g1) (16 * b0 + b1) (16 * a0 + a1))
-
--- space, tab, line feed and carriage return
-abbrev pub is_white : ℕ → Bool
-is_white c = ((c == 32) || (c == 9)) || ((c == 10) || (c == 13))
+      → IsHex (number_sign ∷ x ∷ y ∷ z ∷ []) (color (17 * r) (17 * g) (17 * b) 255)
+  long : (x0 x1 y0 y1 z0 z1 r0 r1 g0 g1 b0 b1 : ℕ)
+      → IsHexDigit x0 r0 → IsHexDigit x1 r1 → IsHexDigit y0 g0 → IsHexDigit y1 g1
+      → IsHexDigit z0 b0 → IsHexDigit z1 b1
+      → IsHex (number_sign ∷ x0 ∷ x1 ∷ y0 ∷ y1 ∷ z0 ∷ z1 ∷ [])
+      (color (16 * r0 + r1) (16 * g0 + g1) (16 * b0 + b1) 255)
+  shared : (x0 x1 y0 y1 z0 z1 w0 w1 r0 r1 g0 g1 b0 b1 a0 a1 : ℕ)
+      → IsHexDigit x0 r0 → IsHexDigit x1 r1 → IsHexDigit y0 g0 → IsHexDigit y1 g1
+      → IsHexDigit z0 b0 → IsHexDigit z1 b1 → IsHexDigit w0 a0 → IsHexDigit w1 a1
+      → IsHex (number_sign ∷ x0 ∷ x1 ∷ y0 ∷ y1 ∷ z0 ∷ z1 ∷ w0 ∷ w1 ∷ [])
+      (color (16 * r0 + r1) (16 * g0 + g1) (16 * b0 + b1) (16 * a0 + a1))
 
 -- a decimal with white around it, as the arguments of `rgb` and `rgba` are
 pub record IsArgument (text : List ℕ) (d : Decimal) : Type 0 where
@@ -69,7 +71,8 @@ pub record IsOpacity (text : List ℕ) (opacity : ℕ) : Type 0 where
   pub number : Decimal
   pub is_argument : IsArgument text number
   pub few : length number.fraction ≤ 9
-  pub value : let below = 10 ^ length number.fraction in
+  pub value :
+      let below = 10 ^ length number.fraction in
       let above = if number.negative then 0 else min (number_of_digits (number.whole ++ number.fraction)) below in
       opacity ≡ (2 * (255 * above) + below) / (2 * below)
 
@@ -78,7 +81,7 @@ pub record IsRgb (text : List ℕ) (c : Color) : Type 0 where
   pub red : List ℕ
   pub green : List ℕ
   pub blue : List ℕ
-  pub parts : text ≡ codes "rgb(" ++ (red ++ (44 ∷ (green ++ (44 ∷ (blue ++ codes ")")))))
+  pub parts : text ≡ codes "rgb(" ++ (red ++ (comma ∷ (green ++ (comma ∷ (blue ++ codes ")")))))
   pub is_red : IsChannel red c.r
   pub is_green : IsChannel green c.g
   pub is_blue : IsChannel blue c.b
@@ -90,7 +93,8 @@ pub record IsRgba (text : List ℕ) (c : Color) : Type 0 where
   pub green : List ℕ
   pub blue : List ℕ
   pub opacity : List ℕ
-  pub parts : text ≡ codes "rgba(" ++ (red ++ (44 ∷ (green ++ (44 ∷ (blue ++ (44 ∷ (opacity ++ codes ")")))))))
+  pub parts : text
+      ≡ codes "rgba(" ++ (red ++ (comma ∷ (green ++ (comma ∷ (blue ++ (comma ∷ (opacity ++ codes ")")))))))
   pub is_red : IsChannel red c.r
   pub is_green : IsChannel green c.g
   pub is_blue : IsChannel blue c.b
@@ -126,12 +130,14 @@ unfoldable pub twice_value : ℕ → Option ℕ
 twice_value x = option_map (λ value. 17 * value) (hex_value x)
 
 unfoldable pub three : Option ℕ → Option ℕ → Option ℕ → ℕ → Option Color
-three red green blue a = option_and_then (λ r. option_and_then (λ g. option_map (λ b. color r g b a) blue) green) red
+three red green blue a =
+    option_and_then (λ r. option_and_then (λ g. option_map (λ b. color r g b a) blue) green) red
 
 abbrev pub hex_at : List ℕ → Option Color
 hex_at (x ∷ y ∷ z ∷ []) = three (twice_value x) (twice_value y) (twice_value z) 255
 hex_at (x0 ∷ x1 ∷ y0 ∷ y1 ∷ z0 ∷ z1 ∷ []) = three (pair_value x0 x1) (pair_value y0 y1) (pair_value z0 z1) 255
-hex_at (x0 ∷ x1 ∷ y0 ∷ y1 ∷ z0 ∷ z1 ∷ w0 ∷ w1 ∷ []) = option_and_then (three (pair_value x0 x1) (pair_value y0 y1) (pair_value z0 z1)) (pair_value w0 w1)
+hex_at (x0 ∷ x1 ∷ y0 ∷ y1 ∷ z0 ∷ z1 ∷ w0 ∷ w1 ∷ []) =
+    option_and_then (three (pair_value x0 x1) (pair_value y0 y1) (pair_value z0 z1)) (pair_value w0 w1)
 hex_at _ = None
 
 abbrev pub before_mark : ℕ → Decimal → List ℕ → Option (Decimal × List ℕ)
@@ -140,10 +146,13 @@ before_mark mark d (c ∷ cs) = if c == mark then Some (d, cs) else None
 
 -- a decimal with white around it in front of a mark, and what is behind the mark
 abbrev pub argument_at : ℕ → List ℕ → Option (Decimal × List ℕ)
-argument_at mark text = option_and_then (λ p. before_mark mark p.0 (behind is_white p.1)) (decimal_at (behind is_white text))
+argument_at mark text =
+    option_and_then (λ p. before_mark mark p.0 (behind is_white p.1)) (decimal_at (behind is_white text))
 
 abbrev pub channel_value : Decimal → Option ℕ
-channel_value d = if nat_lt 0 (length d.fraction) then None else Some (if d.negative then 0 else min 255 (number_of_digits d.whole))
+channel_value d =
+    if nat_lt 0 (length d.fraction) then None
+    else Some (if d.negative then 0 else min 255 (number_of_digits d.whole))
 
 abbrev pub opacity_value : Decimal → Option ℕ
 opacity_value d = if nat_lt 9 (length d.fraction) then None
@@ -152,23 +161,35 @@ opacity_value d = if nat_lt 9 (length d.fraction) then None
     Some ((2 * (255 * above) + below) / (2 * below)))
 
 abbrev pub channel_at : ℕ → List ℕ → Option (ℕ × List ℕ)
-channel_at mark text = option_and_then (λ p. option_map (λ channel. (channel, p.1)) (channel_value p.0)) (argument_at mark text)
+channel_at mark text =
+    option_and_then (λ p. option_map (λ channel. (channel, p.1)) (channel_value p.0)) (argument_at mark text)
 
 abbrev pub opacity_at : ℕ → List ℕ → Option (ℕ × List ℕ)
-opacity_at mark text = option_and_then (λ p. option_map (λ opacity. (opacity, p.1)) (opacity_value p.0)) (argument_at mark text)
+opacity_at mark text =
+    option_and_then (λ p. option_map (λ opacity. (opacity, p.1)) (opacity_value p.0)) (argument_at mark text)
 
 abbrev pub ended : Color → List ℕ → Option Color
 ended c [] = Some c
 ended c (x ∷ xs) = None
 
 abbrev pub rgb_at : List ℕ → Option Color
-rgb_at text = option_and_then (λ r. option_and_then (λ g. option_and_then (λ b. ended (color r.0 g.0 b.0 255) b.1) (channel_at 41 g.1)) (channel_at 44 r.1)) (channel_at 44 text)
+rgb_at text =
+    option_and_then (λ r. option_and_then (λ g. option_and_then (λ b.
+    ended (color r.0 g.0 b.0 255) b.1)
+    (channel_at right_parenthesis g.1)) (channel_at comma r.1)) (channel_at comma text)
 
 abbrev pub rgba_at : List ℕ → Option Color
-rgba_at text = option_and_then (λ r. option_and_then (λ g. option_and_then (λ b. option_and_then (λ a. ended (color r.0 g.0 b.0 a.0) a.1) (opacity_at 41 b.1)) (channel_at 44 g.1)) (channel_at 44 r.1)) (channel_at 44 text)
+rgba_at text =
+    option_and_then (λ r. option_and_then (λ g. option_and_then (λ b. option_and_then (λ a.
+    ended (color r.0 g.0 b.0 a.0) a.1)
+    (opacity_at right_parenthesis b.1)) (channel_at comma g.1)) (channel_at comma r.1)) (channel_at comma text)
 
 abbrev pub word_at : List ℕ → Option Color
-word_at text = if bytes_eq text (codes "transparent") then Some (color 0 0 0 0) else option_map solid (entry_at names text)
+word_at text =
+    if bytes_eq text (codes "transparent") then Some (color 0 0 0 0) else option_map solid (entry_at names text)
 
 abbrev pub color_at : List ℕ → Option Color
-color_at text = option_map_or hex_at (strip (codes "#") text) (option_map_or rgb_at (strip (codes "rgb(") text) (option_map_or rgba_at (strip (codes "rgba(") text) (word_at text)))
+color_at text =
+    option_map_or hex_at (strip (codes "#") text)
+    (option_map_or rgb_at (strip (codes "rgb(") text)
+    (option_map_or rgba_at (strip (codes "rgba(") text) (word_at text)))

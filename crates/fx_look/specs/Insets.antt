@@ -4,8 +4,8 @@ use Rattle.std.specs.Prelude.{◌≡◌, ◌≢◌, ℕ, ◌⊎◌, Bool, not, i
 use Rattle.std.specs.List.{list_all, list_any}
 use Rattle.std.specs.Option.{option_and_then, option_map}
 use Rattle.fx_base.specs.declared.geometry.Sides.{Sides}
-use Rattle.fx_look.specs.Decimals.{front, behind}
-use Rattle.fx_look.specs.Colors.{is_white}
+use Rattle.fx_text.specs.Classes.{is_white}
+use Rattle.fx_text.specs.Fronts.{front, behind}
 use Rattle.fx_look.specs.Numbers.{number_at, size_at}
 use Rattle.fx_look.specs.declared.insets.Length.{Length}
 use Rattle.fx_look.specs.declared.insets.Length.TheVariants.{Number, Size}
@@ -55,11 +55,15 @@ abbrev pub behind_word : List ℕ → List ℕ
 behind_word text = behind is_white (behind not_white text)
 
 unfoldable pub four : Option ℤ → Option ℤ → Option ℤ → Option ℤ → Option Sides
-four top right bottom left = option_and_then (λ t. option_and_then (λ r. option_and_then (λ b. option_map (λ l. sides t r b l) left) bottom) right) top
+four top right bottom left =
+    option_and_then (λ t. option_and_then (λ r. option_and_then (λ b. option_map (λ l.
+    sides t r b l) left) bottom) right) top
 
 abbrev pub sides_at : (List ℕ → Option ℤ) → List ℕ → Option Sides
-sides_at read text = if list_any is_white text
-    then four (read (word text)) (read (word (behind_word text))) (read (word (behind_word (behind_word text)))) (read (behind_word (behind_word (behind_word text))))
+sides_at read text =
+    if list_any is_white text then
+    four (read (word text)) (read (word (behind_word text)))
+    (read (word (behind_word (behind_word text)))) (read (behind_word (behind_word (behind_word text))))
     else four (read text) (read text) (read text) (read text)
 
 abbrev pub length_at : Length → List ℕ → Option ℤ

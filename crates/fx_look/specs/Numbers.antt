@@ -4,7 +4,9 @@ use Rattle.std.specs.List.{list_all}
 use Rattle.std.specs.Char.{is_ascii_digit}
 use Rattle.std.specs.Option.{option_and_then, option_map}
 use Rattle.std.specs.Str.{bytes_eq}
-use Rattle.fx_look.specs.Decimals.{Decimal, IsDecimal, IsSign, IsDigits, number_of_digits, decimal_at, is_minus, behind_sign}
+use Rattle.fx_text.specs.Characters.{capital_e, small_e}
+use Rattle.fx_text.specs.Digits.{IsDigits, number_of_digits}
+use Rattle.fx_look.specs.Decimals.{Decimal, IsDecimal, IsSign, decimal_at, is_minus, behind_sign}
 
 -- a power of ten: ten to the power up - down, one of which is 0
 pub record Power : Type 0 where
@@ -18,11 +20,13 @@ pub record IsExponent (text : List ℕ) (power : Power) : Type 0 where
   pub digits : List ℕ
   pub negative : Bool
   pub parts : text ≡ mark ∷ (sign ++ digits)
-  pub is_mark : (mark ≡ 69) ⊎ (mark ≡ 101)
+  pub is_mark : (mark ≡ capital_e) ⊎ (mark ≡ small_e)
   pub is_sign : IsSign sign negative
   pub is_digits : IsDigits digits
   pub few : length digits ≤ 3
-  pub size : power ≡ (if negative then record { up = 0; down = number_of_digits digits } else record { up = number_of_digits digits; down = 0 })
+  pub size : power
+      ≡ (if negative then record { up = 0; down = number_of_digits digits }
+      else record { up = number_of_digits digits; down = 0 })
 
 abbrev pub one : Power
 one = record { up = 0; down = 0 }
@@ -100,18 +104,22 @@ power_of negative size = if negative then record { up = 0; down = size } else re
 
 abbrev pub power_at : List ℕ → Option Power
 power_at [] = Some one
-power_at (c ∷ cs) = if c == 69 || c == 101 then option_map (power_of (is_minus cs)) (exponent_at (behind_sign cs)) else None
+power_at (c ∷ cs) =
+    if c == capital_e || c == small_e then option_map (power_of (is_minus cs)) (exponent_at (behind_sign cs)) else None
 
 abbrev pub with_power : Decimal × List ℕ → Option ℤ
 with_power p = option_map (number_of p.0) (power_at p.1)
 
 abbrev pub number_at : List ℕ → Option ℤ
-number_at text = if bytes_eq text (codes "Infinity") then Some greatest else (if bytes_eq text (codes "-Infinity") then Some least else option_and_then with_power (decimal_at text))
+number_at text =
+    if bytes_eq text (codes "Infinity") then Some greatest
+    else (if bytes_eq text (codes "-Infinity") then Some least else option_and_then with_power (decimal_at text))
 
 abbrev pub with_unit : Decimal × List ℕ → Option ℤ
 with_unit p = if bytes_eq p.1 [] || bytes_eq p.1 (codes "px") then Some (number_of p.0 one) else None
 
 abbrev pub size_at : List ℕ → Option ℤ
-size_at text = if bytes_eq text (codes "Infinity") || bytes_eq text (codes "Infinitypx") then Some greatest
+size_at text =
+    if bytes_eq text (codes "Infinity") || bytes_eq text (codes "Infinitypx") then Some greatest
     else (if bytes_eq text (codes "-Infinity") || bytes_eq text (codes "-Infinitypx") then Some least
     else option_and_then with_unit (decimal_at text))

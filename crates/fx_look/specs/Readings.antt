@@ -24,14 +24,17 @@ abbrev pub IsValue : Kind → List ℕ → Value → Type 0
 IsValue kind.Int text v = (n : ℤ) × IsNumber text n × (v ≡ Int n)
 IsValue kind.Bool text v = (truth : Bool) × IsTruth text truth × (v ≡ Truth truth)
 IsValue kind.Text text v = (length (chars text) ≤ 4096) × (v ≡ Text text)
-IsValue (kind.Choice family) text v = (place : ℕ) × (slice_get (constants_of family) place ≡ Some text) × (v ≡ Choice family place)
+IsValue (kind.Choice family) text v =
+    (place : ℕ) × (slice_get (constants_of family) place ≡ Some text) × (v ≡ Choice family place)
 IsValue kind.Color text v = (c : Paint) × IsColor text c × (v ≡ Color c)
 IsValue kind.Sides text v = (s : Insets) × IsSides IsNumber text s × (v ≡ Sides s)
 
 -- the reading
 
 abbrev pub truth_at : List ℕ → Option Bool
-truth_at text = if same_letters text (codes "true") then Some true else (if same_letters text (codes "false") then Some false else None)
+truth_at text =
+    if same_letters text (codes "true") then Some true
+    else (if same_letters text (codes "false") then Some false else None)
 
 abbrev pub place_of : List (List ℕ) → List ℕ → Option ℕ
 place_of constants text = position (λ constant. bytes_eq constant text) constants

@@ -1,17 +1,16 @@
 //! Colours of documents and style sheets: hexadecimal, by `rgb` and `rgba`, `transparent`, and by name.
 //! Property values and paints are read by them.
-ghost use Rattle.std.specs.Prelude.{◌≡◌, ◌+◌, ◌*◌, ◌-◌, ◌/◌, ◌<◌, ◌≤◌, ◌^◌, min, length, drop, List, ℕ, IfSome, IfNone, IsTrue, nat_lt};
-ghost use Rattle.std.specs.List.{prefix_len};
+ghost use Rattle.std.specs.Prelude.{◌≡◌, ◌+◌, ◌*◌, ◌/◌, ◌<◌, ◌≤◌, ◌^◌, List, ℕ, IfSome, IfNone};
 ghost use Rattle.std.specs.Option.{option_map};
 ghost use Rattle.fx_base.specs.declared.color.Color.{Color as Paint};
-ghost use Rattle.fx_look.specs.Decimals.{behind};
-ghost use Rattle.fx_look.specs.Colors.{IsColor, strip, hex_value, pair_value, twice_value, hex_at, is_white, before_mark, argument_at, channel_value, opacity_value, channel_at, opacity_at, ended, rgb_at, rgba_at, three, word_at, color_at, solid};
+ghost use Rattle.fx_look.specs.Colors.{IsColor, strip, pair_value, twice_value, hex_at, before_mark, argument_at, channel_value, opacity_value, channel_at, opacity_at, ended, rgb_at, rgba_at, three, word_at, color_at, solid};
 ghost use Rattle.fx_look.specs.Written.{written, decimal_and_rest, value_and_rest};
 
 use crate::color_names::named;
 use crate::decimals::{Decimal, decimal_at};
 use crate::numbers::leading;
 use fx_base::Color;
+use fx_text::{behind_white, hex_pair, hex_value};
 
 /// The colour that the text spells.
 ///
@@ -118,19 +117,7 @@ fn twice(digit: u8) -> Option<u8>
 fn pair(high: u8, low: u8) -> Option<u8>
     ensures { result ≡ pair_value high low }
 {
-    Some(16 * hex_value(high)? + hex_value(low)?)
-}
-
-fn hex_value(c: u8) -> Option<u8>
-    ensures value { result ≡ hex_value c }
-    ensures small { IfSome result (λ value. value < 16) }
-{
-    match c {
-        b'0'..=b'9' => Some(c - b'0'),
-        b'A'..=b'F' => Some(c - b'A' + 10),
-        b'a'..=b'f' => Some(c - b'a' + 10),
-        _ => None,
-    }
+    hex_pair(high, low)
 }
 
 fn rgb_at(text: &[u8]) -> Option<Color>
@@ -243,26 +230,4 @@ fn before_mark<'a>(mark: u8, number: Decimal<'a>, text: &'a [u8]) -> Option<(Dec
         [first, rest @ ..] if *first == mark => Some((number, rest)),
         _ => None,
     }
-}
-
-/// What is behind the space, tabs and ends of lines in front of the text.
-pub fn behind_white(text: &[u8]) -> &[u8]
-    ensures { result.now ≡ behind is_white text.now }
-{
-    let (_, rest) = text.split_at(white_count(text));
-    rest
-}
-
-fn white_count(text: &[u8]) -> usize
-    ensures count { result ≡ prefix_len is_white text.now }
-    ensures within { result ≤ length text.now }
-{
-    text.iter().take_while(|c| is_white(**c)).count()
-}
-
-/// Is it a space, a tab or an end of a line?
-pub fn is_white(c: u8) -> bool
-    ensures { result ≡ is_white c }
-{
-    matches!(c, b' ' | b'\t' | b'\n' | b'\r')
 }

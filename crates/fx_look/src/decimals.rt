@@ -1,11 +1,13 @@
 //! Decimals in front of a text: an optional sign, digits, and an optional point with digits behind it.
 //! Numbers, sizes and the arguments of colours are read by them.
-ghost use Rattle.std.specs.Prelude.{◌≡◌, ◌≤◌, ◌++◌, IfSome, IsTrue, length};
-ghost use Rattle.std.specs.List.{list_all, prefix_len};
+ghost use Rattle.std.specs.Prelude.{◌≡◌, ◌++◌, IfSome, IsTrue};
+ghost use Rattle.std.specs.List.{list_all};
 ghost use Rattle.std.specs.Option.{option_map};
 ghost use Rattle.std.specs.Char.{is_ascii_digit};
 ghost use Rattle.fx_look.specs.Decimals.{is_minus, behind_sign, digits_at, fraction_at, decimal_at};
 ghost use Rattle.fx_look.specs.Written.{parts_of, decimal_and_rest};
+
+use fx_text::digit_count;
 
 /// A decimal as it is written. Both lists are ASCII digits; the whole part has at least one.
 #[derive(Clone, Copy)]
@@ -36,14 +38,6 @@ fn digits_at(text: &[u8]) -> Option<(&[u8], &[u8])>
         return None;
     }
     Some(text.split_at(count))
-}
-
-/// How many digits stand in front of the text?
-fn digit_count(text: &[u8]) -> usize
-    ensures count { result ≡ prefix_len is_ascii_digit text.now }
-    ensures within { result ≤ length text.now }
-{
-    text.iter().take_while(|c| c.is_ascii_digit()).count()
 }
 
 /// A point and digits in front of the text, if it begins with a point, and what is behind them.

@@ -4,13 +4,12 @@ ghost use Rattle.std.specs.Prelude.{◌≡◌, ◌≤◌, length, List, ℕ, IfS
 ghost use Rattle.std.specs.List.{list_any, prefix_len};
 ghost use Rattle.fx_base.specs.declared.geometry.Sides.{Sides as Insets};
 ghost use Rattle.fx_look.specs.Numbers.{IsSize, size_at};
-ghost use Rattle.fx_look.specs.Colors.{is_white};
-ghost use Rattle.fx_look.specs.Decimals.{behind};
+ghost use Rattle.fx_text.specs.Classes.{is_white};
 ghost use Rattle.fx_look.specs.Insets.{IsSides, word, behind_word, not_white, four, sides_at, length_at};
 
-use crate::colors::{behind_white, is_white};
 use crate::numbers::{number_at, size_at};
 use fx_base::Sides;
+use fx_text::{behind_white, is_white};
 
 /// The four sizes that the text spells: one for all sides, or top, right, bottom and left separated by white
 /// (JavaFX CSS Reference Guide, `-fx-padding`).

@@ -12,15 +12,14 @@ mod pixels;
 mod readings;
 mod styles;
 
-pub use colors::{color_at, is_white, one_color, read_color};
+pub use colors::{color_at, one_color, read_color};
+pub use fx_text::is_white;
 pub use insets::{one_sides, read_sides, sizes_at};
 pub use looks::Look;
 pub use numbers::{one_number, one_size, read_number, read_size, size_at};
 pub use pixels::blend;
 pub use readings::{one_value, read_value};
-pub use styles::{
-    CodeValue, STYLES, Style, StyleForm, StyleName, each_named, style_named, style_table,
-};
+pub use styles::{CodeValue, Style, StyleForm, StyleName, each_named, style_named, style_table};
 
 #[cfg(test)]
 mod tests;

@@ -7,7 +7,7 @@ ghost use Rattle.fx_look.specs.Looks.{initial_look};
 use fx_base::{Color, List, Sides};
 use std::alloc::{AllocError, Global};
 
-/// The value of each style declaration, in the order of `STYLES` (JavaFX CSS Reference Guide). Lengths are in pixels;
+/// The value of each style declaration, in their order (JavaFX CSS Reference Guide). Lengths are in pixels;
 /// `alignment` is the place of a constant of `Pos`, and `visibility` is true for `visible`.
 #[derive(Drop)]
 pub struct Look {

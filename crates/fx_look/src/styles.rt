@@ -7,10 +7,80 @@ ghost use Rattle.std.specs.Option.{option_map};
 ghost use Rattle.fx_look.specs.Styles.{StyleRow, styles, kind_of_form};
 ghost use Rattle.fx_look.specs.StyleRows.{style_row, style_at, style_named};
 
-use fx_base::{Duplicate, Family, Kind, Value};
+use fx_base::{Duplicate, Family, Kind, Same, Value};
 use std::alloc::{AllocError, Global};
 
-/// A declaration by its place in `STYLES`.
+/// Hands the rows of the table to a macro: a constant of `StyleName`, the name, the form, and the property that is set.
+macro_rules! each_style {
+    ($take:ident) => {
+        $take! {
+            PADDING "-fx-padding" Sides Some("padding");
+            ALIGNMENT "-fx-alignment" Position Some("alignment");
+            SPACING "-fx-spacing" Size Some("spacing");
+            HGAP "-fx-hgap" Size Some("hgap");
+            VGAP "-fx-vgap" Size Some("vgap");
+            FILL_WIDTH "-fx-fill-width" Truth Some("fillWidth");
+            FILL_HEIGHT "-fx-fill-height" Truth Some("fillHeight");
+            MIN_WIDTH "-fx-min-width" Size Some("minWidth");
+            MIN_HEIGHT "-fx-min-height" Size Some("minHeight");
+            PREF_WIDTH "-fx-pref-width" Size Some("prefWidth");
+            PREF_HEIGHT "-fx-pref-height" Size Some("prefHeight");
+            MAX_WIDTH "-fx-max-width" Size Some("maxWidth");
+            MAX_HEIGHT "-fx-max-height" Size Some("maxHeight");
+            BACKGROUND_COLOR "-fx-background-color" Paints None;
+            BACKGROUND_INSETS "-fx-background-insets" SidesList None;
+            BORDER_COLOR "-fx-border-color" Paints None;
+            BORDER_WIDTH "-fx-border-width" SidesList None;
+            BORDER_INSETS "-fx-border-insets" SidesList None;
+            TEXT_FILL "-fx-text-fill" Paint Some("textFill");
+            FONT_SIZE "-fx-font-size" Size Some("fontSize");
+            WRAP_TEXT "-fx-wrap-text" Truth Some("wrapText");
+            VISIBILITY "visibility" Visibility Some("visible");
+        }
+    };
+}
+
+macro_rules! table {
+    ($($place:ident $name:literal $form:ident $property:expr;)*) => {
+        [$(Style {
+            name: $name,
+            form: StyleForm::$form,
+            property: $property,
+        }),*]
+    };
+}
+
+macro_rules! one {
+    ($place:ident) => {
+        1
+    };
+}
+
+macro_rules! count {
+    ($($place:ident $name:literal $form:ident $property:expr;)*) => {
+        0 $(+ one!($place))*
+    };
+}
+
+/// Names the place of each row, counted from the one that is given.
+macro_rules! places {
+    ($at:expr;) => {};
+    ($at:expr; $place:ident $name:literal $form:ident $property:expr; $($rest:tt)*) => {
+        impl StyleName {
+            #[doc = $name]
+            pub const $place: StyleName = StyleName($at);
+        }
+        places!($at + 1; $($rest)*);
+    };
+}
+
+macro_rules! constants {
+    ($($rows:tt)*) => {
+        places!(0; $($rows)*);
+    };
+}
+
+/// A declaration by its place in the table. Each has its name as a constant, as `StyleName::PADDING`.
 #[derive(Clone, Copy, PartialEq, Eq, Debug)]
 pub struct StyleName(pub u32);
 
@@ -44,119 +114,13 @@ pub struct Style {
     pub property: Option<&'static str>,
 }
 
+/// How many style declarations there are.
+const COUNT: usize = each_style!(count);
+
 /// The style declarations in their order.
-pub static STYLES: [Style; 22] = [
-    Style {
-        name: "-fx-padding",
-        form: StyleForm::Sides,
-        property: Some("padding"),
-    },
-    Style {
-        name: "-fx-alignment",
-        form: StyleForm::Position,
-        property: Some("alignment"),
-    },
-    Style {
-        name: "-fx-spacing",
-        form: StyleForm::Size,
-        property: Some("spacing"),
-    },
-    Style {
-        name: "-fx-hgap",
-        form: StyleForm::Size,
-        property: Some("hgap"),
-    },
-    Style {
-        name: "-fx-vgap",
-        form: StyleForm::Size,
-        property: Some("vgap"),
-    },
-    Style {
-        name: "-fx-fill-width",
-        form: StyleForm::Truth,
-        property: Some("fillWidth"),
-    },
-    Style {
-        name: "-fx-fill-height",
-        form: StyleForm::Truth,
-        property: Some("fillHeight"),
-    },
-    Style {
-        name: "-fx-min-width",
-        form: StyleForm::Size,
-        property: Some("minWidth"),
-    },
-    Style {
-        name: "-fx-min-height",
-        form: StyleForm::Size,
-        property: Some("minHeight"),
-    },
-    Style {
-        name: "-fx-pref-width",
-        form: StyleForm::Size,
-        property: Some("prefWidth"),
-    },
-    Style {
-        name: "-fx-pref-height",
-        form: StyleForm::Size,
-        property: Some("prefHeight"),
-    },
-    Style {
-        name: "-fx-max-width",
-        form: StyleForm::Size,
-        property: Some("maxWidth"),
-    },
-    Style {
-        name: "-fx-max-height",
-        form: StyleForm::Size,
-        property: Some("maxHeight"),
-    },
-    Style {
-        name: "-fx-background-color",
-        form: StyleForm::Paints,
-        property: None,
-    },
-    Style {
-        name: "-fx-background-insets",
-        form: StyleForm::SidesList,
-        property: None,
-    },
-    Style {
-        name: "-fx-border-color",
-        form: StyleForm::Paints,
-        property: None,
-    },
-    Style {
-        name: "-fx-border-width",
-        form: StyleForm::SidesList,
-        property: None,
-    },
-    Style {
-        name: "-fx-border-insets",
-        form: StyleForm::SidesList,
-        property: None,
-    },
-    Style {
-        name: "-fx-text-fill",
-        form: StyleForm::Paint,
-        property: Some("textFill"),
-    },
-    Style {
-        name: "-fx-font-size",
-        form: StyleForm::Size,
-        property: Some("fontSize"),
-    },
-    Style {
-        name: "-fx-wrap-text",
-        form: StyleForm::Truth,
-        property: Some("wrapText"),
-    },
-    Style {
-        name: "visibility",
-        form: StyleForm::Visibility,
-        property: Some("visible"),
-    },
-];
+static STYLES: [Style; COUNT] = each_style!(table);
+
+each_style!(constants);
 
 /// The style declarations in their order, as a slice.
 pub fn style_table() -> &'static [Style]
@@ -248,5 +212,11 @@ impl CodeValue {
 impl Duplicate for CodeValue {
     fn duplicate(&self, alloc: Global) -> Result<Self, AllocError> {
         self.copy(alloc)
+    }
+}
+
+impl Same for CodeValue {
+    fn is_same(&self, other: &Self) -> bool {
+        self.style == other.style && self.value.is_same(&other.value) && self.bound == other.bound
     }
 }

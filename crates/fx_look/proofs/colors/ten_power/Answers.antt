@@ -1,5 +1,5 @@
 use Rattle.std.proofs.Common.{◌<◌, subst, sym}
-use Rattle.fx_look.proofs.RoundingLemmas.{ten_power}
+use Rattle.fx_text.proofs.DigitLemmas.{ten_power}
 use Rattle.fx_look.proofs.colors.ten_power.Goals as goal
 
 pub returns-clause-some : goal.returns-clause-some

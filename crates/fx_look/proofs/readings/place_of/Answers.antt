@@ -1,7 +1,7 @@
 use Rattle.std.proofs.Common.{◌∙◌, List, ℕ}
 use Rattle.std.specs.Borrow.{Bor}
 use Rattle.std.specs.Str.{bytes_eq}
-use Rattle.fx_look.proofs.ReadingLemmas.{position-map}
+use Rattle.fx_look.proofs.TableLemmas.{position-map}
 use Rattle.fx_look.proofs.readings.place_of.Goals as goal
 
 pub returns : goal.returns

@@ -1,5 +1,5 @@
 -- The constraints that a pane reads of its children: JavaFX 21 API, the static setters of the panes.
-use Rattle.std.specs.Prelude.{ℕ, true, List, [], ◌∷◌, codes, Option, Some, None, ℤ, pos}
+use Rattle.std.specs.Prelude.{◌≡◌, ℕ, Bool, true, ◌&&◌, IsTrue, int_le, List, [], ◌∷◌, codes, Option, Some, None, ℤ, pos}
 use Rattle.std.specs.List.{find}
 use Rattle.std.specs.Str.{bytes_eq}
 use Rattle.fx_base.specs.declared.kinds.Family.TheVariants as family
@@ -7,7 +7,9 @@ use Rattle.fx_base.specs.declared.kinds.Kind.{Kind}
 use Rattle.fx_base.specs.declared.kinds.Kind.TheVariants as kind
 use Rattle.fx_base.specs.declared.values.Value.{Value}
 use Rattle.fx_base.specs.declared.values.Value.TheVariants as value
+use Rattle.fx_base.specs.Printing.{kind_of}
 use Rattle.fx_look.specs.Insets.{sides}
+use Rattle.fx_look.specs.Readings.{IsValue}
 
 -- the range is of numbers, and none where any will do; the default is none where unset counts as nothing
 pub record ConstraintEntry : Type 0 where
@@ -53,3 +55,19 @@ constraints = plain_entry (codes "HBox.hgrow") (kind.Choice family.Priority) (So
 
 abbrev pub constraint_named : List ℕ → Option ConstraintEntry
 constraint_named name = find (λ (e : ConstraintEntry). bytes_eq e.name name) constraints
+
+-- a number has to be in the range, where there is one
+abbrev pub is_in_range : Option (ℤ × ℤ) → Value → Bool
+is_in_range (Some r) (value.Int n) = int_le r.0 n && int_le n r.1
+is_in_range _ v = true
+
+-- the constraint may have the value
+abbrev pub TakesValue : ConstraintEntry → Value → Type 0
+TakesValue e v = (kind_of v ≡ e.kind) × IsTrue (is_in_range e.range v)
+
+-- the value that a text gives the constraint of this name
+pub record IsConstraintValue (name text : List ℕ) (v : Value) : Type 0 where
+  pub entry : ConstraintEntry
+  pub named : constraint_named name ≡ Some entry
+  pub spelled : IsValue entry.kind text v
+  pub in_range : IsTrue (is_in_range entry.range v)

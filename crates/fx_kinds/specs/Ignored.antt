@@ -1,5 +1,9 @@
--- The whole names of attributes that change nothing.
-use Rattle.std.specs.Prelude.{ℕ, List, [], ◌∷◌, codes}
+-- The names of attributes that change nothing.
+use Rattle.std.specs.Prelude.{ℕ, Bool, ◌||◌, List, [], ◌∷◌, codes, nat_eq}
+use Rattle.std.specs.List.{list_any, starts_with}
+use Rattle.std.specs.Str.{bytes_eq}
+
+-- whole names
 
 abbrev pub ignored : List (List ℕ)
 ignored = codes "xmlns"
@@ -18,3 +22,7 @@ ignored = codes "xmlns"
     ∷ codes "contentDisplay"
     ∷ codes "textAlignment"
     ∷ []
+
+-- these, and all that bind a prefix (Namespaces in XML 1.0, `PrefixedAttName`)
+abbrev pub is_ignored : List ℕ → Bool
+is_ignored name = starts_with nat_eq name (codes "xmlns:") || list_any (λ other. bytes_eq other name) ignored

@@ -37,7 +37,7 @@ pub enum Class {
     Boolean,
 }
 
-const CLASSES: [Class; 23] = [
+static CLASSES: &[Class] = &[
     Class::Pane,
     Class::Region,
     Class::HBox,
@@ -68,7 +68,7 @@ pub fn class_of(simple: &str) -> Option<Class>
     ensures found { IfSome result (λ class. name_of class ≡ simple.now) }
     ensures none { IfNone result ((class : ClassName) → name_of class ≡ simple.now → ⊥) }
 {
-    find_class(&CLASSES, simple)
+    find_class(CLASSES, simple)
 }
 
 /// No two classes share a simple name.

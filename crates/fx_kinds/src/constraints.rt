@@ -1,14 +1,17 @@
 //! The constraints that a pane reads of its children, as documents name them.
 //! Loaders read their values by this table.
-ghost use Rattle.std.specs.Prelude.{◌≡◌, Some, map};
+ghost use Rattle.std.specs.Prelude.{◌≡◌, ◌↔◌, Some, IfOk, IfSome, IfNone, IsTrue, map, ℕ, List};
 ghost use Rattle.std.specs.Option.{option_map};
 ghost use Rattle.std.specs.List.{Contains, find};
 ghost use Rattle.std.specs.Str.{bytes_eq};
-ghost use Rattle.fx_kinds.specs.Constraints.{ConstraintEntry, constraint_named, constraints};
+ghost use Rattle.fx_base.specs.declared.values.Value.{Value as Property};
+ghost use Rattle.fx_kinds.specs.Constraints.{ConstraintEntry, constraint_named, constraints, is_in_range, TakesValue, IsConstraintValue};
 ghost use Rattle.fx_kinds.specs.ConstraintRows.{constraint_entry};
 
 use crate::presets::Preset;
-use fx_base::{Family, Kind};
+use fx_base::{Family, Kind, Value};
+use fx_look::read_value;
+use std::alloc::{AllocError, Global};
 
 /// A constraint of a child (JavaFX 21 API, the static setters of the panes).
 #[derive(Clone, Copy, Debug)]
@@ -28,7 +31,7 @@ const INDEX: Option<(i64, i64)> = Some((0, 255));
 /// How many rows or columns a child may span.
 const SPAN: Option<(i64, i64)> = Some((1, 64));
 
-static CONSTRAINTS: [ConstraintRow; 23] = [
+static CONSTRAINTS: &[ConstraintRow] = &[
     ConstraintRow {
         name: "HBox.hgrow",
         kind: Kind::Choice(Family::Priority),
@@ -176,11 +179,55 @@ pub fn constraint_of(name: &str) -> Option<ConstraintRow>
     find_entry(constraint_table(), name)
 }
 
+/// The value of the constraint of this name that the text spells: of the constraint's kind and in its range, or none.
+pub fn constraint_value(alloc: Global, name: &str, text: &str) -> Result<Option<Value>, AllocError>
+    ensures found { IfOk result (λ o. IfSome o (IsConstraintValue name.now text.now)) }
+    ensures none { IfOk result (λ o. IfNone o ((v : Property) → IsConstraintValue name.now text.now v → ⊥)) }
+{
+    let row = match constraint_of(name) {
+        Some(row) => row,
+        None => return Ok(None),
+    };
+    match read_value(alloc, row.kind, text)? {
+        Some(value) => {
+            if is_in_range(row.range, &value) {
+                Ok(Some(value))
+            } else {
+                Ok(None)
+            }
+        }
+        None => Ok(None),
+    }
+}
+
+/// One text spells one value of a constraint at most.
+pub fn one_constraint_value()
+    ensures { (name text : List ℕ) (v w : Property) → IsConstraintValue name text v → IsConstraintValue name text w → v ≡ w }
+{}
+
+impl ConstraintRow {
+    /// Is it a value of the constraint's kind and in its range?
+    pub fn takes(&self, value: &Value) -> bool
+        ensures { IsTrue result ↔ TakesValue (constraint_entry self.now) value.now }
+    {
+        value.kind() == self.kind && is_in_range(self.range, value)
+    }
+}
+
+fn is_in_range(range: Option<(i64, i64)>, value: &Value) -> bool
+    ensures { result ≡ is_in_range range value.now }
+{
+    match (range, value) {
+        (Some((least, greatest)), Value::Int(number)) => least <= *number && *number <= greatest,
+        _ => true,
+    }
+}
+
 /// The constraints in their order.
 pub fn constraint_table() -> &'static [ConstraintRow]
     ensures { map constraint_entry result.now ≡ constraints }
 {
-    &CONSTRAINTS
+    CONSTRAINTS
 }
 
 /// Each constraint is found by its own name, so no two share one.

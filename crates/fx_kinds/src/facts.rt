@@ -1,9 +1,9 @@
 //! What styling and layout are given of a node.
 //! Scenes make these facts of their nodes.
-ghost use Rattle.std.specs.Prelude.{◌≡◌, IfOk};
+ghost use Rattle.std.specs.Prelude.{◌≡◌, ◌↔◌, IfOk, IsTrue, length};
 
 use crate::classes::Class;
-use fx_base::{Duplicate, List, NodeKey, Text, Track, Value};
+use fx_base::{Duplicate, List, NodeKey, Same, Text, Track, Value};
 use fx_look::CodeValue;
 use std::alloc::{AllocError, Global};
 
@@ -113,6 +113,80 @@ impl Duplicate for BoxFacts {
 impl Duplicate for Constraint {
     fn duplicate(&self, alloc: Global) -> Result<Self, AllocError> {
         self.copy(alloc)
+    }
+}
+
+impl Same for StyleFacts {
+    fn is_same(&self, other: &Self) -> bool {
+        self.key == other.key
+            && self.parent == other.parent
+            && self.class == other.class
+            && self.id.is_same(&other.id)
+            && self.classes.is_same(&other.classes)
+            && self.pseudos.is_same(&other.pseudos)
+            && self.inline == other.inline
+            && self.sheets.as_slice() == other.sheets.as_slice()
+            && self.codes.is_same(&other.codes)
+    }
+}
+
+impl Same for BoxFacts {
+    fn is_same(&self, other: &Self) -> bool {
+        is_same_node(self, other) && has_same_rules(self, other) && has_same_contents(self, other)
+    }
+}
+
+fn is_same_node(a: &BoxFacts, b: &BoxFacts) -> bool
+    ensures { IsTrue result ↔ ((a.now.key ≡ b.now.key) × (a.now.parent ≡ b.now.parent) × (a.now.class ≡ b.now.class)) }
+{
+    a.key == b.key && a.parent == b.parent && a.class == b.class
+}
+
+fn has_same_rules(a: &BoxFacts, b: &BoxFacts) -> bool
+    ensures { IsTrue result ↔ ((a.now.constraints ≡ b.now.constraints) × (a.now.edge ≡ b.now.edge) × (a.now.columns ≡ b.now.columns) × (a.now.rows ≡ b.now.rows)) }
+{
+    a.constraints.is_same(&b.constraints)
+        && a.edge == b.edge
+        && are_same_tracks(a.columns.as_slice(), b.columns.as_slice())
+        && are_same_tracks(a.rows.as_slice(), b.rows.as_slice())
+}
+
+fn are_same_tracks(tracks: &[Track], others: &[Track]) -> bool
+    ensures { IsTrue result ↔ (tracks.now ≡ others.now) }
+{
+    tracks.len() == others.len() && pairs_are_same(tracks, others)
+}
+
+fn pairs_are_same(tracks: &[Track], others: &[Track]) -> bool
+    requires { length tracks.now ≡ length others.now }
+    ensures { IsTrue result ↔ (tracks.now ≡ others.now) }
+{
+    for at in 0..tracks.len() {
+        if !is_same_track(&tracks[at], &others[at]) {
+            return false;
+        }
+    }
+    true
+}
+
+fn is_same_track(a: &Track, b: &Track) -> bool
+    ensures { IsTrue result ↔ (a.now ≡ b.now) }
+{
+    a.min == b.min && a.pref == b.pref && a.max == b.max && a.grow == b.grow && a.align == b.align
+}
+
+fn has_same_contents(a: &BoxFacts, b: &BoxFacts) -> bool
+    ensures { IsTrue result ↔ ((a.now.text ≡ b.now.text) × (a.now.layout_x ≡ b.now.layout_x) × (a.now.layout_y ≡ b.now.layout_y) × (a.now.focus_traversable ≡ b.now.focus_traversable)) }
+{
+    a.text.is_same(&b.text)
+        && a.layout_x == b.layout_x
+        && a.layout_y == b.layout_y
+        && a.focus_traversable == b.focus_traversable
+}
+
+impl Same for Constraint {
+    fn is_same(&self, other: &Self) -> bool {
+        self.name.is_same(&other.name) && self.value.is_same(&other.value)
     }
 }
 

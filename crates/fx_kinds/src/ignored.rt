@@ -1,12 +1,12 @@
 //! The attributes of nodes that documents may have and that change nothing.
 //! Loaders skip them.
-ghost use Rattle.std.specs.Prelude.{◌≡◌, map};
-ghost use Rattle.std.specs.List.{list_any};
+ghost use Rattle.std.specs.Prelude.{◌≡◌, map, codes, nat_eq};
+ghost use Rattle.std.specs.List.{list_any, starts_with};
 ghost use Rattle.std.specs.Str.{bytes_eq};
-ghost use Rattle.fx_kinds.specs.Ignored.{ignored};
+ghost use Rattle.fx_kinds.specs.Ignored.{ignored, is_ignored};
 
-/// The whole names that are ignored; so are all names that begin with `xmlns:`.
-pub const IGNORED: [&str; 15] = [
+/// The whole names that are ignored.
+static IGNORED: &[&str] = &[
     "xmlns",
     "fx:controller",
     "mnemonicParsing",
@@ -24,18 +24,24 @@ pub const IGNORED: [&str; 15] = [
     "textAlignment",
 ];
 
-/// Is the attribute of this whole name ignored?
+/// Is the attribute of this whole name ignored? So are all that bind a prefix, as `xmlns:fx`.
 pub fn is_ignored(name: &str) -> bool
-    ensures { result ≡ list_any (λ other. bytes_eq other name.now) ignored }
+    ensures { result ≡ is_ignored name.now }
 {
-    is_among(ignored_names(), name)
+    binds_prefix(name.as_bytes()) || is_among(ignored_names(), name)
 }
 
-/// `IGNORED` as a slice.
+fn binds_prefix(name: &[u8]) -> bool
+    ensures { result ≡ starts_with nat_eq name.now (codes "xmlns:") }
+{
+    name.starts_with(b"xmlns:")
+}
+
+/// The whole names that are ignored, in their order.
 pub fn ignored_names() -> &'static [&'static str]
     ensures { map (λ name. name.now) result.now ≡ ignored }
 {
-    &IGNORED
+    IGNORED
 }
 
 fn is_among(names: &[&str], name: &str) -> bool

@@ -13,9 +13,12 @@ pub use classes::{
     Class, birth_style, class_of, is_control, is_node, name_of, one_class, package_of,
     takes_children, value_kind,
 };
-pub use constraints::{ConstraintRow, constraint_of, constraint_table, each_constraint_named};
+pub use constraints::{
+    ConstraintRow, constraint_of, constraint_table, constraint_value, each_constraint_named,
+    one_constraint_value,
+};
 pub use facts::{BoxFacts, Constraint, StyleFacts};
-pub use ignored::{IGNORED, ignored_names, is_ignored};
+pub use ignored::{ignored_names, is_ignored};
 pub use presets::Preset;
 pub use property_table::{
     Property, each_styled, initial, initial_alignment, one_property, properties, property_named,

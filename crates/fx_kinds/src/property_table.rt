@@ -12,7 +12,7 @@ ghost use Rattle.fx_kinds.specs.Listing.{listed_property, listed_with, row_with,
 use crate::classes::Class;
 use crate::presets::Preset;
 use fx_base::{Color, Family, Kind, Value};
-use fx_look::StyleName;
+use fx_look::{StyleKey, StyleName};
 use std::alloc::{AllocError, Global};
 
 /// A property as the nodes of a class have it (JavaFX 21 API).
@@ -37,249 +37,124 @@ enum FirstValue {
     Alignment,
 }
 
+const EMPTY: FirstValue = FirstValue::Always(Preset::EmptyText);
+
+const ZERO: FirstValue = FirstValue::Always(Preset::Int(0));
+
+const TWELVE: FirstValue = FirstValue::Always(Preset::Int(12));
+/// Computed by the layout where nothing is set (JavaFX `Region.USE_COMPUTED_SIZE`).
+const UNSET: FirstValue = FirstValue::Always(Preset::Int(-1));
+
+const TRUE: FirstValue = FirstValue::Always(Preset::Bool(true));
+
+const FALSE: FirstValue = FirstValue::Always(Preset::Bool(false));
+
+const NO_SIDES: FirstValue = FirstValue::Always(Preset::EvenSides(0));
 /// Black (JavaFX `Color.BLACK`).
-const BLACK: Color = Color {
+const BLACK: FirstValue = FirstValue::Always(Preset::Color(Color {
     r: 0,
     g: 0,
     b: 0,
     a: 255,
-};
+}));
 
-const ID: Property = Property {
-    name: "id",
-    kind: Kind::Text,
-    read_only: false,
-    styled: None,
-    initial: FirstValue::Always(Preset::EmptyText),
-};
+/// A row: the name, the kind, what it holds at first, and the style declaration that sets it, if one does.
+macro_rules! property {
+    ($name:literal, $kind:expr, $initial:expr) => {
+        Property {
+            name: $name,
+            kind: $kind,
+            read_only: false,
+            styled: None,
+            initial: $initial,
+        }
+    };
+    ($name:literal, $kind:expr, $initial:expr, $style:ident) => {
+        Property {
+            name: $name,
+            kind: $kind,
+            read_only: false,
+            styled: Some(StyleName(StyleKey::$style as u32)),
+            initial: $initial,
+        }
+    };
+}
 
-const VISIBLE: Property = Property {
-    name: "visible",
-    kind: Kind::Bool,
-    read_only: false,
-    styled: Some(StyleName(21)),
-    initial: FirstValue::Always(Preset::Bool(true)),
-};
-
-const DISABLE: Property = Property {
-    name: "disable",
-    kind: Kind::Bool,
-    read_only: false,
-    styled: None,
-    initial: FirstValue::Always(Preset::Bool(false)),
-};
-
-const FOCUS_TRAVERSABLE: Property = Property {
-    name: "focusTraversable",
-    kind: Kind::Bool,
-    read_only: false,
-    styled: None,
-    initial: FirstValue::FocusTraversable,
-};
-
-const LAYOUT_X: Property = Property {
-    name: "layoutX",
-    kind: Kind::Int,
-    read_only: false,
-    styled: None,
-    initial: FirstValue::Always(Preset::Int(0)),
-};
-
-const LAYOUT_Y: Property = Property {
-    name: "layoutY",
-    kind: Kind::Int,
-    read_only: false,
-    styled: None,
-    initial: FirstValue::Always(Preset::Int(0)),
-};
-
-const MIN_WIDTH: Property = Property {
-    name: "minWidth",
-    kind: Kind::Int,
-    read_only: false,
-    styled: Some(StyleName(7)),
-    initial: FirstValue::Always(Preset::Int(-1)),
-};
-
-const MIN_HEIGHT: Property = Property {
-    name: "minHeight",
-    kind: Kind::Int,
-    read_only: false,
-    styled: Some(StyleName(8)),
-    initial: FirstValue::Always(Preset::Int(-1)),
-};
-
-const PREF_WIDTH: Property = Property {
-    name: "prefWidth",
-    kind: Kind::Int,
-    read_only: false,
-    styled: Some(StyleName(9)),
-    initial: FirstValue::Always(Preset::Int(-1)),
-};
-
-const PREF_HEIGHT: Property = Property {
-    name: "prefHeight",
-    kind: Kind::Int,
-    read_only: false,
-    styled: Some(StyleName(10)),
-    initial: FirstValue::Always(Preset::Int(-1)),
-};
-
-const MAX_WIDTH: Property = Property {
-    name: "maxWidth",
-    kind: Kind::Int,
-    read_only: false,
-    styled: Some(StyleName(11)),
-    initial: FirstValue::Always(Preset::Int(-1)),
-};
-
-const MAX_HEIGHT: Property = Property {
-    name: "maxHeight",
-    kind: Kind::Int,
-    read_only: false,
-    styled: Some(StyleName(12)),
-    initial: FirstValue::Always(Preset::Int(-1)),
-};
-
-const PADDING: Property = Property {
-    name: "padding",
-    kind: Kind::Sides,
-    read_only: false,
-    styled: Some(StyleName(0)),
-    initial: FirstValue::Always(Preset::EvenSides(0)),
-};
-
-const WIDTH: Property = Property {
-    name: "width",
-    kind: Kind::Int,
-    read_only: true,
-    styled: None,
-    initial: FirstValue::Always(Preset::Int(0)),
-};
-
-const HEIGHT: Property = Property {
-    name: "height",
-    kind: Kind::Int,
-    read_only: true,
-    styled: None,
-    initial: FirstValue::Always(Preset::Int(0)),
-};
-
-const ALIGNMENT: Property = Property {
-    name: "alignment",
-    kind: Kind::Choice(Family::Pos),
-    read_only: false,
-    styled: Some(StyleName(1)),
-    initial: FirstValue::Alignment,
-};
-
-const SPACING: Property = Property {
-    name: "spacing",
-    kind: Kind::Int,
-    read_only: false,
-    styled: Some(StyleName(2)),
-    initial: FirstValue::Always(Preset::Int(0)),
-};
-
-const FILL_HEIGHT: Property = Property {
-    name: "fillHeight",
-    kind: Kind::Bool,
-    read_only: false,
-    styled: Some(StyleName(6)),
-    initial: FirstValue::Always(Preset::Bool(true)),
-};
-
-const FILL_WIDTH: Property = Property {
-    name: "fillWidth",
-    kind: Kind::Bool,
-    read_only: false,
-    styled: Some(StyleName(5)),
-    initial: FirstValue::Always(Preset::Bool(true)),
-};
-
-const HGAP: Property = Property {
-    name: "hgap",
-    kind: Kind::Int,
-    read_only: false,
-    styled: Some(StyleName(3)),
-    initial: FirstValue::Always(Preset::Int(0)),
-};
-
-const VGAP: Property = Property {
-    name: "vgap",
-    kind: Kind::Int,
-    read_only: false,
-    styled: Some(StyleName(4)),
-    initial: FirstValue::Always(Preset::Int(0)),
-};
-
-const TEXT: Property = Property {
-    name: "text",
-    kind: Kind::Text,
-    read_only: false,
-    styled: None,
-    initial: FirstValue::Always(Preset::EmptyText),
-};
-
-const TEXT_FILL: Property = Property {
-    name: "textFill",
-    kind: Kind::Color,
-    read_only: false,
-    styled: Some(StyleName(18)),
-    initial: FirstValue::Always(Preset::Color(BLACK)),
-};
-
-const FONT_SIZE: Property = Property {
-    name: "fontSize",
-    kind: Kind::Int,
-    read_only: false,
-    styled: Some(StyleName(19)),
-    initial: FirstValue::Always(Preset::Int(12)),
-};
-
-const WRAP_TEXT: Property = Property {
-    name: "wrapText",
-    kind: Kind::Bool,
-    read_only: false,
-    styled: Some(StyleName(20)),
-    initial: FirstValue::Always(Preset::Bool(false)),
-};
+/// A row of a length that the layout computes.
+macro_rules! computed {
+    ($name:literal) => {
+        Property {
+            name: $name,
+            kind: Kind::Int,
+            read_only: true,
+            styled: None,
+            initial: ZERO,
+        }
+    };
+}
 
 /// The properties of every node, and those of a class behind them.
 macro_rules! with_common {
     ($($row:expr),*) => {
-        [
-            ID,
-            VISIBLE,
-            DISABLE,
-            FOCUS_TRAVERSABLE,
-            LAYOUT_X,
-            LAYOUT_Y,
-            MIN_WIDTH,
-            MIN_HEIGHT,
-            PREF_WIDTH,
-            PREF_HEIGHT,
-            MAX_WIDTH,
-            MAX_HEIGHT,
-            PADDING,
-            WIDTH,
-            HEIGHT,
+        &[
+            property!("id", Kind::Text, EMPTY),
+            property!("visible", Kind::Bool, TRUE, Visibility),
+            property!("disable", Kind::Bool, FALSE),
+            property!("focusTraversable", Kind::Bool, FirstValue::FocusTraversable),
+            property!("layoutX", Kind::Int, ZERO),
+            property!("layoutY", Kind::Int, ZERO),
+            property!("minWidth", Kind::Int, UNSET, MinWidth),
+            property!("minHeight", Kind::Int, UNSET, MinHeight),
+            property!("prefWidth", Kind::Int, UNSET, PrefWidth),
+            property!("prefHeight", Kind::Int, UNSET, PrefHeight),
+            property!("maxWidth", Kind::Int, UNSET, MaxWidth),
+            property!("maxHeight", Kind::Int, UNSET, MaxHeight),
+            property!("padding", Kind::Sides, NO_SIDES, Padding),
+            computed!("width"),
+            computed!("height"),
             $($row),*
         ]
     };
 }
 
-static PLAIN: [Property; 15] = with_common![];
+const ALIGNMENT: Property = property!(
+    "alignment",
+    Kind::Choice(Family::Pos),
+    FirstValue::Alignment,
+    Alignment
+);
 
-static HBOX: [Property; 18] = with_common![ALIGNMENT, SPACING, FILL_HEIGHT];
+const SPACING: Property = property!("spacing", Kind::Int, ZERO, Spacing);
 
-static VBOX: [Property; 18] = with_common![ALIGNMENT, SPACING, FILL_WIDTH];
+static PLAIN: &[Property] = with_common![];
 
-static STACK: [Property; 16] = with_common![ALIGNMENT];
+static HBOX: &[Property] = with_common![
+    ALIGNMENT,
+    SPACING,
+    property!("fillHeight", Kind::Bool, TRUE, FillHeight)
+];
 
-static GRID: [Property; 18] = with_common![ALIGNMENT, HGAP, VGAP];
+static VBOX: &[Property] = with_common![
+    ALIGNMENT,
+    SPACING,
+    property!("fillWidth", Kind::Bool, TRUE, FillWidth)
+];
 
-static CONTROL: [Property; 20] = with_common![ALIGNMENT, TEXT, TEXT_FILL, FONT_SIZE, WRAP_TEXT];
+static STACK: &[Property] = with_common![ALIGNMENT];
+
+static GRID: &[Property] = with_common![
+    ALIGNMENT,
+    property!("hgap", Kind::Int, ZERO, Hgap),
+    property!("vgap", Kind::Int, ZERO, Vgap)
+];
+
+static CONTROL: &[Property] = with_common![
+    ALIGNMENT,
+    property!("text", Kind::Text, EMPTY),
+    property!("textFill", Kind::Color, BLACK, TextFill),
+    property!("fontSize", Kind::Int, TWELVE, FontSize),
+    property!("wrapText", Kind::Bool, FALSE, WrapText)
+];
 
 /// The properties of the class in their order; a class that isn't one of nodes has none.
 pub fn properties(class: Class) -> &'static [Property]
@@ -292,16 +167,16 @@ fn table(class: Class) -> &'static [Property]
     ensures { map (listed_with class) result.now ≡ map (row_with class) (rows_of class) }
 {
     match class {
-        Class::Pane => &PLAIN,
-        Class::Region => &PLAIN,
-        Class::HBox => &HBOX,
-        Class::VBox => &VBOX,
-        Class::BorderPane => &PLAIN,
-        Class::StackPane => &STACK,
-        Class::AnchorPane => &PLAIN,
-        Class::GridPane => &GRID,
-        Class::Label => &CONTROL,
-        Class::Button => &CONTROL,
+        Class::Pane => PLAIN,
+        Class::Region => PLAIN,
+        Class::HBox => HBOX,
+        Class::VBox => VBOX,
+        Class::BorderPane => PLAIN,
+        Class::StackPane => STACK,
+        Class::AnchorPane => PLAIN,
+        Class::GridPane => GRID,
+        Class::Label => CONTROL,
+        Class::Button => CONTROL,
         _ => &[],
     }
 }

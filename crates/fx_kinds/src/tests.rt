@@ -1,12 +1,12 @@
 //! The tables against those of an independent implementation, and each other call on one value.
 use crate::{
-    BoxFacts, Class, Constraint, IGNORED, Property, StyleFacts, birth_style, class_of,
-    constraint_of, constraint_table, each_constraint_named, each_styled, ignored_names, initial,
-    initial_alignment, is_control, is_ignored, is_node, name_of, one_class, one_property,
-    package_of, properties, property_named, styled_back, takes_children, value_kind,
+    BoxFacts, Class, Constraint, Property, StyleFacts, birth_style, class_of, constraint_of,
+    constraint_table, constraint_value, each_constraint_named, each_styled, ignored_names, initial,
+    initial_alignment, is_control, is_ignored, is_node, name_of, one_class, one_constraint_value,
+    one_property, package_of, properties, property_named, styled_back, takes_children, value_kind,
 };
-use fx_base::{Family, Kind, List, NodeKey, Text, Value};
-use fx_look::{CodeValue, StyleName};
+use fx_base::{Family, Kind, List, NodeKey, Same, Text, Value};
+use fx_look::{CodeValue, StyleKey, StyleName};
 use std::alloc::{AllocError, Global};
 use std::process::Abort;
 use std::test::Fail;
@@ -406,7 +406,6 @@ fn assert_constraints(rt: &impl Abort, table: &[(&str, Kind, Option<(i64, i64)>)
 }
 
 fn assert_ignored(rt: &impl Abort, names: &[&str]) {
-    assert_eq!(rt; IGNORED.len(), names.len());
     assert_eq!(rt; ignored_names().len(), names.len());
     for name in names {
         assert!(rt; is_ignored(name), "{name}");
@@ -437,13 +436,28 @@ fn tables(rt: HostRuntime) -> Result<(), Fail> {
 }
 
 #[test]
+fn constraint_values(rt: HostRuntime) -> Result<(), Fail> {
+    let alloc = rt.alloc();
+    let span = constraint_of("GridPane.rowSpan").ok_or("no row")?;
+    assert!(rt; span.takes(&Value::Int(64)) && !span.takes(&Value::Int(0)));
+    assert!(rt; !span.takes(&Value::Bool(true)));
+    assert!(rt; constraint_value(alloc, "GridPane.rowSpan", "2")? == Some(Value::Int(2)));
+    assert!(rt; constraint_value(alloc, "GridPane.rowSpan", "65")?.is_none());
+    assert!(rt; constraint_value(alloc, "GridPane.rowSpan", "two")?.is_none());
+    assert!(rt; constraint_value(alloc, "GridPane.span", "2")?.is_none());
+    one_constraint_value();
+    Ok(())
+}
+
+#[test]
 fn constraints_and_ignored(rt: HostRuntime) {
     assert_constraints(&rt, &CONSTRAINTS);
     assert!(rt; constraint_of("GridPane.margins").is_none());
     assert!(rt; constraint_of("HBox.vgrow").is_none());
     each_constraint_named();
     assert_ignored(&rt, &SKIPPED);
-    assert!(rt; !is_ignored("wrapText") && !is_ignored("xmlns:fx"));
+    assert!(rt; !is_ignored("wrapText") && !is_ignored("fx:id"));
+    assert!(rt; is_ignored("xmlns:fx") && is_ignored("xmlns:other") && !is_ignored("xmlnsx"));
 }
 
 #[test]
@@ -461,13 +475,17 @@ fn facts(rt: HostRuntime) -> Result<(), Fail> {
         sheets: List::from_vec(vec![in alloc; 0, 1]?),
         codes: List::from_vec(vec![in alloc;
             CodeValue {
-                style: StyleName(19),
+                style: StyleName(StyleKey::FontSize as u32),
                 value: Value::Int(9),
                 bound: false
             },
         ]?),
     };
-    let style = style.copy(alloc)?;
+    let first = style;
+    let mut style = first.copy(alloc)?;
+    assert!(rt; style.is_same(&first));
+    style.inline = None;
+    assert!(rt; !style.is_same(&first));
     assert_eq!(rt; style.sheets.as_slice(), [0, 1].as_slice());
     assert_eq!(rt; style.codes.as_slice().len(), 1);
     let margin = Constraint {
@@ -487,7 +505,9 @@ fn facts(rt: HostRuntime) -> Result<(), Fail> {
         layout_y: -1,
         focus_traversable: false,
     };
-    let facts = facts.copy(alloc)?;
+    let first = facts;
+    let facts = first.copy(alloc)?;
+    assert!(rt; facts.is_same(&first));
     assert_eq!(rt; facts.layout_y, -1);
     assert_eq!(rt; facts.constraints.as_slice().len(), 1);
     Ok(())

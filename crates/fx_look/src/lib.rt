@@ -19,7 +19,9 @@ pub use looks::Look;
 pub use numbers::{one_number, one_size, read_number, read_size, size_at};
 pub use pixels::blend;
 pub use readings::{one_value, read_value};
-pub use styles::{CodeValue, Style, StyleForm, StyleName, each_named, style_named, style_table};
+pub use styles::{
+    CodeValue, Style, StyleForm, StyleKey, StyleName, each_named, style_named, style_table,
+};
 
 #[cfg(test)]
 mod tests;

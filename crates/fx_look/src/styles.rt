@@ -10,77 +10,34 @@ ghost use Rattle.fx_look.specs.StyleRows.{style_row, style_at, style_named};
 use fx_base::{Duplicate, Family, Kind, Same, Value};
 use std::alloc::{AllocError, Global};
 
-/// Hands the rows of the table to a macro: a constant of `StyleName`, the name, the form, and the property that is set.
-macro_rules! each_style {
-    ($take:ident) => {
-        $take! {
-            PADDING "-fx-padding" Sides Some("padding");
-            ALIGNMENT "-fx-alignment" Position Some("alignment");
-            SPACING "-fx-spacing" Size Some("spacing");
-            HGAP "-fx-hgap" Size Some("hgap");
-            VGAP "-fx-vgap" Size Some("vgap");
-            FILL_WIDTH "-fx-fill-width" Truth Some("fillWidth");
-            FILL_HEIGHT "-fx-fill-height" Truth Some("fillHeight");
-            MIN_WIDTH "-fx-min-width" Size Some("minWidth");
-            MIN_HEIGHT "-fx-min-height" Size Some("minHeight");
-            PREF_WIDTH "-fx-pref-width" Size Some("prefWidth");
-            PREF_HEIGHT "-fx-pref-height" Size Some("prefHeight");
-            MAX_WIDTH "-fx-max-width" Size Some("maxWidth");
-            MAX_HEIGHT "-fx-max-height" Size Some("maxHeight");
-            BACKGROUND_COLOR "-fx-background-color" Paints None;
-            BACKGROUND_INSETS "-fx-background-insets" SidesList None;
-            BORDER_COLOR "-fx-border-color" Paints None;
-            BORDER_WIDTH "-fx-border-width" SidesList None;
-            BORDER_INSETS "-fx-border-insets" SidesList None;
-            TEXT_FILL "-fx-text-fill" Paint Some("textFill");
-            FONT_SIZE "-fx-font-size" Size Some("fontSize");
-            WRAP_TEXT "-fx-wrap-text" Truth Some("wrapText");
-            VISIBILITY "visibility" Visibility Some("visible");
-        }
-    };
+/// The style declarations by name, in the order of their table.
+#[derive(Clone, Copy, PartialEq, Eq, Debug)]
+pub enum StyleKey {
+    Padding,
+    Alignment,
+    Spacing,
+    Hgap,
+    Vgap,
+    FillWidth,
+    FillHeight,
+    MinWidth,
+    MinHeight,
+    PrefWidth,
+    PrefHeight,
+    MaxWidth,
+    MaxHeight,
+    BackgroundColor,
+    BackgroundInsets,
+    BorderColor,
+    BorderWidth,
+    BorderInsets,
+    TextFill,
+    FontSize,
+    WrapText,
+    Visibility,
 }
 
-macro_rules! table {
-    ($($place:ident $name:literal $form:ident $property:expr;)*) => {
-        [$(Style {
-            name: $name,
-            form: StyleForm::$form,
-            property: $property,
-        }),*]
-    };
-}
-
-macro_rules! one {
-    ($place:ident) => {
-        1
-    };
-}
-
-macro_rules! count {
-    ($($place:ident $name:literal $form:ident $property:expr;)*) => {
-        0 $(+ one!($place))*
-    };
-}
-
-/// Names the place of each row, counted from the one that is given.
-macro_rules! places {
-    ($at:expr;) => {};
-    ($at:expr; $place:ident $name:literal $form:ident $property:expr; $($rest:tt)*) => {
-        impl StyleName {
-            #[doc = $name]
-            pub const $place: StyleName = StyleName($at);
-        }
-        places!($at + 1; $($rest)*);
-    };
-}
-
-macro_rules! constants {
-    ($($rows:tt)*) => {
-        places!(0; $($rows)*);
-    };
-}
-
-/// A declaration by its place in the table. Each has its name as a constant, as `StyleName::PADDING`.
+/// A declaration by its place in their table, as `StyleName(StyleKey::Padding as u32)`.
 #[derive(Clone, Copy, PartialEq, Eq, Debug)]
 pub struct StyleName(pub u32);
 
@@ -114,19 +71,54 @@ pub struct Style {
     pub property: Option<&'static str>,
 }
 
-/// How many style declarations there are.
-const COUNT: usize = each_style!(count);
+/// A row: the name, the form of the value, and the property that is set, if one is.
+macro_rules! style {
+    ($name:literal, $form:ident) => {
+        Style {
+            name: $name,
+            form: StyleForm::$form,
+            property: None,
+        }
+    };
+    ($name:literal, $form:ident, $property:literal) => {
+        Style {
+            name: $name,
+            form: StyleForm::$form,
+            property: Some($property),
+        }
+    };
+}
+
+static STYLES: &[Style] = &[
+    style!("-fx-padding", Sides, "padding"),
+    style!("-fx-alignment", Position, "alignment"),
+    style!("-fx-spacing", Size, "spacing"),
+    style!("-fx-hgap", Size, "hgap"),
+    style!("-fx-vgap", Size, "vgap"),
+    style!("-fx-fill-width", Truth, "fillWidth"),
+    style!("-fx-fill-height", Truth, "fillHeight"),
+    style!("-fx-min-width", Size, "minWidth"),
+    style!("-fx-min-height", Size, "minHeight"),
+    style!("-fx-pref-width", Size, "prefWidth"),
+    style!("-fx-pref-height", Size, "prefHeight"),
+    style!("-fx-max-width", Size, "maxWidth"),
+    style!("-fx-max-height", Size, "maxHeight"),
+    style!("-fx-background-color", Paints),
+    style!("-fx-background-insets", SidesList),
+    style!("-fx-border-color", Paints),
+    style!("-fx-border-width", SidesList),
+    style!("-fx-border-insets", SidesList),
+    style!("-fx-text-fill", Paint, "textFill"),
+    style!("-fx-font-size", Size, "fontSize"),
+    style!("-fx-wrap-text", Truth, "wrapText"),
+    style!("visibility", Visibility, "visible"),
+];
 
 /// The style declarations in their order.
-static STYLES: [Style; COUNT] = each_style!(table);
-
-each_style!(constants);
-
-/// The style declarations in their order, as a slice.
 pub fn style_table() -> &'static [Style]
     ensures { map style_row result.now ≡ styles }
 {
-    &STYLES
+    STYLES
 }
 
 /// The declaration of this name.

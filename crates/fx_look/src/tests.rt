@@ -1,12 +1,14 @@
 //! Readings of every reader against those of an independent implementation, and each other call on one value.
 use crate::{
-    CodeValue, Look, StyleForm, StyleName, blend, one_color, one_number, one_sides, one_size,
-    one_value, read_color, read_number, read_sides, read_size, read_value, style_named,
+    CodeValue, Look, StyleForm, StyleKey, StyleName, blend, one_color, one_number, one_sides,
+    one_size, one_value, read_color, read_number, read_sides, read_size, read_value, style_named,
 };
 use fx_base::{Color, Family, Kind, Same, Sides, Value};
 use std::alloc::{AllocError, Global};
 use std::process::Abort;
 use std::test::Fail;
+
+const FONT_SIZE: StyleName = StyleName(StyleKey::FontSize as u32);
 
 static NUMBERS: [(&str, Option<i64>); 106] = [
     ("0", Some(0)),
@@ -618,17 +620,20 @@ fn looks_and_styles(rt: HostRuntime) -> Result<(), Fail> {
     assert_eq!(rt; look.max_height, -1);
     assert_eq!(rt; look.border_width.as_slice().len(), 1);
     let code = CodeValue {
-        style: StyleName::FONT_SIZE,
+        style: FONT_SIZE,
         value: Value::Int(14),
         bound: true,
     };
     let copy = code.copy(rt.alloc())?;
-    assert!(rt; copy.style == StyleName::FONT_SIZE && copy.bound && copy.value == Value::Int(14));
+    assert!(rt; copy.style == FONT_SIZE && copy.bound && copy.value == Value::Int(14));
     assert!(rt; copy.is_same(&code));
-    assert_eq!(rt; style_named("visibility"), Some(StyleName::VISIBILITY));
+    assert_eq!(rt;
+        style_named("visibility"),
+        Some(StyleName(StyleKey::Visibility as u32))
+    );
     assert_eq!(rt; style_named("-fx-Padding"), None);
     assert!(rt; StyleName(u32::MAX).style().is_none());
-    let font = StyleName::FONT_SIZE.style().ok_or("no row")?;
+    let font = FONT_SIZE.style().ok_or("no row")?;
     assert!(rt; font.name == "-fx-font-size" && font.form == StyleForm::Size);
     assert_eq!(rt; font.form.kind(), Some(Kind::Int));
     Ok(())

@@ -3,7 +3,7 @@ use Rattle.std.specs.Option.{option_map}
 use Rattle.std.specs.Str.{bytes_eq}
 use Rattle.fx_kinds.specs.Constraints.{ConstraintEntry}
 use Rattle.fx_kinds.specs.ConstraintRows.{constraint_entry}
-use Rattle.fx_kinds.proofs.PropertyLemmas.{find-map}
+use Rattle.fx_look.proofs.TableLemmas.{find-map}
 use Rattle.fx_kinds.proofs.constraints.find_entry.Goals as goal
 
 pub returns : goal.returns

@@ -1,7 +1,7 @@
 use Rattle.std.proofs.Common.{ℕ, List, ◌∙◌}
 use Rattle.std.specs.Borrow.{Bor}
 use Rattle.std.specs.Str.{bytes_eq}
-use Rattle.fx_kinds.proofs.PropertyLemmas.{any-map}
+use Rattle.fx_look.proofs.TableLemmas.{any-map}
 use Rattle.fx_kinds.proofs.ignored.is_among.Goals as goal
 
 pub returns : goal.returns

@@ -2,7 +2,7 @@ use Rattle.std.proofs.Common.{◌∙◌}
 use Rattle.std.specs.Str.{bytes_eq}
 use Rattle.fx_kinds.specs.Listing.{listed_property}
 use Rattle.fx_kinds.specs.Properties.{ListedProperty}
-use Rattle.fx_kinds.proofs.PropertyLemmas.{position-map}
+use Rattle.fx_look.proofs.TableLemmas.{position-map}
 use Rattle.fx_kinds.proofs.property_table.find_property.Goals as goal
 
 pub returns : goal.returns

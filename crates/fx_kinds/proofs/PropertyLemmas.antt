@@ -51,20 +51,6 @@ initial_found c list place d v e within f =
     let inside : place < length list = omega (arith, long) in
     initial_is c list place (slice_index_or list place d) e (slice_get-get_or list place d inside) ∙ ap (λ v. Some v) (sym f)
 
-pub nothing_listed : (c : Class) → (c ≡ class.Pane → ⊥) → (c ≡ class.Region → ⊥) → (c ≡ class.HBox → ⊥) → (c ≡ class.VBox → ⊥) → (c ≡ class.BorderPane → ⊥) → (c ≡ class.StackPane → ⊥) → (c ≡ class.AnchorPane → ⊥) → (c ≡ class.GridPane → ⊥) → (c ≡ class.Label → ⊥) → (c ≡ class.Button → ⊥) → [] ≡ map (row_with c) (rows_of c)
-unfolding rows_of rows
-nothing_listed class.Pane n0 n1 n2 n3 n4 n5 n6 n7 n8 n9 = absurd (n0 refl)
-nothing_listed class.Region n0 n1 n2 n3 n4 n5 n6 n7 n8 n9 = absurd (n1 refl)
-nothing_listed class.HBox n0 n1 n2 n3 n4 n5 n6 n7 n8 n9 = absurd (n2 refl)
-nothing_listed class.VBox n0 n1 n2 n3 n4 n5 n6 n7 n8 n9 = absurd (n3 refl)
-nothing_listed class.BorderPane n0 n1 n2 n3 n4 n5 n6 n7 n8 n9 = absurd (n4 refl)
-nothing_listed class.StackPane n0 n1 n2 n3 n4 n5 n6 n7 n8 n9 = absurd (n5 refl)
-nothing_listed class.AnchorPane n0 n1 n2 n3 n4 n5 n6 n7 n8 n9 = absurd (n6 refl)
-nothing_listed class.GridPane n0 n1 n2 n3 n4 n5 n6 n7 n8 n9 = absurd (n7 refl)
-nothing_listed class.Label n0 n1 n2 n3 n4 n5 n6 n7 n8 n9 = absurd (n8 refl)
-nothing_listed class.Button n0 n1 n2 n3 n4 n5 n6 n7 n8 n9 = absurd (n9 refl)
-nothing_listed _ n0 n1 n2 n3 n4 n5 n6 n7 n8 n9 = refl
-
 -- names of a class are distinct
 
 abbrev names_of : Class → List (List ℕ)

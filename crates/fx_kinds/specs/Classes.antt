@@ -102,6 +102,8 @@ value_kind _ = None
 
 -- every class, once
 abbrev pub classes : List Class
-classes = class.Pane ∷ class.Region ∷ class.HBox ∷ class.VBox ∷ class.BorderPane ∷ class.StackPane ∷ class.AnchorPane ∷ class.GridPane
-    ∷ class.Label ∷ class.Button ∷ class.ColumnConstraints ∷ class.RowConstraints ∷ class.Priority ∷ class.Insets ∷ class.Pos ∷ class.HPos ∷ class.VPos
+classes = class.Pane ∷ class.Region ∷ class.HBox ∷ class.VBox
+    ∷ class.BorderPane ∷ class.StackPane ∷ class.AnchorPane ∷ class.GridPane
+    ∷ class.Label ∷ class.Button ∷ class.ColumnConstraints ∷ class.RowConstraints
+    ∷ class.Priority ∷ class.Insets ∷ class.Pos ∷ class.HPos ∷ class.VPos
     ∷ class.Font ∷ class.Url ∷ class.String ∷ class.Integer ∷ class.Double ∷ class.Boolean ∷ []

@@ -25,7 +25,12 @@ abbrev pub margin_entry : List ℕ → ConstraintEntry
 margin_entry name = plain_entry name kind.Sides (Some (value.Sides (sides (pos 0) (pos 0) (pos 0) (pos 0))))
 
 abbrev pub place_entry : List ℕ → ℕ → ℕ → ConstraintEntry
-place_entry name least greatest = record { name = name; kind = kind.Int; range = Some (pos least, pos greatest); default = Some (value.Int (pos least)) }
+place_entry name least greatest = record {
+  name = name;
+  kind = kind.Int;
+  range = Some (pos least, pos greatest);
+  default = Some (value.Int (pos least));
+}
 
 unfoldable pub constraints : List ConstraintEntry
 constraints = plain_entry (codes "HBox.hgrow") (kind.Choice family.Priority) (Some (value.Choice family.Priority 0))

@@ -11,7 +11,12 @@ use Rattle.fx_kinds.specs.Presets.{preset_value}
 use Rattle.fx_kinds.specs.Properties.{PropertyRow, ListedProperty, listed, is_button, initial_alignment}
 
 abbrev pub listed_property : Property → ListedProperty
-listed_property p = record { name = p.name.now; kind = p.kind; read_only = p.read_only; styled = option_map (λ style. style.0) p.styled }
+listed_property p = record {
+  name = p.name.now;
+  kind = p.kind;
+  read_only = p.read_only;
+  styled = option_map (λ style. style.0) p.styled;
+}
 
 abbrev pub initial_value : Class → FirstValue → Value
 initial_value c (initial.Always preset) = preset_value preset

@@ -62,17 +62,22 @@ initial_alignment _ = 0
 abbrev pub always : Value → Class → Value
 always v c = v
 
+-- a property that may be set
+abbrev pub set_row : List ℕ → Kind → (Class → Value) → (Class → Bool) → PropertyRow
+set_row name kind initial of = record { name = name; kind = kind; read_only = false; of = of; initial = initial }
+
 abbrev pub int_row : List ℕ → ℤ → (Class → Bool) → PropertyRow
-int_row name number of = record { name = name; kind = kind.Int; read_only = false; of = of; initial = always (value.Int number) }
+int_row name number of = set_row name kind.Int (always (value.Int number)) of
 
 abbrev pub computed_row : List ℕ → PropertyRow
-computed_row name = record { name = name; kind = kind.Int; read_only = true; of = is_node; initial = always (value.Int (pos 0)) }
+computed_row name =
+    record { name = name; kind = kind.Int; read_only = true; of = is_node; initial = always (value.Int (pos 0)) }
 
 abbrev pub truth_row : List ℕ → (Class → Bool) → (Class → Bool) → PropertyRow
-truth_row name truth of = record { name = name; kind = kind.Bool; read_only = false; of = of; initial = λ c. value.Bool (truth c) }
+truth_row name truth of = set_row name kind.Bool (λ c. value.Bool (truth c)) of
 
 abbrev pub text_row : List ℕ → (Class → Bool) → PropertyRow
-text_row name of = record { name = name; kind = kind.Text; read_only = false; of = of; initial = always (value.Text []) }
+text_row name of = set_row name kind.Text (always (value.Text [])) of
 
 unfoldable pub rows : List PropertyRow
 rows = text_row (codes "id") is_node
@@ -87,17 +92,17 @@ rows = text_row (codes "id") is_node
     ∷ int_row (codes "prefHeight") (negsuc 0) is_node
     ∷ int_row (codes "maxWidth") (negsuc 0) is_node
     ∷ int_row (codes "maxHeight") (negsuc 0) is_node
-    ∷ record { name = codes "padding"; kind = kind.Sides; read_only = false; of = is_node; initial = always (value.Sides (sides (pos 0) (pos 0) (pos 0) (pos 0))) }
+    ∷ set_row (codes "padding") kind.Sides (always (value.Sides (sides (pos 0) (pos 0) (pos 0) (pos 0)))) is_node
     ∷ computed_row (codes "width")
     ∷ computed_row (codes "height")
-    ∷ record { name = codes "alignment"; kind = kind.Choice PosFamily; read_only = false; of = is_aligned; initial = λ c. value.Choice PosFamily (initial_alignment c) }
+    ∷ set_row (codes "alignment") (kind.Choice PosFamily) (λ c. value.Choice PosFamily (initial_alignment c)) is_aligned
     ∷ int_row (codes "spacing") (pos 0) is_box
     ∷ truth_row (codes "fillHeight") (λ c. true) is_hbox
     ∷ truth_row (codes "fillWidth") (λ c. true) is_vbox
     ∷ int_row (codes "hgap") (pos 0) is_grid
     ∷ int_row (codes "vgap") (pos 0) is_grid
     ∷ text_row (codes "text") is_control
-    ∷ record { name = codes "textFill"; kind = kind.Color; read_only = false; of = is_control; initial = always (value.Color (color 0 0 0 255)) }
+    ∷ set_row (codes "textFill") kind.Color (always (value.Color (color 0 0 0 255))) is_control
     ∷ int_row (codes "fontSize") (pos 12) is_control
     ∷ truth_row (codes "wrapText") (λ c. false) is_control
     ∷ []

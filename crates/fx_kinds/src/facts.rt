@@ -118,16 +118,28 @@ impl Duplicate for Constraint {
 
 impl Same for StyleFacts {
     fn is_same(&self, other: &Self) -> bool {
-        self.key == other.key
-            && self.parent == other.parent
-            && self.class == other.class
-            && self.id.is_same(&other.id)
-            && self.classes.is_same(&other.classes)
-            && self.pseudos.is_same(&other.pseudos)
-            && self.inline == other.inline
-            && self.sheets.as_slice() == other.sheets.as_slice()
-            && self.codes.is_same(&other.codes)
+        has_same_names(self, other) && is_same_place(self, other) && has_same_sheets(self, other)
     }
+}
+
+fn is_same_place(a: &StyleFacts, b: &StyleFacts) -> bool
+    ensures { IsTrue result ↔ ((a.now.key ≡ b.now.key) × (a.now.parent ≡ b.now.parent) × (a.now.class ≡ b.now.class)) }
+{
+    a.key == b.key && a.parent == b.parent && a.class == b.class
+}
+
+fn has_same_names(a: &StyleFacts, b: &StyleFacts) -> bool
+    ensures { IsTrue result
+        ↔ ((a.now.id ≡ b.now.id) × (a.now.classes ≡ b.now.classes) × (a.now.pseudos ≡ b.now.pseudos)) }
+{
+    a.id.is_same(&b.id) && a.classes.is_same(&b.classes) && a.pseudos.is_same(&b.pseudos)
+}
+
+fn has_same_sheets(a: &StyleFacts, b: &StyleFacts) -> bool
+    ensures { IsTrue result
+        ↔ ((a.now.inline ≡ b.now.inline) × (a.now.sheets ≡ b.now.sheets) × (a.now.codes ≡ b.now.codes)) }
+{
+    a.inline == b.inline && a.sheets.as_slice() == b.sheets.as_slice() && a.codes.is_same(&b.codes)
 }
 
 impl Same for BoxFacts {
@@ -143,7 +155,9 @@ fn is_same_node(a: &BoxFacts, b: &BoxFacts) -> bool
 }
 
 fn has_same_rules(a: &BoxFacts, b: &BoxFacts) -> bool
-    ensures { IsTrue result ↔ ((a.now.constraints ≡ b.now.constraints) × (a.now.edge ≡ b.now.edge) × (a.now.columns ≡ b.now.columns) × (a.now.rows ≡ b.now.rows)) }
+    ensures { IsTrue result
+        ↔ ((a.now.constraints ≡ b.now.constraints) × (a.now.edge ≡ b.now.edge)
+        × (a.now.columns ≡ b.now.columns) × (a.now.rows ≡ b.now.rows)) }
 {
     a.constraints.is_same(&b.constraints)
         && a.edge == b.edge
@@ -176,7 +190,9 @@ fn is_same_track(a: &Track, b: &Track) -> bool
 }
 
 fn has_same_contents(a: &BoxFacts, b: &BoxFacts) -> bool
-    ensures { IsTrue result ↔ ((a.now.text ≡ b.now.text) × (a.now.layout_x ≡ b.now.layout_x) × (a.now.layout_y ≡ b.now.layout_y) × (a.now.focus_traversable ≡ b.now.focus_traversable)) }
+    ensures { IsTrue result
+        ↔ ((a.now.text ≡ b.now.text) × (a.now.layout_x ≡ b.now.layout_x) × (a.now.layout_y ≡ b.now.layout_y)
+        × (a.now.focus_traversable ≡ b.now.focus_traversable)) }
 {
     a.text.is_same(&b.text)
         && a.layout_x == b.layout_x

@@ -163,6 +163,7 @@ pub fn properties(class: Class) -> &'static [Property]
     table(class)
 }
 
+#[tactic(auto, unfolding(crate::specs::Properties::rows, crate::specs::Properties::rows_of, crate::specs::Properties::styled_by, fx_look::specs::Styles::styles,))]
 fn table(class: Class) -> &'static [Property]
     ensures { map (listed_with class) result.now ≡ map (row_with class) (rows_of class) }
 {
@@ -177,7 +178,19 @@ fn table(class: Class) -> &'static [Property]
         Class::GridPane => GRID,
         Class::Label => CONTROL,
         Class::Button => CONTROL,
-        _ => &[],
+        Class::ColumnConstraints => &[],
+        Class::RowConstraints => &[],
+        Class::Priority => &[],
+        Class::Insets => &[],
+        Class::Pos => &[],
+        Class::HPos => &[],
+        Class::VPos => &[],
+        Class::Font => &[],
+        Class::Url => &[],
+        Class::String => &[],
+        Class::Integer => &[],
+        Class::Double => &[],
+        Class::Boolean => &[],
     }
 }
 

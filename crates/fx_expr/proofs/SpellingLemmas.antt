@@ -1,4 +1,5 @@
 -- The tokens that are found from the left are those that the text is spelled in.
+use Rattle.std.specs.Char.{is_ascii_digit}
 use Rattle.std.proofs.Common.{◌≡◌, ◌≤◌, ℕ, true, false, ◌&&◌, List, [], ◌∷◌, ◌++◌, zero, suc, length, drop, refl, ap, sym, ◌∙◌, subst, arith, eqb, cond, Option, None, Some}
 use Rattle.std.specs.Prelude.{encode_utf8}
 use Rattle.std.specs.Option.{option_map}
@@ -8,7 +9,7 @@ use Rattle.std.proofs.lemmas.Bool.Decides.{Decides-eqb}
 use Rattle.fx_base.specs.declared.values.Value.TheVariants as value
 use Rattle.fx_expr.specs.declared.tokens.Token.{Token}
 use Rattle.fx_expr.specs.declared.tokens.Token.TheVariants.{Constant}
-use Rattle.fx_expr.specs.Decimal.{is_digit, passing, behind, decimal, has_fraction, fraction_digits, fraction_rest}
+use Rattle.fx_expr.specs.Decimal.{passing, behind, decimal, has_fraction, fraction_digits, fraction_rest}
 use Rattle.fx_expr.specs.Spelling.{Stops, fraction_text, IsNumber, IsQuoted, ended, escaped, plain, Begins}
 use Rattle.fx_expr.specs.Scanning.{number_at, with_front, character_at, end_at, on_character, quoted_at, token_at}
 use Rattle.fx_expr.proofs.DecimalLemmas.{passing_parts, passing_pass, behind_stops, passing_written, behind_written, fraction_pass}
@@ -58,60 +59,60 @@ eq_true a b e = (Decides-eqb a b).0 e
 fraction_parts : (b : List ℕ) → b ≡ fraction_text (fraction_digits b) ++ fraction_rest b
 fraction_parts [] = refl
 fraction_parts (x ∷ []) = refl
-fraction_parts (x ∷ d ∷ ds) = (elim (eqb x 46 && is_digit d) as (λ b. (eqb x 46 && is_digit d) ≡ b
-    → (x ∷ (d ∷ ds)) ≡ fraction_text (cond b (passing is_digit (d ∷ ds)) []) ++ cond b (behind is_digit (d ∷ ds)) (x ∷ (d ∷ ds))) [
-      | true ↦ λ e. let both = and_parts (eqb x 46) (is_digit d) e in at_point x d ds (eq_true x 46 both.0) both.1
+fraction_parts (x ∷ d ∷ ds) = (elim (eqb x 46 && is_ascii_digit d) as (λ b. (eqb x 46 && is_ascii_digit d) ≡ b
+    → (x ∷ (d ∷ ds)) ≡ fraction_text (cond b (passing is_ascii_digit (d ∷ ds)) []) ++ cond b (behind is_ascii_digit (d ∷ ds)) (x ∷ (d ∷ ds))) [
+      | true ↦ λ e. let both = and_parts (eqb x 46) (is_ascii_digit d) e in at_point x d ds (eq_true x 46 both.0) both.1
       | false ↦ λ e. refl
     ]) refl
   where
-    at_point : (x d : ℕ) (ds : List ℕ) → x ≡ 46 → is_digit d ≡ true → (x ∷ (d ∷ ds)) ≡ fraction_text (passing is_digit (d ∷ ds)) ++ behind is_digit (d ∷ ds)
-    at_point x d ds e i = rw (e, i) (ap (λ t. 46 ∷ (d ∷ t)) (passing_parts is_digit ds))
+    at_point : (x d : ℕ) (ds : List ℕ) → x ≡ 46 → is_ascii_digit d ≡ true → (x ∷ (d ∷ ds)) ≡ fraction_text (passing is_ascii_digit (d ∷ ds)) ++ behind is_ascii_digit (d ∷ ds)
+    at_point x d ds e i = rw (e, i) (ap (λ t. 46 ∷ (d ∷ t)) (passing_parts is_ascii_digit ds))
 
-fraction_stops : (b : List ℕ) → Stops is_digit b → Stops is_digit (fraction_rest b)
-fraction_stops b s = (elim (has_fraction b) as (λ h. Stops is_digit (cond h (behind is_digit (drop 1 b)) b)) [ true ↦ behind_stops is_digit (drop 1 b) | false ↦ s ])
+fraction_stops : (b : List ℕ) → Stops is_ascii_digit b → Stops is_ascii_digit (fraction_rest b)
+fraction_stops b s = (elim (has_fraction b) as (λ h. Stops is_ascii_digit (cond h (behind is_ascii_digit (drop 1 b)) b)) [ true ↦ behind_stops is_ascii_digit (drop 1 b) | false ↦ s ])
 
 fraction_alone : (b : List ℕ) → fraction_digits b ≡ [] → has_fraction (fraction_rest b) ≡ false
-fraction_alone b e = (elim (has_fraction b) as (λ h. has_fraction b ≡ h → cond h (passing is_digit (drop 1 b)) [] ≡ [] → has_fraction (cond h (behind is_digit (drop 1 b)) b) ≡ false) [
+fraction_alone b e = (elim (has_fraction b) as (λ h. has_fraction b ≡ h → cond h (passing is_ascii_digit (drop 1 b)) [] ≡ [] → has_fraction (cond h (behind is_ascii_digit (drop 1 b)) b) ≡ false) [
   | true ↦ λ h n. absurd (not_empty b h n)
   | false ↦ λ h n. h
 ]) refl e
   where
-    not_empty : (b : List ℕ) → has_fraction b ≡ true → passing is_digit (drop 1 b) ≡ [] → ⊥
+    not_empty : (b : List ℕ) → has_fraction b ≡ true → passing is_ascii_digit (drop 1 b) ≡ [] → ⊥
     not_empty [] h n = cc
     not_empty (x ∷ []) h n = cc
-    not_empty (x ∷ d ∷ ds) h n = let i = (and_parts (eqb x 46) (is_digit d) h).1 in let no : (d ∷ passing is_digit ds) ≡ [] = rw i at n in cc
+    not_empty (x ∷ d ∷ ds) h n = let i = (and_parts (eqb x 46) (is_ascii_digit d) h).1 in let no : (d ∷ passing is_ascii_digit ds) ≡ [] = rw i at n in cc
 
-pub number_sound : (c : ℕ) (cs : List ℕ) → is_digit c ≡ true
-    → IsNumber (c ∷ cs) (passing is_digit (c ∷ cs)) (fraction_digits (behind is_digit (c ∷ cs))) (fraction_rest (behind is_digit (c ∷ cs)))
+pub number_sound : (c : ℕ) (cs : List ℕ) → is_ascii_digit c ≡ true
+    → IsNumber (c ∷ cs) (passing is_ascii_digit (c ∷ cs)) (fraction_digits (behind is_ascii_digit (c ∷ cs))) (fraction_rest (behind is_ascii_digit (c ∷ cs)))
 number_sound c cs i = record {
-  parts = passing_parts is_digit (c ∷ cs) ∙ ap (λ t. passing is_digit (c ∷ cs) ++ t) (fraction_parts (behind is_digit (c ∷ cs)));
-  some = λ n. let no : (c ∷ passing is_digit cs) ≡ [] = rw i at n in cc;
-  digits = passing_pass is_digit (c ∷ cs);
-  places = fraction_pass (behind is_digit (c ∷ cs));
-  stops = fraction_stops (behind is_digit (c ∷ cs)) (behind_stops is_digit (c ∷ cs));
-  alone = fraction_alone (behind is_digit (c ∷ cs));
+  parts = passing_parts is_ascii_digit (c ∷ cs) ∙ ap (λ t. passing is_ascii_digit (c ∷ cs) ++ t) (fraction_parts (behind is_ascii_digit (c ∷ cs)));
+  some = λ n. let no : (c ∷ passing is_ascii_digit cs) ≡ [] = rw i at n in cc;
+  digits = passing_pass is_ascii_digit (c ∷ cs);
+  places = fraction_pass (behind is_ascii_digit (c ∷ cs));
+  stops = fraction_stops (behind is_ascii_digit (c ∷ cs)) (behind_stops is_ascii_digit (c ∷ cs));
+  alone = fraction_alone (behind is_ascii_digit (c ∷ cs));
 }
 
-fraction_written : (fraction rest : List ℕ) → list_all is_digit fraction ≡ true → Stops is_digit rest → (fraction ≡ [] → has_fraction rest ≡ false)
+fraction_written : (fraction rest : List ℕ) → list_all is_ascii_digit fraction ≡ true → Stops is_ascii_digit rest → (fraction ≡ [] → has_fraction rest ≡ false)
     → (fraction_digits (fraction_text fraction ++ rest) ≡ fraction) × (fraction_rest (fraction_text fraction ++ rest) ≡ rest)
 fraction_written [] rest a s n = (rw (n refl) refl, rw (n refl) refl)
 fraction_written (d ∷ ds) rest a s n =
-    let i = (and_parts (is_digit d) (list_all is_digit ds) a).0 in
-    let all = passing_written is_digit (d ∷ ds) rest a s in
-    let left = behind_written is_digit (d ∷ ds) rest a s in
+    let i = (and_parts (is_ascii_digit d) (list_all is_ascii_digit ds) a).0 in
+    let all = passing_written is_ascii_digit (d ∷ ds) rest a s in
+    let left = behind_written is_ascii_digit (d ∷ ds) rest a s in
     (with_digit d ds rest i all, with_rest d ds rest i left)
   where
-    with_digit : (d : ℕ) (ds rest : List ℕ) → is_digit d ≡ true → passing is_digit (d ∷ (ds ++ rest)) ≡ d ∷ ds → fraction_digits (46 ∷ (d ∷ (ds ++ rest))) ≡ d ∷ ds
+    with_digit : (d : ℕ) (ds rest : List ℕ) → is_ascii_digit d ≡ true → passing is_ascii_digit (d ∷ (ds ++ rest)) ≡ d ∷ ds → fraction_digits (46 ∷ (d ∷ (ds ++ rest))) ≡ d ∷ ds
     with_digit d ds rest i all = rw i (rw i at all)
 
-    with_rest : (d : ℕ) (ds rest : List ℕ) → is_digit d ≡ true → behind is_digit (d ∷ (ds ++ rest)) ≡ rest → fraction_rest (46 ∷ (d ∷ (ds ++ rest))) ≡ rest
+    with_rest : (d : ℕ) (ds rest : List ℕ) → is_ascii_digit d ≡ true → behind is_ascii_digit (d ∷ (ds ++ rest)) ≡ rest → fraction_rest (46 ∷ (d ∷ (ds ++ rest))) ≡ rest
     with_rest d ds rest i left = rw i (rw i at left)
 
-fraction_no_digit : (fraction rest : List ℕ) → Stops is_digit rest → Stops is_digit (fraction_text fraction ++ rest)
+fraction_no_digit : (fraction rest : List ℕ) → Stops is_ascii_digit rest → Stops is_ascii_digit (fraction_text fraction ++ rest)
 fraction_no_digit [] rest s = s
 fraction_no_digit (d ∷ ds) rest s = refl
 
-pub digit_token : (c : ℕ) (cs : List ℕ) → is_digit c ≡ true → token_at (c ∷ cs) ≡ Some (number_at (c ∷ cs))
+pub digit_token : (c : ℕ) (cs : List ℕ) → is_ascii_digit c ≡ true → token_at (c ∷ cs) ≡ Some (number_at (c ∷ cs))
 unfolding token_at
 digit_token c cs i = rw i refl
 
@@ -119,12 +120,12 @@ pub number_complete : (text whole fraction rest : List ℕ) → IsNumber text wh
 number_complete text [] fraction rest n = absurd (n.some refl)
 number_complete text (w ∷ ws) fraction rest n =
     let tail : List ℕ = fraction_text fraction ++ rest in
-    let i = (and_parts (is_digit w) (list_all is_digit ws) n.digits).0 in
+    let i = (and_parts (is_ascii_digit w) (list_all is_ascii_digit ws) n.digits).0 in
     let stop = fraction_no_digit fraction rest n.stops in
-    let whole = passing_written is_digit (w ∷ ws) (fraction_text fraction ++ rest) n.digits stop in
-    let left = behind_written is_digit (w ∷ ws) (fraction_text fraction ++ rest) n.digits stop in
+    let whole = passing_written is_ascii_digit (w ∷ ws) (fraction_text fraction ++ rest) n.digits stop in
+    let left = behind_written is_ascii_digit (w ∷ ws) (fraction_text fraction ++ rest) n.digits stop in
     let f = fraction_written fraction rest n.places n.stops n.alone in
-    ap token_at n.parts ∙ (digit_token w (ws ++ (fraction_text fraction ++ rest)) i ∙ same_number (passing is_digit ((w ∷ ws) ++ (fraction_text fraction ++ rest))) (w ∷ ws) (behind is_digit ((w ∷ ws) ++ (fraction_text fraction ++ rest))) (fraction_text fraction ++ rest) fraction rest whole left f.0 f.1)
+    ap token_at n.parts ∙ (digit_token w (ws ++ (fraction_text fraction ++ rest)) i ∙ same_number (passing is_ascii_digit ((w ∷ ws) ++ (fraction_text fraction ++ rest))) (w ∷ ws) (behind is_ascii_digit ((w ∷ ws) ++ (fraction_text fraction ++ rest))) (fraction_text fraction ++ rest) fraction rest whole left f.0 f.1)
   where
     same_number : (a whole b tail fraction rest : List ℕ) → a ≡ whole → b ≡ tail → fraction_digits tail ≡ fraction → fraction_rest tail ≡ rest
         → here (Constant (value.Int (decimal a (fraction_digits b)))) (fraction_rest b) ≡ here (Constant (value.Int (decimal whole fraction))) rest

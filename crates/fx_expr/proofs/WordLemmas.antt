@@ -1,4 +1,5 @@
 -- Names, signs and whole lists of tokens: what is found is what is written.
+use Rattle.std.specs.Char.{is_ascii_digit}
 use Rattle.std.proofs.Common.{◌≡◌, ◌<◌, ◌≤◌, ℕ, Bool, true, false, ◌&&◌, ◌||◌, List, [], ◌∷◌, ◌++◌, zero, suc, length, drop, refl, ap, sym, ◌∙◌, subst, arith, eqb, cond, Option, None, Some, append_assoc}
 use Rattle.std.specs.Prelude.{option_and_then}
 use Rattle.std.specs.Option.{option_map}
@@ -6,13 +7,13 @@ use Rattle.std.specs.List.{list_all}
 use Rattle.std.proofs.lemmas.Bool.{and_parts, and_from}
 use Rattle.std.proofs.lemmas.Bool.Decides.{nat_tests}
 use Rattle.std.proofs.lemmas.List.{length-append}
-use Rattle.fx_text.specs.Classes.{is_identifier, is_letter, is_letter_or_digit}
+use Rattle.fx_text.specs.Classes.{is_identifier, is_letter, is_letter_or_digit, is_white, is_quote}
 use Rattle.fx_base.specs.declared.values.Value.TheVariants as value
 use Rattle.fx_expr.specs.declared.tree.BinarySign.{BinarySign}
 use Rattle.fx_expr.specs.declared.tokens.Token.{Token}
 use Rattle.fx_expr.specs.declared.tokens.Token.TheVariants.{Constant, Binary}
-use Rattle.fx_expr.specs.Decimal.{is_digit, passing, behind}
-use Rattle.fx_expr.specs.Spelling.{is_white, Stops, fraction_text, is_quote, is_short, has_name, points, AreNames, word_token, double_sign, single_sign, IsSingle, Begins, number, quoted, words, double, single, IsSpelled, done, white, token}
+use Rattle.fx_expr.specs.Decimal.{passing, behind}
+use Rattle.fx_expr.specs.Spelling.{Stops, fraction_text, is_short, has_name, points, AreNames, word_token, double_sign, single_sign, IsSingle, Begins, number, quoted, words, double, single, IsSpelled, done, white, token}
 use Rattle.fx_expr.specs.Scanning.{number_at, quoted_at, text_token, name_at, with_names, names_at, path_at, words_at, sign_of_one, sign_of_two, first_of_two, sign_at, token_at, after_white, with_tokens, tokens_of}
 use Rattle.fx_expr.proofs.DecimalLemmas.{passing_parts, passing_pass, behind_stops, passing_written, behind_written}
 use Rattle.fx_expr.proofs.GrammarLemmas.{bind_some}
@@ -22,13 +23,13 @@ use Rattle.fx_expr.proofs.SpellingLemmas.{at, here, piece, names_of, pieces, mov
 letter_or : (c : ℕ) → is_letter c ≡ true → is_letter_or_digit c ≡ true
 letter_or c h = rw h refl
 
-letter_no_digit : (c : ℕ) → is_letter c ≡ true → is_digit c ≡ false
+letter_no_digit : (c : ℕ) → is_letter c ≡ true → is_ascii_digit c ≡ false
 letter_no_digit c h = grind (arith, nat_tests)
 
 letter_no_quote : (c : ℕ) → is_letter c ≡ true → is_quote c ≡ false
 letter_no_quote c h = grind (arith, nat_tests)
 
-quote_no_digit : (c : ℕ) → is_quote c ≡ true → is_digit c ≡ false
+quote_no_digit : (c : ℕ) → is_quote c ≡ true → is_ascii_digit c ≡ false
 quote_no_digit c h = grind (arith, nat_tests)
 
 -- names
@@ -184,7 +185,7 @@ words_complete text first names rest t n e =
 
 -- signs are apart from the other tokens
 Apart : ℕ → Type 0
-Apart a = (is_digit a ≡ false) × (is_quote a ≡ false) × (is_letter a ≡ false)
+Apart a = (is_ascii_digit a ≡ false) × (is_quote a ≡ false) × (is_letter a ≡ false)
 
 apart_at : (a k : ℕ) → eqb a k ≡ true → Apart k → Apart a
 apart_at a k e p = subst (λ x. Apart x) (sym (eq_true a k e)) p
@@ -249,7 +250,7 @@ quoted_begins c cs content rest h s z = subst (λ text. Begins (c ∷ text) (Con
 pub token_sound : (text : List ℕ) (t : Token) (r : List ℕ) → token_at text ≡ here t r → Begins text t r
 unfolding token_at
 token_sound [] t r e = absurd (cc)
-token_sound (c ∷ cs) t r e = (elim (is_digit c) as (λ b. is_digit c ≡ b
+token_sound (c ∷ cs) t r e = (elim (is_ascii_digit c) as (λ b. is_ascii_digit c ≡ b
     → cond b (Some (number_at (c ∷ cs))) (cond (is_quote c) (option_and_then text_token (quoted_at (length cs) c cs)) (cond (is_letter c) (words_at (c ∷ cs)) (sign_at (c ∷ cs)))) ≡ here t r → Begins (c ∷ cs) t r) [
       | true ↦ λ h i. moved (c ∷ cs) (number_at (c ∷ cs)).0 t (number_at (c ∷ cs)).1 r (number (c ∷ cs) _ _ _ (number_sound c cs h)) i
       | false ↦ λ h i. (elim (is_quote c) as (λ b. is_quote c ≡ b

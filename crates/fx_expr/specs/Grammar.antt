@@ -38,9 +38,13 @@ operator_of m Exclamation = None
 pub data Spells (paths : List (List (List ℕ))) : ℕ → ℕ → List Token → Tree → Type 0 where
   constant : (d : ℕ) (v : Value) → Spells paths d 0 (Constant v ∷ []) (Leaf v)
   operand : (d : ℕ) (names : List (List ℕ)) → Spells paths d 0 (Path names ∷ []) (Place (place_in paths names))
-  minus : (d : ℕ) (ts : List Token) (x : Tree) → Spells paths d 0 ts x → Spells paths (suc d) 0 (Binary binary.Minus ∷ ts) (One unary.Minus x)
-  negation : (d : ℕ) (ts : List Token) (x : Tree) → Spells paths d 0 ts x → Spells paths (suc d) 0 (Exclamation ∷ ts) (One unary.Not x)
-  parens : (d : ℕ) (ts : List Token) (x : Tree) → Spells paths d 6 ts x → Spells paths (suc d) 0 (Opening ∷ (ts ++ (Closing ∷ []))) x
+  minus : (d : ℕ) (ts : List Token) (x : Tree) → Spells paths d 0 ts x
+      → Spells paths (suc d) 0 (Binary binary.Minus ∷ ts) (One unary.Minus x)
+  negation : (d : ℕ) (ts : List Token) (x : Tree) → Spells paths d 0 ts x
+      → Spells paths (suc d) 0 (Exclamation ∷ ts) (One unary.Not x)
+  parens : (d : ℕ) (ts : List Token) (x : Tree) → Spells paths d 6 ts x
+      → Spells paths (suc d) 0 (Opening ∷ (ts ++ (Closing ∷ []))) x
   stronger : (d m : ℕ) (ts : List Token) (x : Tree) → Spells paths d m ts x → Spells paths d (suc m) ts x
   group : (d m : ℕ) (ls rs : List Token) (o : Token) (sign : BinarySign) (x y : Tree) → Spells paths d (suc m) ls x
-      → operator_of (suc m) o ≡ Some sign → Spells paths d m rs y → Spells paths d (suc m) (ls ++ (o ∷ rs)) (Two sign x y)
+      → operator_of (suc m) o ≡ Some sign → Spells paths d m rs y
+      → Spells paths d (suc m) (ls ++ (o ∷ rs)) (Two sign x y)

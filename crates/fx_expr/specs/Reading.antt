@@ -32,18 +32,23 @@ abbrev pub operator_at : ℕ → List Token → Option (BinarySign × List Token
 operator_at m [] = None
 operator_at m (t ∷ ts) = option_map (λ sign. (sign, ts)) (operator_of m t)
 
-abbrev pub on_operator : Option (BinarySign × List Token) → (BinarySign → List Token → Option (Tree × List Token)) → Option (Tree × List Token) → Option (Tree × List Token)
+abbrev pub on_operator : Option (BinarySign × List Token) → (BinarySign → List Token → Option (Tree × List Token))
+    → Option (Tree × List Token) → Option (Tree × List Token)
 on_operator None f other = other
 on_operator (Some p) f other = f p.0 p.1
 
 -- operands behind signs of this strength, to the left, at most so many
-unfoldable pub more_of : (List Token → Option (Tree × List Token)) → ℕ → ℕ → Tree → List Token → Option (Tree × List Token)
+unfoldable pub more_of : (List Token → Option (Tree × List Token)) → ℕ → ℕ → Tree → List Token
+    → Option (Tree × List Token)
 more_of below m zero x ts = Some (x, ts)
-more_of below m (suc fuel) x ts = on_operator (operator_at m ts) (λ sign rest. option_and_then (λ y. more_of below m fuel (Two sign x y.0) y.1) (below rest)) (Some (x, ts))
+more_of below m (suc fuel) x ts =
+    on_operator (operator_at m ts) (λ sign rest.
+    option_and_then (λ y. more_of below m fuel (Two sign x y.0) y.1) (below rest)) (Some (x, ts))
 
 unfoldable pub level_over : (List Token → Option (Tree × List Token)) → ℕ → List Token → Option (Tree × List Token)
 level_over operand zero ts = operand ts
-level_over operand (suc m) ts = option_and_then (λ x. more_of (level_over operand m) (suc m) (length x.1) x.0 x.1) (level_over operand m ts)
+level_over operand (suc m) ts =
+    option_and_then (λ x. more_of (level_over operand m) (suc m) (length x.1) x.0 x.1) (level_over operand m ts)
 
 abbrev pub signed : UnarySign → Tree × List Token → Option (Tree × List Token)
 signed sign x = Some (One sign x.0, x.1)
@@ -56,9 +61,11 @@ unfoldable pub operand_of : List (List (List ℕ)) → ℕ → List Token → Op
 operand_of paths d [] = None
 operand_of paths d (Constant v ∷ ts) = Some (Leaf v, ts)
 operand_of paths d (Path names ∷ ts) = Some (Place (place_in paths names), ts)
-operand_of paths (suc d) (Binary binary.Minus ∷ ts) = option_and_then (λ x. signed unary.Minus x) (operand_of paths d ts)
+operand_of paths (suc d) (Binary binary.Minus ∷ ts) =
+    option_and_then (λ x. signed unary.Minus x) (operand_of paths d ts)
 operand_of paths (suc d) (Exclamation ∷ ts) = option_and_then (λ x. signed unary.Not x) (operand_of paths d ts)
-operand_of paths (suc d) (Opening ∷ ts) = option_and_then (λ x. closed_by x.0 x.1) (level_over (operand_of paths d) 6 ts)
+operand_of paths (suc d) (Opening ∷ ts) =
+    option_and_then (λ x. closed_by x.0 x.1) (level_over (operand_of paths d) 6 ts)
 operand_of paths d _ = None
 
 abbrev pub level_of : List (List (List ℕ)) → ℕ → ℕ → List Token → Option (Tree × List Token)
@@ -103,7 +110,8 @@ nested (Some t) paths = counted t paths
 
 abbrev pub formed : Option (List Token) → Result (Tree × List (List (List ℕ))) ExprError
 formed None = Err fault.Syntax
-formed (Some ts) = if has_form true 0 ts then nested (whole_of (once (paths_in ts)) ts) (once (paths_in ts)) else Err fault.Syntax
+formed (Some ts) =
+    if has_form true 0 ts then nested (whole_of (once (paths_in ts)) ts) (once (paths_in ts)) else Err fault.Syntax
 
 unfoldable pub reading_of : List ℕ → Result (Tree × List (List (List ℕ))) ExprError
 reading_of text = formed (tokens_of (length text) (after_white text))

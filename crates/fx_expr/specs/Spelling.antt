@@ -1,19 +1,17 @@
 -- Which tokens a text is written in. White may stand between them, and each is the longest that fits.
+use Rattle.std.specs.Char.{is_ascii_digit}
 use Rattle.std.specs.Prelude.{◌≡◌, ℕ, Bool, true, false, ◌++◌, ◌&&◌, ◌||◌, ◌==◌, nat_eq, nat_le, length, List, [], ◌∷◌, Option, None, Some, codes, if◌then◌else◌, encode_utf8}
 use Rattle.std.specs.List.{list_all, list_any}
 use Rattle.std.specs.Str.{chars}
 use Rattle.std.specs.Cmp.Lexicographic.{pointwise}
-use Rattle.fx_text.specs.Classes.{is_identifier, is_letter, is_letter_or_digit}
+use Rattle.fx_text.specs.Characters as char
+use Rattle.fx_text.specs.Classes.{is_identifier, is_letter, is_letter_or_digit, is_quote, is_white}
 use Rattle.fx_base.specs.declared.values.Value.TheVariants as value
 use Rattle.fx_expr.specs.declared.tree.BinarySign.{BinarySign}
 use Rattle.fx_expr.specs.declared.tree.BinarySign.TheVariants as binary
 use Rattle.fx_expr.specs.declared.tokens.Token.{Token}
 use Rattle.fx_expr.specs.declared.tokens.Token.TheVariants.{Constant, Path, Opening, Closing, Exclamation, Binary}
-use Rattle.fx_expr.specs.Decimal.{is_digit, decimal, has_fraction}
-
--- space, tab, line feed and carriage return
-abbrev pub is_white : ℕ → Bool
-is_white c = (c == 32 || c == 9) || (c == 10 || c == 13)
+use Rattle.fx_expr.specs.Decimal.{decimal, has_fraction}
 
 -- no character that passes stands at the front
 abbrev pub Stops : (ℕ → Bool) → List ℕ → Type 0
@@ -22,37 +20,36 @@ Stops p (c ∷ cs) = p c ≡ false
 
 abbrev pub fraction_text : List ℕ → List ℕ
 fraction_text [] = []
-fraction_text (d ∷ ds) = 46 ∷ (d ∷ ds)
+fraction_text (d ∷ ds) = char.full_stop ∷ (d ∷ ds)
 
 -- A number: digits, and behind a point more digits or nothing. No digit follows, and behind a number without
 -- a fraction none begins.
 pub record IsNumber (text whole fraction rest : List ℕ) : Type 0 where
   pub parts : text ≡ whole ++ (fraction_text fraction ++ rest)
   pub some : whole ≡ [] → ⊥
-  pub digits : list_all is_digit whole ≡ true
-  pub places : list_all is_digit fraction ≡ true
-  pub stops : Stops is_digit rest
+  pub digits : list_all is_ascii_digit whole ≡ true
+  pub places : list_all is_ascii_digit fraction ≡ true
+  pub stops : Stops is_ascii_digit rest
   pub alone : fraction ≡ [] → has_fraction rest ≡ false
 
 -- What is written behind a quote, up to the next one, and the text that it stands for: a backslash stands for
 -- nothing and the character behind it for itself.
 pub data IsQuoted (quote : ℕ) : List ℕ → List ℕ → Type 0 where
   ended : IsQuoted quote (quote ∷ []) []
-  escaped : (c : ℕ) (written content : List ℕ) → (92 == quote) ≡ false → IsQuoted quote written content → IsQuoted quote (92 ∷ (c ∷ written)) (encode_utf8 c ++ content)
-  plain : (c : ℕ) (written content : List ℕ) → (c == quote) ≡ false → (c == 92) ≡ false → IsQuoted quote written content → IsQuoted quote (c ∷ written) (encode_utf8 c ++ content)
-
-abbrev pub is_quote : ℕ → Bool
-is_quote c = c == 39 || c == 34
+  escaped : (c : ℕ) (written content : List ℕ) → (char.backslash == quote) ≡ false → IsQuoted quote written content
+      → IsQuoted quote (char.backslash ∷ (c ∷ written)) (encode_utf8 c ++ content)
+  plain : (c : ℕ) (written content : List ℕ) → (c == quote) ≡ false → (c == char.backslash) ≡ false
+      → IsQuoted quote written content → IsQuoted quote (c ∷ written) (encode_utf8 c ++ content)
 
 -- does a point with a name stand here?
 abbrev pub has_name : List ℕ → Bool
 has_name [] = false
 has_name (c ∷ []) = false
-has_name (c ∷ d ∷ ds) = c == 46 && is_letter d
+has_name (c ∷ d ∷ ds) = c == char.full_stop && is_letter d
 
 abbrev pub points : List (List ℕ) → List ℕ
 points [] = []
-points (name ∷ names) = 46 ∷ (name ++ points names)
+points (name ∷ names) = char.full_stop ∷ (name ++ points names)
 
 -- at most 4,096 characters
 abbrev pub is_short : List ℕ → Bool
@@ -80,32 +77,34 @@ is_truth_word name = is_true_word name || is_false_word name
 -- the token of these names: `true` and `false` alone are constants, and no part of a path
 abbrev pub word_token : List (List ℕ) → Option Token
 word_token [] = None
-word_token (name ∷ []) = if is_true_word name then Some (Constant (value.Bool true)) else (if is_false_word name then Some (Constant (value.Bool false)) else Some (Path (name ∷ [])))
+word_token (name ∷ []) =
+    if is_true_word name then Some (Constant (value.Bool true))
+    else (if is_false_word name then Some (Constant (value.Bool false)) else Some (Path (name ∷ [])))
 word_token (a ∷ b ∷ names) = if list_any is_truth_word (a ∷ b ∷ names) then None else Some (Path (a ∷ b ∷ names))
 
 -- the signs of two characters and those of one
 abbrev pub double_sign : ℕ → ℕ → Option BinarySign
 double_sign a b =
-    if a == 124 && b == 124 then Some binary.Or
-    else (if a == 38 && b == 38 then Some binary.And
-    else (if a == 61 && b == 61 then Some binary.Equal
-    else (if a == 33 && b == 61 then Some binary.Differ
-    else (if a == 62 && b == 61 then Some binary.GreaterEqual
-    else (if a == 60 && b == 61 then Some binary.LessEqual
+    if a == char.vertical_bar && b == char.vertical_bar then Some binary.Or
+    else (if a == char.ampersand && b == char.ampersand then Some binary.And
+    else (if a == char.equals_sign && b == char.equals_sign then Some binary.Equal
+    else (if a == char.exclamation_mark && b == char.equals_sign then Some binary.Differ
+    else (if a == char.greater_than_sign && b == char.equals_sign then Some binary.GreaterEqual
+    else (if a == char.less_than_sign && b == char.equals_sign then Some binary.LessEqual
     else None)))))
 
 abbrev pub single_sign : ℕ → Option Token
 single_sign a =
-    if a == 40 then Some Opening
-    else (if a == 41 then Some Closing
-    else (if a == 33 then Some Exclamation
-    else (if a == 62 then Some (Binary binary.Greater)
-    else (if a == 60 then Some (Binary binary.Less)
-    else (if a == 43 then Some (Binary binary.Plus)
-    else (if a == 45 then Some (Binary binary.Minus)
-    else (if a == 42 then Some (Binary binary.Times)
-    else (if a == 47 then Some (Binary binary.Over)
-    else (if a == 37 then Some (Binary binary.Rest)
+    if a == char.left_parenthesis then Some Opening
+    else (if a == char.right_parenthesis then Some Closing
+    else (if a == char.exclamation_mark then Some Exclamation
+    else (if a == char.greater_than_sign then Some (Binary binary.Greater)
+    else (if a == char.less_than_sign then Some (Binary binary.Less)
+    else (if a == char.plus_sign then Some (Binary binary.Plus)
+    else (if a == char.hyphen then Some (Binary binary.Minus)
+    else (if a == char.asterisk then Some (Binary binary.Times)
+    else (if a == char.slash then Some (Binary binary.Over)
+    else (if a == char.percent_sign then Some (Binary binary.Rest)
     else None)))))))))
 
 -- no sign of two characters begins with this one here
@@ -115,13 +114,19 @@ IsSingle a (b ∷ bs) = double_sign a b ≡ None
 
 -- the text begins with the token, and this is behind it
 pub data Begins : List ℕ → Token → List ℕ → Type 0 where
-  number : (text whole fraction rest : List ℕ) → IsNumber text whole fraction rest → Begins text (Constant (value.Int (decimal whole fraction))) rest
-  quoted : (quote : ℕ) (written content rest : List ℕ) → is_quote quote ≡ true → IsQuoted quote written content → is_short content ≡ true → Begins (quote ∷ (written ++ rest)) (Constant (value.Text content)) rest
-  words : (text first : List ℕ) (names : List (List ℕ)) (rest : List ℕ) (t : Token) → AreNames text first names rest → word_token (first ∷ names) ≡ Some t → Begins text t rest
-  double : (a b : ℕ) (rest : List ℕ) (sign : BinarySign) → double_sign a b ≡ Some sign → Begins (a ∷ (b ∷ rest)) (Binary sign) rest
+  number : (text whole fraction rest : List ℕ) → IsNumber text whole fraction rest
+      → Begins text (Constant (value.Int (decimal whole fraction))) rest
+  quoted : (quote : ℕ) (written content rest : List ℕ) → is_quote quote ≡ true → IsQuoted quote written content
+      → is_short content ≡ true → Begins (quote ∷ (written ++ rest)) (Constant (value.Text content)) rest
+  words : (text first : List ℕ) (names : List (List ℕ)) (rest : List ℕ) (t : Token) → AreNames text first names rest
+      → word_token (first ∷ names) ≡ Some t → Begins text t rest
+  double : (a b : ℕ) (rest : List ℕ) (sign : BinarySign) → double_sign a b ≡ Some sign
+      → Begins (a ∷ (b ∷ rest)) (Binary sign) rest
   single : (a : ℕ) (rest : List ℕ) (t : Token) → single_sign a ≡ Some t → IsSingle a rest → Begins (a ∷ rest) t rest
 
 pub data IsSpelled : List ℕ → List Token → Type 0 where
   done : IsSpelled [] []
-  white : (c : ℕ) (text : List ℕ) (tokens : List Token) → is_white c ≡ true → IsSpelled text tokens → IsSpelled (c ∷ text) tokens
-  token : (text rest : List ℕ) (t : Token) (tokens : List Token) → Begins text t rest → IsSpelled rest tokens → IsSpelled text (t ∷ tokens)
+  white : (c : ℕ) (text : List ℕ) (tokens : List Token) → is_white c ≡ true → IsSpelled text tokens
+      → IsSpelled (c ∷ text) tokens
+  token : (text rest : List ℕ) (t : Token) (tokens : List Token) → Begins text t rest → IsSpelled rest tokens
+      → IsSpelled text (t ∷ tokens)

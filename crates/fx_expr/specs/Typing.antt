@@ -58,4 +58,5 @@ abbrev pub kind_in : Tree → List Kind → Option Kind
 kind_in (Leaf v) kinds = Some (kind_of v)
 kind_in (Place i) kinds = Some (slice_index_or kinds i kind.Bool)
 kind_in (One sign x) kinds = option_and_then (λ k. unary_kind sign k) (kind_in x kinds)
-kind_in (Two sign x y) kinds = option_and_then (λ j. option_and_then (λ k. binary_kind sign j k) (kind_in y kinds)) (kind_in x kinds)
+kind_in (Two sign x y) kinds =
+    option_and_then (λ j. option_and_then (λ k. binary_kind sign j k) (kind_in y kinds)) (kind_in x kinds)

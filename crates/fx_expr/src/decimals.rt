@@ -1,7 +1,9 @@
 //! Numbers: digits with an optional fraction, rounded half up.
+ghost use Rattle.std.specs.Char.{is_ascii_digit};
 ghost use Rattle.std.specs.Prelude.{◌≡◌, ◌-◌, ◌^◌, ◌+◌, min, pos, if◌then◌else◌, length, drop, ◌<◌};
+ghost use Rattle.fx_text.specs.Digits.{number_behind};
 ghost use Rattle.fx_base.specs.declared.values.Value.TheVariants as value;
-ghost use Rattle.fx_expr.specs.Decimal.{is_digit, passing, behind, number_after, decimal, has_fraction, fraction_digits, fraction_rest, is_upper};
+ghost use Rattle.fx_expr.specs.Decimal.{passing, behind, decimal, has_fraction, fraction_digits, fraction_rest, is_upper};
 ghost use Rattle.fx_expr.specs.declared.tokens.Token.TheVariants.{Constant};
 
 use crate::tokens::Token;
@@ -9,8 +11,8 @@ use fx_base::Value;
 
 /// The constant whose digits stand at the front of the text, and what is behind it.
 pub fn number(text: &[char]) -> (Token, &[char])
-    ensures number { result.0 ≡ Constant (value.Int (decimal (passing is_digit text.now) (fraction_digits (behind is_digit text.now)))) }
-    ensures rest { result.1.now ≡ fraction_rest (behind is_digit text.now) }
+    ensures number { result.0 ≡ Constant (value.Int (decimal (passing is_ascii_digit text.now) (fraction_digits (behind is_ascii_digit text.now)))) }
+    ensures rest { result.1.now ≡ fraction_rest (behind is_ascii_digit text.now) }
 {
     let (whole, behind) = digits(text);
     let (up, rest) = fraction(behind);
@@ -26,8 +28,8 @@ fn rounded(whole: u64, up: bool) -> i64
 
 /// The number of the digits at the front, at most the greatest of its type, and what is behind them.
 fn digits(text: &[char]) -> (u64, &[char])
-    ensures number { result.0 ≡ min (number_after 0 (passing is_digit text.now)) (2 ^ 64 - 1) }
-    ensures rest { result.1.now ≡ behind is_digit text.now }
+    ensures number { result.0 ≡ min (number_behind 0 (passing is_ascii_digit text.now)) (2 ^ 64 - 1) }
+    ensures rest { result.1.now ≡ behind is_ascii_digit text.now }
 {
     let mut number: u64 = 0;
     let mut rest = text;
@@ -59,7 +61,7 @@ fn fraction(text: &[char]) -> (bool, &[char])
 }
 
 fn after_digits(text: &[char]) -> &[char]
-    ensures { result.now ≡ behind is_digit text.now }
+    ensures { result.now ≡ behind is_ascii_digit text.now }
 {
     let mut rest = text;
     while let [first, behind @ ..] = rest {
@@ -73,7 +75,7 @@ fn after_digits(text: &[char]) -> &[char]
 
 /// Is it a digit?
 pub fn is_digit(c: char) -> bool
-    ensures { result ≡ is_digit c }
+    ensures { result ≡ is_ascii_digit c }
 {
     matches!(c, '0'..='9')
 }

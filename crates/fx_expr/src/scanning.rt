@@ -3,7 +3,7 @@ ghost use Rattle.std.specs.Prelude.{◌≡◌, ◌<◌, ◌≤◌, length, IfOk,
 ghost use Rattle.std.specs.Option.{option_map};
 ghost use Rattle.std.specs.Str.{chars};
 ghost use Rattle.std.specs.String.{string_bytes};
-ghost use Rattle.fx_expr.specs.Spelling.{is_white, is_quote};
+ghost use Rattle.fx_text.specs.Classes.{is_white, is_quote};
 ghost use Rattle.fx_expr.specs.Scanning.{after_white, character_at, end_at, quoted_at, text_token, with_front, with_tokens, token_at, tokens_of, number_at};
 ghost use Rattle.fx_expr.specs.Reading.{Gives};
 
@@ -92,7 +92,7 @@ fn token<'a>(alloc: Global, text: &'a [char]) -> Result<(Token, &'a [char]), Sto
 fn is_quote(c: char) -> bool
     ensures { result ≡ is_quote c }
 {
-    matches!(c, '\'' | '"')
+    matches!(c, '"' | '\'')
 }
 
 fn quoted_token<'a>(

@@ -2,10 +2,11 @@
 -- Cited by src/font.rt and by painting.
 use Rattle.std.specs.Prelude.{ℕ, ◌+◌, ◌*◌, ◌-◌, List, [], ◌∷◌, map, fold, codes, slice_index, if◌then◌else◌}
 use Rattle.std.specs.Int.{is_in_range}
+use Rattle.fx_text.specs.Characters.{digit_zero, space}
 
 -- the number that these characters spell in base eight
 abbrev pub octal : List ℕ → ℕ
-octal digits = fold (λ n digit. n * 8 + (digit - 48)) 0 digits
+octal digits = fold (λ n digit. n * 8 + (digit - digit_zero)) 0 digits
 
 -- the glyphs from the space to the tilde: a digit for each row, from the top
 unfoldable pub glyphs : List ℕ
@@ -35,6 +36,9 @@ glyphs = map octal
     ∷ codes "05225" ∷ codes "05536" ∷ codes "07147" ∷ codes "32623"
     ∷ codes "22222" ∷ codes "62326" ∷ codes "03600" ∷ [])
 
+abbrev tilde : ℕ
+tilde = 126
+
 -- the glyph of a character; a full block where it has none of its own
 abbrev pub glyph_of : ℕ → ℕ
-glyph_of c = if is_in_range 32 126 c then slice_index glyphs (c - 32) else octal (codes "77777")
+glyph_of c = if is_in_range space tilde c then slice_index glyphs (c - space) else octal (codes "77777")

@@ -3,6 +3,7 @@
 use Rattle.std.specs.Prelude.{◌≡◌, ℕ, ◌+◌, ◌<◌, ◌≤◌, ◌==◌, ◌⊎◌, List, [], ◌∷◌, length, take, drop, slice_index, slice_range, chars, encode_utf8_all}
 use Rattle.std.specs.List.{prefix_len}
 use Rattle.std.specs.Str.{IsCharBoundary}
+use Rattle.fx_text.specs.Characters.{space}
 use Rattle.fx_cells.specs.Columns.{cells_of}
 use Rattle.fx_cells.specs.declared.wrapping.Cut.{Cut}
 
@@ -10,7 +11,7 @@ use Rattle.fx_cells.specs.declared.wrapping.Cut.{Cut}
 pub record IsBreak (n : ℕ) (text : List ℕ) (m : ℕ) : Type 0 where
   pub some : 0 < m
   pub narrow : cells_of (take m text) ≤ n
-  pub space : slice_index text m ≡ 32
+  pub space : slice_index text m ≡ space
 
 -- The first m characters are some, and have at most n cells.
 pub record IsFitting (n : ℕ) (text : List ℕ) (m : ℕ) : Type 0 where
@@ -25,18 +26,21 @@ pub record IsGreatest (P : ℕ → Type 0) (m : ℕ) : Type 0 where
 
 -- how many spaces a text begins with
 abbrev pub leading_spaces : List ℕ → ℕ
-leading_spaces text = prefix_len (λ c. c == 32) text
+leading_spaces text = prefix_len (λ c. c == space) text
 
 -- The first line of a text has m characters, and k spaces behind it are dropped.
 pub data IsFirstLine (n : ℕ) (text : List ℕ) (m k : ℕ) : Type 0 where
   -- a text of at most n cells is one line
   whole : cells_of text ≤ n → m ≡ length text → k ≡ 0 → IsFirstLine n text m k
   -- a wider text is broken at the last space where it may be, and all spaces there are dropped
-  at_space : n < cells_of text → IsGreatest (IsBreak n text) m → k ≡ leading_spaces (drop m text) → IsFirstLine n text m k
+  at_space : n < cells_of text → IsGreatest (IsBreak n text) m → k ≡ leading_spaces (drop m text)
+      → IsFirstLine n text m k
   -- without such a space the line has as many characters as fit
-  inside_word : n < cells_of text → ((j : ℕ) → ¬ IsBreak n text j) → IsGreatest (IsFitting n text) m → k ≡ 0 → IsFirstLine n text m k
+  inside_word : n < cells_of text → ((j : ℕ) → ¬ IsBreak n text j) → IsGreatest (IsFitting n text) m → k ≡ 0
+      → IsFirstLine n text m k
   -- where none fits, the line is the first character
-  too_wide : n < cells_of text → ((j : ℕ) → ¬ IsBreak n text j) → ((j : ℕ) → ¬ IsFitting n text j) → m ≡ 1 → k ≡ 0 → IsFirstLine n text m k
+  too_wide : n < cells_of text → ((j : ℕ) → ¬ IsBreak n text j) → ((j : ℕ) → ¬ IsFitting n text j) → m ≡ 1 → k ≡ 0
+      → IsFirstLine n text m k
 
 -- how many bytes these characters take in UTF-8
 abbrev pub bytes_of : List ℕ → ℕ
@@ -70,4 +74,5 @@ pub record IsLine (n : ℕ) (text : List ℕ) (range : ℕ × ℕ) : Type 0 wher
   pub order : range.0 ≤ range.1
   pub start : IsCharBoundary text range.0
   pub end : IsCharBoundary text range.1
-  pub narrow : (cells_of (chars (slice_range text range.0 range.1)) ≤ n) ⊎ (length (chars (slice_range text range.0 range.1)) ≡ 1)
+  pub narrow : (cells_of (chars (slice_range text range.0 range.1)) ≤ n)
+      ⊎ (length (chars (slice_range text range.0 range.1)) ≡ 1)

@@ -24,7 +24,8 @@ owners_in slots born = filter_map (owner_born slots) (range_with_len 1 born)
 -- each birth number stands in one slot at most
 abbrev pub IsInOneSlot : List (Option ℕ) → Type 0
 IsInOneSlot slots =
-    (one other birth : ℕ) → slice_index_or slots one None ≡ Some birth → slice_index_or slots other None ≡ Some birth → one ≡ other
+    (one other birth : ℕ) → slice_index_or slots one None ≡ Some birth
+    → slice_index_or slots other None ≡ Some birth → one ≡ other
 
 -- what is true of the slots and the last birth number
 pub record IsKept (slots : List (Option ℕ)) (born : ℕ) : Type 0 where

@@ -1,5 +1,5 @@
 -- The handlers of nodes, and which of them an event calls.
-use Rattle.std.specs.Prelude.{ℕ, ◌==◌, ◌≡◌, ◌≤◌, Bool, true, false, cond, ◌&&◌, not, List, [], ◌∷◌, ◌++◌, length, map, filter, count_by, position, slice_set, Option, Some, None, is_some, unwrap_or}
+use Rattle.std.specs.Prelude.{ℕ, ◌==◌, ◌≡◌, ◌≤◌, Bool, true, false, if◌then◌else◌, ◌&&◌, not, List, [], ◌∷◌, ◌++◌, length, map, filter, count_by, position, slice_set, Option, Some, None, is_some, unwrap_or}
 use Rattle.std.specs.List.{flat_map}
 use Rattle.std.specs.FinMap as map_of
 use Rattle.fx_base.specs.declared.keys.NodeKey.{NodeKey}
@@ -41,7 +41,7 @@ calls_of handlers key = calls_at (registrations_of handlers key)
 -- the place of the registration that gives way to this one: a node has one convenience handler of a type
 abbrev pub replaced_by : Registration → List Registration → Option ℕ
 replaced_by new registrations =
-    cond (is_same_phase new.phase Convenience) (position (is_for new.on Convenience) registrations) None
+    if is_same_phase new.phase Convenience then position (is_for new.on Convenience) registrations else None
 
 -- the registration stands at this place, or last
 abbrev pub put_at : Option ℕ → Registration → List Registration → List Registration

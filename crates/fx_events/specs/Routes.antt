@@ -1,5 +1,6 @@
--- Which nodes an event passes. Source: JavaFX 21 (javafx.event.EventDispatchChain, and MouseEvent on entered and exited).
-use Rattle.std.specs.Prelude.{Bool, true, false, cond, List, [], ◌∷◌}
+-- Which nodes an event passes.
+-- Source: JavaFX 21 (javafx.event.EventDispatchChain, and MouseEvent on entered and exited).
+use Rattle.std.specs.Prelude.{Bool, true, false, if◌then◌else◌, List, [], ◌∷◌}
 use Rattle.fx_base.specs.declared.keys.NodeKey.{NodeKey}
 use Rattle.fx_tree.specs.Scene.{Node, is_alive, path}
 use Rattle.fx_events.specs.declared.kinds.EventKind.{EventKind}
@@ -14,4 +15,4 @@ is_of_one_node others = false
 -- from the topmost ancestor down to the target, where the target is alive
 abbrev pub route_of : List Node → EventKind → NodeKey → List NodeKey
 route_of nodes on target =
-    cond (is_alive nodes target) (cond (is_of_one_node on) (target ∷ []) (path nodes target)) []
+    if is_alive nodes target then (if is_of_one_node on then target ∷ [] else path nodes target) else []

@@ -1,5 +1,5 @@
 -- When each call is refused, and with which error.
-use Rattle.std.specs.Prelude.{ℕ, ◌≡◌, ◌⊎◌, nat_lt, Bool, true, false, cond, ◌&&◌, ◌||◌, not, length, Option, Some, None, is_some, Result, Ok, Err}
+use Rattle.std.specs.Prelude.{ℕ, ◌≡◌, ◌⊎◌, nat_lt, Bool, true, false, if◌then◌else◌, ◌&&◌, ◌||◌, not, length, Option, Some, None, is_some, Result, Ok, Err}
 use Rattle.fx_base.specs.declared.keys.NodeKey.{NodeKey}
 use Rattle.fx_tree.specs.declared.TreeError.{TreeError}
 use Rattle.fx_tree.specs.declared.TreeError.TheVariants.{StaleKey, WouldLoop, HasParent, Attached, Place, Depth, NoParent, Memory}
@@ -21,7 +21,7 @@ IsAnswer (Some refusal) (Err error) = error ≡ refusal
 
 -- this error where the test holds, and else what else there is
 abbrev pub refused : Bool → TreeError → Option TreeError → Option TreeError
-refused test error others = cond test (Some error) others
+refused test error others = if test then Some error else others
 
 abbrev pub is_held : Option NodeKey → NodeKey → Bool
 is_held None key = false

@@ -1,6 +1,6 @@
 -- The scene as contracts see it: its living nodes with their children, and its root. Source: the scene
 -- graph of JavaFX 21 (javafx.scene.Node, javafx.scene.Parent).
-use Rattle.std.specs.Prelude.{ℕ, zero, suc, ◌+◌, ◌==◌, ◌≡◌, ◌≢◌, ◌<◌, ◌≤◌, nat_lt, Bool, true, false, cond, ◌&&◌, ◌||◌, not, List, [], ◌∷◌, ◌++◌, length, map, filter, reverse, insert, All, AllPairs, Contains, Option, Some, None, is_some, unwrap_or, IsTrue}
+use Rattle.std.specs.Prelude.{ℕ, zero, suc, ◌+◌, ◌==◌, ◌≡◌, ◌≢◌, ◌<◌, ◌≤◌, nat_lt, Bool, true, false, if◌then◌else◌, ◌&&◌, ◌||◌, not, List, [], ◌∷◌, ◌++◌, length, map, filter, reverse, insert, All, AllPairs, Contains, Option, Some, None, is_some, unwrap_or, IsTrue}
 use Rattle.std.specs.Option.{option_map}
 use Rattle.std.specs.List.{find, list_any, flat_map}
 use Rattle.fx_base.specs.declared.keys.NodeKey.{NodeKey}
@@ -69,7 +69,8 @@ is_within nodes upper key = has (line nodes key) upper
 unfoldable pub is_too_deep : List Node → NodeKey → NodeKey → Bool
 is_too_deep nodes parent child =
     list_any
-    (λ (node : Node). is_within nodes child node.key && nat_lt 64 (length (line nodes parent) + length (line nodes node.key)))
+    (λ (node : Node).
+    is_within nodes child node.key && nat_lt 64 (length (line nodes parent) + length (line nodes node.key)))
     nodes
 
 -- a node, and then the subtrees of its children in their order, of at most so many levels
@@ -100,7 +101,10 @@ after_set_root scene key = record { nodes = scene.nodes; root = Some key; born =
 -- the parent has the child at this place, and what stood there and behind it after it
 abbrev pub with_child : NodeKey → NodeKey → ℕ → Node → Node
 with_child parent child place node =
-    record { key = node.key; children = cond (is_same node.key parent) (insert node.children place child) node.children }
+    record {
+      key = node.key;
+      children = if is_same node.key parent then insert node.children place child else node.children;
+    }
 
 abbrev pub after_attach : Scene → NodeKey → NodeKey → ℕ → Scene
 after_attach scene parent child place =
@@ -145,5 +149,6 @@ pub record IsSound (scene : Scene) : Type 0 where
   pub topmost : (key : NodeKey) → scene.root ≡ Some key
       → (is_alive scene.nodes key ≡ true) × (parent_of scene.nodes key ≡ None)
   -- a node's line ends at its topmost ancestor, and has at most 64 nodes
-  pub lines : (key : NodeKey) → is_alive scene.nodes key ≡ true → IsLine (parent_of scene.nodes) (Some key) (line scene.nodes key)
+  pub lines : (key : NodeKey) → is_alive scene.nodes key ≡ true
+      → IsLine (parent_of scene.nodes) (Some key) (line scene.nodes key)
   pub shallow : (key : NodeKey) → length (line scene.nodes key) ≤ 64

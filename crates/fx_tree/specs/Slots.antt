@@ -1,5 +1,5 @@
 -- How the living nodes stand in slots, each with a link to its parent.
-use Rattle.std.specs.Prelude.{ℕ, zero, suc, ◌+◌, ◌-◌, ◌==◌, ◌≡◌, ◌≢◌, ◌<◌, ◌≤◌, nat_lt, Bool, true, false, cond, ◌&&◌, ◌||◌, not, List, [], ◌∷◌, ◌++◌, length, insert, Option, Some, None, is_some, count_by, slice_index_or, position}
+use Rattle.std.specs.Prelude.{ℕ, zero, suc, ◌+◌, ◌-◌, ◌==◌, ◌≡◌, ◌≢◌, ◌<◌, ◌≤◌, nat_lt, Bool, true, false, if◌then◌else◌, ◌&&◌, ◌||◌, not, List, [], ◌∷◌, ◌++◌, length, insert, Option, Some, None, is_some, count_by, slice_index_or, position}
 use Rattle.std.specs.Option.{option_map}
 use Rattle.std.specs.List.{filter_map, range_with_len, list_all}
 use Rattle.fx_base.specs.declared.keys.NodeKey.{NodeKey}
@@ -12,7 +12,7 @@ use Rattle.fx_tree.specs.Refusals.{refused, is_held}
 -- what the slot holds, if it is of this birth
 abbrev pub of_birth : ℕ → Option Stored → Option Stored
 of_birth birth None = None
-of_birth birth (Some stored) = cond (stored.birth == birth) (Some stored) None
+of_birth birth (Some stored) = if stored.birth == birth then Some stored else None
 
 -- what is kept of the node with this key
 unfoldable pub node_at : List (Option Stored) → NodeKey → Option Stored
@@ -46,7 +46,8 @@ fits_in (suc levels) below key = list_all (fits_in levels below) (below key)
 -- the node in a slot
 abbrev pub seen : ℕ → Option Stored → Option Node
 seen slot None = None
-seen slot (Some stored) = Some (record { key = record { slot = slot; birth = stored.birth }; children = stored.children })
+seen slot (Some stored) =
+    Some (record { key = record { slot = slot; birth = stored.birth }; children = stored.children })
 
 unfoldable pub seen_at : List (Option Stored) → ℕ → Option Node
 seen_at slots slot = seen slot (slice_index_or slots slot None)
@@ -110,28 +111,31 @@ attach_refused slots root parent child place =
 
 -- the child has this parent, and stands at this place of its list
 pub record IsLinked (old new : List (Option Stored)) (parent child : NodeKey) (place : ℕ) : Type 0 where
-  pub up : (key : NodeKey) → up_at new key ≡ cond (is_same key child) (Some parent) (up_at old key)
+  pub up : (key : NodeKey) → up_at new key ≡ (if is_same key child then Some parent else up_at old key)
   pub below : (key : NodeKey)
-      → below_at new key ≡ cond (is_same key parent) (insert (below_at old key) place child) (below_at old key)
+      → below_at new key ≡ (if is_same key parent then insert (below_at old key) place child else below_at old key)
   pub alive : (key : NodeKey) → alive_at new key ≡ alive_at old key
 
 -- the child has no parent, and stands in no list
 pub record IsUnlinked (old new : List (Option Stored)) (child : NodeKey) : Type 0 where
-  pub up : (key : NodeKey) → up_at new key ≡ cond (is_same key child) None (up_at old key)
+  pub up : (key : NodeKey) → up_at new key ≡ (if is_same key child then None else up_at old key)
   pub below : (key : NodeKey) → below_at new key ≡ without child (below_at old key)
   pub alive : (key : NodeKey) → alive_at new key ≡ alive_at old key
 
 -- the node isn't alive, and all others stay as they were
 pub record IsFreed (old new : List (Option Stored)) (key : NodeKey) : Type 0 where
-  pub up : (other : NodeKey) → up_at new other ≡ cond (is_same other key) None (up_at old other)
-  pub below : (other : NodeKey) → below_at new other ≡ cond (is_same other key) [] (below_at old other)
+  pub up : (other : NodeKey) → up_at new other ≡ (if is_same other key then None else up_at old other)
+  pub below : (other : NodeKey) → below_at new other ≡ (if is_same other key then [] else below_at old other)
   pub alive : (other : NodeKey) → alive_at new other ≡ (alive_at old other && not (is_same other key))
 
 -- the node and all below it aren't alive, and all others stay as they were
 pub record IsPruned (old new : List (Option Stored)) (top : NodeKey) : Type 0 where
   pub forest : IsForest new
-  pub gone : (slot : ℕ) (node : Node) → seen_at old slot ≡ Some node → has (line_at old node.key) top ≡ true → seen_at new slot ≡ None
-  pub kept : (slot : ℕ) → ((node : Node) → seen_at old slot ≡ Some node → has (line_at old node.key) top ≡ false) → seen_at new slot ≡ seen_at old slot
+  pub gone : (slot : ℕ) (node : Node) → seen_at old slot ≡ Some node → has (line_at old node.key) top ≡ true
+      → seen_at new slot ≡ None
+  pub kept : (slot : ℕ)
+      → ((node : Node) → seen_at old slot ≡ Some node → has (line_at old node.key) top ≡ false)
+      → seen_at new slot ≡ seen_at old slot
   pub topmost : (root : Option NodeKey) → is_held root top ≡ false → IsTopmost old root → IsTopmost new root
   pub numbered : (born : ℕ) → IsNumbered old born → IsNumbered new born
   pub fewer : count_by is_some new ≤ count_by is_some old

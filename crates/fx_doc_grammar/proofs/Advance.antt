@@ -2,7 +2,8 @@
 -- Above the steps of each mode.
 use Rattle.std.proofs.Common.{◌≡◌, ℕ, ◌+◌, Bool, true, false, not, List, [], ◌∷◌, ◌++◌, Option, Some, None, length, refl, sym, ◌∙◌, ap, subst, append_assoc, append-nil}
 use lib.Utf8.{encode}
-use Rattle.fx_doc_grammar.specs.Characters.{class_of, start, after, after_all}
+use Rattle.fx_doc_grammar.specs.Characters.{class_of}
+use Rattle.fx_base.specs.Positions.{start, after, after_all}
 use Rattle.fx_doc_grammar.specs.Grammar.{reference_text, Sign, Stands, Tag, tag_text, Items, Empty, Shown, items_text, Top_ok, has_element, Head, Level, value_of, head_of, root_of, Reading, Spells}
 use Rattle.fx_doc_grammar.specs.Machine.{entity_step, Stack, Bottom, Opened, Held, Mode, Inside, Quoted, State, at, initial, is_nothing, with_sign, in_referring, in_value_referring, step, run, answer, answer_of}
 use Rattle.fx_doc_grammar.specs.Beginnings.{Path, Top, Within, Part, PInside, PReferring, PLess, PBang, PBangDash, PComment, PDashed, PDashDashed, PAsk, PInstructing, PNameAsked, PInstructed, PEndAsked, PNaming, PSpaced, PTight, PKeyed, PKeySpaced, PSigned, PQuoted, PValueReferring, PSlashed, PEnding, PEnded, entity_text, value_part, part_text, zip_text, Items_ok, IsWithin, Part_ok}
@@ -15,7 +16,7 @@ use Rattle.fx_doc_grammar.specs.declared.Quote.{Quote}
 use Rattle.fx_doc_grammar.specs.declared.Entity.{Entity}
 use Rattle.fx_doc_grammar.specs.declared.Turn.{Turn}
 use Rattle.fx_doc_grammar.specs.declared.Turn.TheVariants.{Further, Whole}
-use Rattle.fx_doc_grammar.specs.declared.Place.{Place}
+use Rattle.fx_base.specs.declared.positions.Position.{Position}
 
 -- references --------------------------------------------------------------------------------------
 
@@ -77,7 +78,7 @@ adv p i (PEnded n w) c s o z h = adv_ended p i n w c s o z (class_of c) refl h
 pub advance : (text : List ℕ) (s : State) (c : ℕ) (s' : State) → Reached text s → step (after_all start text) s c ≡ Some s' → Reached (text ++ (c ∷ [])) s'
 advance text s c s' r h =
     let g : step (after_all (here r.path r.items) (part_text r.part)) (state_of r.path r.items r.part) c ≡ Some s' =
-    ap (λ (y : Place). step y (state_of r.path r.items r.part) c) (sym (zip_place r.path r.items r.part))
+    ap (λ (y : Position). step y (state_of r.path r.items r.part) c) (sym (zip_place r.path r.items r.part))
     ∙ (ap (λ y. step (after_all start y) (state_of r.path r.items r.part) c) (sym r.written)
     ∙ (ap (λ (y : State). step (after_all start text) y c) r.is ∙ h)) in
     subst (λ y. Reached (y ++ (c ∷ [])) s') (sym r.written) (adv r.path r.items r.part c s' (r.path_ok, r.items_ok) r.part_ok g)
@@ -92,7 +93,7 @@ reached_next : (said : List ℕ) (c : ℕ) (cs : List ℕ) (s : State) (o : Opti
 reached_next said c cs s None s' r e h k = absurd (none_some (sym (run-none (after (after_all start said) c) cs) ∙ h))
 reached_next said c cs s (Some t) s' r e h k =
     subst (λ y. Reached y s') (append_assoc said (c ∷ []) cs)
-    (k t (advance said s c t r e) (ap (λ (y : Place). run y (Some t) cs) (after-append start said (c ∷ [])) ∙ h))
+    (k t (advance said s c t r e) (ap (λ (y : Position). run y (Some t) cs) (after-append start said (c ∷ [])) ∙ h))
 
 run_on : (said more : List ℕ) (s s' : State) → Reached said s → run (after_all start said) (Some s) more ≡ Some s' → Reached (said ++ more) s'
 run_on said [] s s' r h = subst (λ y. Reached y s') (sym (append-nil said)) (subst (Reached said) (some_same h) r)

@@ -2,26 +2,20 @@
 -- Beside the lemmas from states to beginnings; code cites it.
 use Rattle.std.proofs.Common.{◌≡◌, ℕ, ◌+◌, ◌≤◌, Bool, true, false, ◌||◌, List, [], ◌∷◌, ◌++◌, Some, length, refl, sym, ◌∙◌, ap, subst, append_assoc, append-nil, length-append, arith}
 use lib.Dec.{ltb, leb}
-use Rattle.fx_doc_grammar.specs.Characters.{start, after_all}
-use Rattle.fx_doc_grammar.specs.Grammar.{IsFilled, Sign, Tag, tag_text, Tag_ok, Items, Empty, Shown, Comment, Instruction, Leaf, Branch, items_text, head_of, level_of}
-use Rattle.fx_doc_grammar.specs.Machine.{Spaced, State, initial, run}
-use Rattle.fx_doc_grammar.specs.Beginnings.{Path, Top, Within, Part, PInside, PInstructing, PNaming, PKeyed, PQuoted, part_text, path_text, IsRoom, IsWithin, keys}
-use Rattle.fx_doc_grammar.proofs.States.{place_at, here, stack_of, held_of, state_of, here_place, room_begins, keys_of_are}
-use Rattle.fx_doc_grammar.proofs.Ends.{last_same}
-use Rattle.std.proofs.Common.{suc}
-use Rattle.fx_doc_grammar.specs.Machine.{stack_depth, is_deep, level_long, is_long}
-use Rattle.fx_doc_grammar.specs.Beginnings.{IsBegun, depth_of, run_count, PassesDepth, IsPast, InRun, InValue, InName, InKey, InInstruction, PassesLength, IsWithinLimits, IsTooDeep, IsTooLong}
+use Rattle.fx_base.specs.Positions.{start, after_all}
+use Rattle.fx_doc_grammar.specs.Grammar.{IsFilled, Sign, Tag, tag_text, Tag_ok, Items, Shown, items_text, head_of, level_of}
+use Rattle.fx_doc_grammar.specs.Machine.{Spaced, State, initial, run, is_deep, level_long, is_long}
+use Rattle.fx_doc_grammar.specs.Beginnings.{Path, Top, Within, Part, PInside, PInstructing, PNaming, PKeyed, PQuoted, part_text, path_text, IsRoom, IsWithin, keys, IsBegun, depth_of, run_count, PassesDepth, IsPast, InRun, InValue, InName, InKey, InInstruction, PassesLength, IsWithinLimits, IsTooDeep, IsTooLong}
+use Rattle.fx_doc_grammar.proofs.States.{place_at, here, held_of, state_of, here_place, room_begins, keys_of_are}
+use Rattle.fx_doc_grammar.proofs.Ends.{last_same, Back, Bare, Last, back}
 use Rattle.fx_doc_grammar.proofs.Goes.{Goes, seq, from}
 use Rattle.fx_doc_grammar.proofs.Marks.{as_state, instruction_first, instruction_name}
 use Rattle.fx_doc_grammar.proofs.TagGoes.{tag_goes, name_goes, key_goes, value_open, fresh_by}
 use Rattle.fx_doc_grammar.proofs.Steps.{some_same}
-use Rattle.fx_doc_grammar.proofs.Ends.{Back, Bare, Last, back}
 use Rattle.fx_doc_grammar.proofs.Written.{inside_goes}
 use Rattle.fx_doc_grammar.specs.declared.Quote.{Quote}
-use Rattle.fx_doc_grammar.specs.declared.Place.{Place}
-
-true_false : {X : Type 0} {b : Bool} → b ≡ true → b ≡ false → X
-true_false e f = absurd (let h : true ≡ false = sym e ∙ f in cc)
+use Rattle.fx_base.specs.declared.positions.Position.{Position}
+use Rattle.fx_doc_grammar.proofs.Limits.{true_false, level_counts, depth_is}
 
 or_true : (a b : Bool) → b ≡ true → (a || b) ≡ true
 or_true true b e = refl
@@ -30,18 +24,6 @@ or_true false b e = e
 or_first : (a b : Bool) → a ≡ true → (a || b) ≡ true
 or_first true b e = refl
 or_first false b e = true_false e refl
-
-depth_is : (p : Path) → stack_depth (stack_of p) ≡ depth_of p
-depth_is Top = refl
-depth_is (Within p i t) = ap suc (depth_is p)
-
-level_counts : (q : Place) (i : Items) → (level_of q i).count ≡ run_count i
-level_counts q Empty = refl
-level_counts q (Shown i s) = ap (λ y. y + 1) (level_counts q i)
-level_counts q (Comment i x) = level_counts q i
-level_counts q (Instruction i n x) = level_counts q i
-level_counts q (Leaf i t) = refl
-level_counts q (Branch i t inner w) = refl
 
 is_past : (n : ℕ) → n ≡ 4096 → ltb 4096 (n + 1) ≡ true
 is_past n e = grind (arith, e)
@@ -87,7 +69,7 @@ inside_at text p i b = ap (run start (Some initial)) (b.written ∙ append-nil (
 deep_is : (n : ℕ) → 128 ≤ n → leb 128 n ≡ true
 deep_is n e = grind arith
 
-pub deep_state : (text : List ℕ) (p : Place) → PassesDepth text p → (s : State) × StateAt text s × (is_deep s ≡ true)
+pub deep_state : (text : List ℕ) (p : Position) → PassesDepth text p → (s : State) × StateAt text s × (is_deep s ≡ true)
 deep_state text p x = (state_of x.path x.items (PNaming x.name), naming_at text x.path x.items x.name x.begun, ap (λ y. leb 128 y) (depth_is x.path) ∙ deep_is (depth_of x.path) x.deep)
 
 with_part : (text : List ℕ) (p : Path) (i : Items) (a b : Part) → a ≡ b → IsBegun text p i a → IsBegun text p i b
@@ -115,31 +97,31 @@ long_at text p i a before b (InKey t key c e n q) =
 long_at text p i a before b (InInstruction m c e n q) =
     (state_of p i (PInstructing (m ++ (c ∷ []))), instructing_at text p i (m ++ (c ∷ [])) (with_part text p i a (PInstructing (m ++ (c ∷ []))) e b), or_first (ltb 4096 (length (m ++ (c ∷ [])))) (level_long (held_of p i)) (one_past m c n))
 
-pub long_state : (text : List ℕ) (p : Place) → PassesLength text p → (s : State) × StateAt text s × (is_long s ≡ true)
+pub long_state : (text : List ℕ) (p : Position) → PassesLength text p → (s : State) × StateAt text s × (is_long s ≡ true)
 long_state text p x = long_at text x.path x.items x.part x.before x.begun x.past
 
 -- texts within the limits
 
-not_deep : {X : Type 0} (text : List ℕ) (s : State) (p : Place) → StateAt text s → is_deep s ≡ false → PassesDepth text p → X
+not_deep : {X : Type 0} (text : List ℕ) (s : State) (p : Position) → StateAt text s → is_deep s ≡ false → PassesDepth text p → X
 not_deep text s p h n x = let d = deep_state text p x in true_false d.2 (ap is_deep (some_same (sym d.1 ∙ h)) ∙ n)
 
-not_long : {X : Type 0} (text : List ℕ) (s : State) (p : Place) → StateAt text s → is_long s ≡ false → PassesLength text p → X
+not_long : {X : Type 0} (text : List ℕ) (s : State) (p : Position) → StateAt text s → is_long s ≡ false → PassesLength text p → X
 not_long text s p h n x = let d = long_state text p x in true_false d.2 (ap is_long (some_same (sym d.1 ∙ h)) ∙ n)
 
-abbrev PassesNone : List ℕ → Place → Type 0
+abbrev PassesNone : List ℕ → Position → Type 0
 PassesNone text p = (PassesDepth text p → ⊥) × (PassesLength text p → ⊥)
 
-none_at : (text : List ℕ) (s : State) (p : Place) → StateAt text s → is_deep s ≡ false → is_long s ≡ false → PassesNone text p
+none_at : (text : List ℕ) (s : State) (p : Position) → StateAt text s → is_deep s ≡ false → is_long s ≡ false → PassesNone text p
 none_at text s p h d l = (not_deep text s p h d, not_long text s p h l)
 
-within_go : (said : List ℕ) (c : ℕ) (s : State) → IsWithinLimits said → StateAt (said ++ (c ∷ [])) s → is_deep s ≡ false → is_long s ≡ false → (front more : List ℕ) (p : Place) → Back more → said ++ (c ∷ []) ≡ front ++ more → PassesNone front p
+within_go : (said : List ℕ) (c : ℕ) (s : State) → IsWithinLimits said → StateAt (said ++ (c ∷ [])) s → is_deep s ≡ false → is_long s ≡ false → (front more : List ℕ) (p : Position) → Back more → said ++ (c ∷ []) ≡ front ++ more → PassesNone front p
 within_go said c s w h d l front more p Bare e = subst (λ y. PassesNone y p) (e ∙ append-nil front) (none_at (said ++ (c ∷ [])) s p h d l)
 within_go said c s w h d l front more p (Last m x) e = w front m p (last_same said (front ++ m) c x (e ∙ sym (append_assoc front m (x ∷ [])))).0
 
 pub within_more : (said : List ℕ) (c : ℕ) (s : State) → IsWithinLimits said → StateAt (said ++ (c ∷ [])) s → is_deep s ≡ false → is_long s ≡ false → IsWithinLimits (said ++ (c ∷ []))
 within_more said c s w h d l front more p e = within_go said c s w h d l front more p (back more) e
 
-within_empty : (front more : List ℕ) (p : Place) → [] ≡ front ++ more → PassesNone front p
+within_empty : (front more : List ℕ) (p : Position) → [] ≡ front ++ more → PassesNone front p
 within_empty [] more p e = none_at [] initial p refl refl refl
 within_empty (x ∷ front) more p e = absurd (let h : [] ≡ x ∷ (front ++ more) = e in cc)
 
@@ -150,8 +132,8 @@ within_start front more p e = within_empty front more p e
 shift_last : (front more : List ℕ) (c : ℕ) (text : List ℕ) → text ≡ front ++ (c ∷ more) → text ≡ (front ++ (c ∷ [])) ++ more
 shift_last front more c text e = e ∙ sym (append_assoc front (c ∷ []) more)
 
-pub deep_not_within : (text : List ℕ) (p : Place) → IsTooDeep text p → IsWithinLimits text → ⊥
+pub deep_not_within : (text : List ℕ) (p : Position) → IsTooDeep text p → IsWithinLimits text → ⊥
 deep_not_within text p x w = (w (x.front ++ (x.last ∷ [])) x.more p (shift_last x.front x.more x.last text x.split)).0 x.passes
 
-pub long_not_within : (text : List ℕ) (p : Place) → IsTooLong text p → IsWithinLimits text → ⊥
+pub long_not_within : (text : List ℕ) (p : Position) → IsTooLong text p → IsWithinLimits text → ⊥
 long_not_within text p x w = (w (x.front ++ (x.last ∷ [])) x.more p (shift_last x.front x.more x.last text x.split)).1 x.passes

@@ -1,18 +1,19 @@
 -- Each beginning is completed by some more text: the piece at hand to its end, and then the open elements.
 -- Above what is written; the longest prefix rests on it.
-use Rattle.std.proofs.Common.{◌≡◌, ℕ, ◌+◌, ◌*◌, ◌<◌, ◌≤◌, Bool, true, false, cond, ◌&&◌, ◌||◌, List, [], ◌∷◌, ◌++◌, Option, Some, None, length, refl, sym, ◌∙◌, ap, length-append, arith}
+use Rattle.std.proofs.Common.{◌≡◌, ℕ, ◌+◌, ◌*◌, ◌<◌, ◌≤◌, Bool, true, false, ◌&&◌, ◌||◌, List, [], ◌∷◌, ◌++◌, Option, Some, None, length, refl, sym, ◌∙◌, ap, length-append, arith, suc, zero}
 use lib.Dec.{eqb, leb}
 use lib.Utf8.{encode}
-use Rattle.fx_doc_grammar.specs.Characters.{class_of, is_white, is_letter, is_later, after_all, Each, is_decimal, is_hexadecimal, is_character}
-use Rattle.fx_doc_grammar.specs.Grammar.{IsNamed, Tag, tag_text, Tag_ok, is_among, same_name, Items, Leaf, Branch, items_text, Top_ok, has_element, end_text, Head, value_of, head_of}
-use Rattle.fx_doc_grammar.specs.Machine.{decimal_digit, hexadecimal_digit, entity_step, Held, Inside, Referring, Keyed, Signed, Quoted, ValueReferring, Ending, Ended, State, at, some_if, with_sign, keys_of, is_fresh, step, run}
+use Rattle.fx_doc_grammar.specs.Characters.{class_of, Each, is_character}
+use Rattle.fx_base.specs.Positions.{after_all}
+use Rattle.fx_doc_grammar.specs.Grammar.{IsNamed, Tag, tag_text, Tag_ok, is_among, Items, Leaf, Branch, items_text, Top_ok, has_element, end_text, Head, value_of, head_of}
+use Rattle.std.specs.Str.{bytes_eq}
+use Rattle.fx_doc_grammar.specs.Machine.{decimal_digit, hexadecimal_digit, entity_step, Held, Inside, Referring, Keyed, Signed, Quoted, ValueReferring, Ending, Ended, State, at, with_sign, keys_of, is_fresh, step, run}
 use Rattle.fx_doc_grammar.specs.Beginnings.{Path, Top, Within, Part, PInside, PReferring, PLess, PBang, PBangDash, PComment, PDashed, PDashDashed, PAsk, PInstructing, PNameAsked, PInstructed, PEndAsked, PNaming, PSpaced, PTight, PKeyed, PKeySpaced, PSigned, PQuoted, PValueReferring, PSlashed, PEnding, PEnded, Entity_ok, value_part, Items_ok, IsWithin, Path_ok, IsOpenName, Part_ok}
 use Rattle.fx_doc_grammar.proofs.Runs.{after-append}
 use Rattle.fx_doc_grammar.proofs.States.{place_at, here, held_of, state_of, room_begins, branch_ok}
-use Rattle.std.proofs.Common.{suc, zero}
 use Rattle.fx_doc_grammar.proofs.Goes.{Goes, stays, seq, one, from, named_each, entity_over, entity_run}
 use Rattle.fx_doc_grammar.proofs.Marks.{as_state}
-use Rattle.fx_doc_grammar.proofs.TagGoes.{tag_goes, fresh_by, keyed_on, value_turned}
+use Rattle.fx_doc_grammar.proofs.TagGoes.{tag_goes, fresh_by, keyed_on, value_turned, if_fresh, eqb_refl}
 use Rattle.fx_doc_grammar.proofs.Written.{referring_turned, leaf_goes, branch_end}
 use Rattle.fx_doc_grammar.specs.declared.Quote.{Quote}
 use Rattle.fx_doc_grammar.specs.declared.Quote.TheVariants.{Single, Double}
@@ -20,7 +21,8 @@ use Rattle.fx_doc_grammar.specs.declared.Entity.{Entity}
 use Rattle.fx_doc_grammar.specs.declared.Entity.TheVariants.{Begun, A, Am, Amp, Ap, Apo, Apos, G, Gt, L, Lt, Q, Qu, Quo, Quot, Hash, Decimal, Hex, HexDigits}
 use Rattle.fx_doc_grammar.specs.declared.Turn.{Turn}
 use Rattle.fx_doc_grammar.specs.declared.Turn.TheVariants.{Further, Whole}
-use Rattle.fx_doc_grammar.specs.declared.Place.{Place}
+use Rattle.fx_base.specs.declared.positions.Position.{Position}
+use Rattle.std.proofs.lemmas.Bool.{cond-true, le-leb}
 
 -- references --------------------------------------------------------------------------------------
 
@@ -41,23 +43,14 @@ high_character : (n : ℕ) → 57344 ≤ n → n ≤ 1114111 → is_character n 
 unfolding is_character
 high_character n h k = grind arith
 
-if_true : {X : Type 0} (b : Bool) (x y : X) → b ≡ true → cond b x y ≡ x
-if_true true x y e = refl
-if_true false x y e = absurd (let h : false ≡ true = e in cc)
-
-leb_is : (n m : ℕ) → n ≤ m → leb n m ≡ true
-leb_is n m h = grind arith
-
 decimal_zero : (n : ℕ) → n * 10 + 0 ≤ 1114111 → decimal_digit n 48 ≡ Some (Further (Decimal (n * 10 + 0)))
-unfolding is_decimal
-decimal_zero n h = if_true (leb (n * 10 + 0) 1114111) (Some (Further (Decimal (n * 10 + 0)))) None (leb_is (n * 10 + 0) 1114111 h)
+decimal_zero n h = cond-true (leb (n * 10 + 0) 1114111) (Some (Further (Decimal (n * 10 + 0)))) None (le-leb (n * 10 + 0) 1114111 h)
 
 hexadecimal_zero : (n : ℕ) → n * 16 + 0 ≤ 1114111 → hexadecimal_digit n 48 ≡ Some (Further (HexDigits (n * 16 + 0)))
-unfolding is_hexadecimal
-hexadecimal_zero n h = if_true (leb (n * 16 + 0) 1114111) (Some (Further (HexDigits (n * 16 + 0)))) None (leb_is (n * 16 + 0) 1114111 h)
+hexadecimal_zero n h = cond-true (leb (n * 16 + 0) 1114111) (Some (Further (HexDigits (n * 16 + 0)))) None (le-leb (n * 16 + 0) 1114111 h)
 
 decimal_more : (n : ℕ) → is_character n ≡ false → n ≤ 1114111 → Finished (Decimal n)
-unfolding is_decimal is_character
+unfolding is_character
 decimal_more zero e h = (49 ∷ (59 ∷ []), 1, refl)
 decimal_more (suc n) e h =
     let b = below_character (suc n) e h (omega arith) in
@@ -67,11 +60,11 @@ decimal_more (suc n) e h =
     let l : 57344 ≤ suc n * 10 + 0 = omega arith in (
       48 ∷ (59 ∷ []),
       suc n * 10 + 0,
-      ap (λ (y : Option Turn). entity_run y (59 ∷ [])) (decimal_zero (suc n) u) ∙ if_true (is_character (suc n * 10 + 0)) (Some (Whole (suc n * 10 + 0))) None (high_character (suc n * 10 + 0) l u),
+      ap (λ (y : Option Turn). entity_run y (59 ∷ [])) (decimal_zero (suc n) u) ∙ cond-true (is_character (suc n * 10 + 0)) (Some (Whole (suc n * 10 + 0))) None (high_character (suc n * 10 + 0) l u),
     )
 
 hexadecimal_more : (n : ℕ) → is_character n ≡ false → n ≤ 1114111 → Finished (HexDigits n)
-unfolding is_hexadecimal is_character
+unfolding is_character
 hexadecimal_more zero e h = (49 ∷ (59 ∷ []), 1, refl)
 hexadecimal_more (suc n) e h =
     let b = below_character (suc n) e h (omega arith) in
@@ -81,19 +74,19 @@ hexadecimal_more (suc n) e h =
     let l : 57344 ≤ suc n * 16 + 0 = omega arith in (
       48 ∷ (59 ∷ []),
       suc n * 16 + 0,
-      ap (λ (y : Option Turn). entity_run y (59 ∷ [])) (hexadecimal_zero (suc n) u) ∙ if_true (is_character (suc n * 16 + 0)) (Some (Whole (suc n * 16 + 0))) None (high_character (suc n * 16 + 0) l u),
+      ap (λ (y : Option Turn). entity_run y (59 ∷ [])) (hexadecimal_zero (suc n) u) ∙ cond-true (is_character (suc n * 16 + 0)) (Some (Whole (suc n * 16 + 0))) None (high_character (suc n * 16 + 0) l u),
     )
 
 decimal_finished : (n : ℕ) (b : Bool) → is_character n ≡ b → n ≤ 1114111 → Finished (Decimal n)
-decimal_finished n true e h = (59 ∷ [], n, if_true (is_character n) (Some (Whole n)) None e)
+decimal_finished n true e h = (59 ∷ [], n, cond-true (is_character n) (Some (Whole n)) None e)
 decimal_finished n false e h = decimal_more n e h
 
 hexadecimal_finished : (n : ℕ) (b : Bool) → is_character n ≡ b → n ≤ 1114111 → Finished (HexDigits n)
-hexadecimal_finished n true e h = (59 ∷ [], n, if_true (is_character n) (Some (Whole n)) None e)
+hexadecimal_finished n true e h = (59 ∷ [], n, cond-true (is_character n) (Some (Whole n)) None e)
 hexadecimal_finished n false e h = hexadecimal_more n e h
 
 entity_finished : (e : Entity) (ds : List ℕ) → Entity_ok e ds → Finished e
-unfolding is_decimal is_hexadecimal is_character
+unfolding is_character
 entity_finished Begun ds o = (108 ∷ (116 ∷ (59 ∷ [])), 60, refl)
 entity_finished A ds o = (109 ∷ (112 ∷ (59 ∷ [])), 38, refl)
 entity_finished Am ds o = (112 ∷ (59 ∷ []), 38, refl)
@@ -120,11 +113,11 @@ all_letters : List (List ℕ) → ℕ
 all_letters [] = 0
 all_letters (k ∷ ks) = length k + all_letters ks
 
-and_false : (b : Bool) → (b && false) ≡ false
+pub and_false : (b : Bool) → (b && false) ≡ false
 and_false true = refl
 and_false false = refl
 
-longer_other : (x k : List ℕ) → length k < length x → same_name x k ≡ false
+longer_other : (x k : List ℕ) → length k < length x → bytes_eq x k ≡ false
 longer_other [] [] h = absurd (omega arith)
 longer_other [] (b ∷ k) h = refl
 longer_other (a ∷ x) [] h = refl
@@ -147,7 +140,7 @@ pads_length zero = refl
 pads_length (suc n) = ap suc (pads_length n)
 
 pads_named : (n : ℕ) → Each IsNamed (pads n)
-unfolding pads class_of is_white is_letter is_later
+unfolding pads class_of
 pads_named zero = tt
 pads_named (suc n) = (refl, pads_named n)
 
@@ -159,66 +152,59 @@ padded_longer key n =
 
 -- the piece at hand -------------------------------------------------------------------------------
 
-pub record Finish (q : Place) (s : State) : Type 0 where
+pub record Finish (q : Position) (s : State) : Type 0 where
   pub more : List ℕ
   pub held : Held
   pub goes : Goes q s more (as_state held Inside)
 
-by_refl : (q : Place) (s : State) (more : List ℕ) (h : Held) → run q (Some s) more ≡ Some (as_state h Inside) → Finish q s
+by_refl : (q : Position) (s : State) (more : List ℕ) (h : Held) → run q (Some s) more ≡ Some (as_state h Inside) → Finish q s
 by_refl q s more h e = record { more = more; held = h; goes = record { is = e } }
 
-then_finish : {q : Place} {s s' : State} {a : List ℕ} → Goes q s a s' → ((p : Place) → Finish p s') → Finish q s
+then_finish : {q : Position} {s s' : State} {a : List ℕ} → Goes q s a s' → ((p : Position) → Finish p s') → Finish q s
 then_finish {q} {s} {s'} {a} g f = record { more = a ++ (f (after_all q a)).more; held = (f (after_all q a)).held; goes = seq g (f (after_all q a)).goes }
 
-value_done : (h : Held) (head : Head) (r : Place) (key : List ℕ) (u : Quote) (v : List ℕ) (n : ℕ) (q : Place) → Finish q (as_state h (Quoted head r key u v n))
-unfolding class_of is_white is_letter is_later
+value_done : (h : Held) (head : Head) (r : Position) (key : List ℕ) (u : Quote) (v : List ℕ) (n : ℕ) (q : Position) → Finish q (as_state h (Quoted head r key u v n))
+unfolding class_of
 value_done h head r key Single v n q = by_refl q _ (39 ∷ (47 ∷ (62 ∷ []))) _ refl
 value_done h head r key Double v n q = by_refl q _ (34 ∷ (47 ∷ (62 ∷ []))) _ refl
 
-signed_done : (h : Held) (head : Head) (r : Place) (key : List ℕ) (q : Place) → Finish q (as_state h (Signed head r key))
-unfolding class_of is_white is_letter is_later
+signed_done : (h : Held) (head : Head) (r : Position) (key : List ℕ) (q : Position) → Finish q (as_state h (Signed head r key))
+unfolding class_of
 signed_done h head r key q = by_refl q _ (34 ∷ (34 ∷ (47 ∷ (62 ∷ [])))) _ refl
 
-if_fresh : (b : Bool) (o : Option State) → b ≡ true → some_if b o ≡ o
-if_fresh true o e = refl
-if_fresh false o e = absurd (let f : false ≡ true = e in cc)
-
-equals_next : (h : Held) (head : Head) (r : Place) (key : List ℕ) → is_fresh key head ≡ true → (q : Place) → step q (as_state h (Keyed head r key)) 61 ≡ Some (as_state h (Signed head r key))
-unfolding class_of is_white is_letter is_later
+equals_next : (h : Held) (head : Head) (r : Position) (key : List ℕ) → is_fresh key head ≡ true → (q : Position) → step q (as_state h (Keyed head r key)) 61 ≡ Some (as_state h (Signed head r key))
+unfolding class_of
 equals_next h head r key f q = if_fresh (is_fresh key head) (at h (Signed head r key)) f
 
-keyed_done : (h : Held) (head : Head) (r : Place) (key : List ℕ) (q : Place) → Finish q (as_state h (Keyed head r key))
+keyed_done : (h : Held) (head : Head) (r : Position) (key : List ℕ) (q : Position) → Finish q (as_state h (Keyed head r key))
 keyed_done h head r key q =
     let n : ℕ = all_letters (keys_of head.attributes) in
     let f : is_fresh (key ++ pads (suc n)) head ≡ true = fresh_by (key ++ pads (suc n)) head (keys_of head.attributes) refl (longer_fresh (key ++ pads (suc n)) (keys_of head.attributes) (padded_longer key n)) in
     then_finish (named_each (λ y. as_state h (Keyed head r y)) (λ t y d e. keyed_on h head r y d (class_of d) e) key (pads (suc n)) q (pads_named (suc n)))
     (λ t. then_finish (one (equals_next h head r (key ++ pads (suc n)) f t)) (λ t'. signed_done h head r (key ++ pads (suc n)) t'))
 
-referring_done : (h : Held) (r : Place) (e : Entity) (ds : List ℕ) → Entity_ok e ds → (q : Place) → Finish q (as_state h (Referring r e))
+referring_done : (h : Held) (r : Position) (e : Entity) (ds : List ℕ) → Entity_ok e ds → (q : Position) → Finish q (as_state h (Referring r e))
 referring_done h r e ds o q =
     let f = entity_finished e ds o in
     record { more = f.0; held = with_sign r f.1 h; goes = entity_over (λ y. as_state h (Referring r y)) (λ n. as_state (with_sign r n h) Inside) (λ t y c. referring_turned h r (entity_step y c)) f.0 e q f.1 f.2 }
 
-value_referring_done : (h : Held) (head : Head) (k : Place) (key : List ℕ) (u : Quote) (v : List ℕ) (n : ℕ) (r : Place) (e : Entity) (ds : List ℕ) → Entity_ok e ds → (q : Place) → Finish q (as_state h (ValueReferring head k key u v n r e))
+value_referring_done : (h : Held) (head : Head) (k : Position) (key : List ℕ) (u : Quote) (v : List ℕ) (n : ℕ) (r : Position) (e : Entity) (ds : List ℕ) → Entity_ok e ds → (q : Position) → Finish q (as_state h (ValueReferring head k key u v n r e))
 value_referring_done h head k key u v n r e ds o q =
     let f = entity_finished e ds o in
     then_finish (entity_over (λ y. as_state h (ValueReferring head k key u v n r y)) (λ x. as_state h (Quoted head k key u (v ++ encode x) (n + 1))) (λ t y c. value_turned h t head k key u v n r (entity_step y c)) f.0 e q f.1 f.2)
     (λ t. value_done h head k key u (v ++ encode f.1) (n + 1) t)
 
-eqb_refl : (c : ℕ) → eqb c c ≡ true
-eqb_refl c = grind arith
-
-close_done : (p : Path) (i : Items) → IsWithin p → (q : Place) → Finish q (as_state (held_of p i) (Ending []))
-unfolding class_of is_white is_letter is_later
+close_done : (p : Path) (i : Items) → IsWithin p → (q : Position) → Finish q (as_state (held_of p i) (Ending []))
+unfolding class_of
 close_done Top i w q = absurd w
 close_done (Within p j t) i w q = by_refl q _ (62 ∷ []) _ refl
 
-ending_done : (p : Path) (i : Items) (rest : List ℕ) → IsWithin p → (q : Place) → Finish q (as_state (held_of p i) (Ending rest))
+ending_done : (p : Path) (i : Items) (rest : List ℕ) → IsWithin p → (q : Position) → Finish q (as_state (held_of p i) (Ending rest))
 ending_done p i [] w q = close_done p i w q
 ending_done p i (c ∷ rest) w q = then_finish (one {p = q} {c = c} (if_fresh (eqb c c) (at (held_of p i) (Ending rest)) (eqb_refl c))) (λ t. ending_done p i rest w t)
 
-ended_done : (p : Path) (i : Items) → IsWithin p → (q : Place) → Finish q (as_state (held_of p i) Ended)
-unfolding class_of is_white is_letter is_later
+ended_done : (p : Path) (i : Items) → IsWithin p → (q : Position) → Finish q (as_state (held_of p i) Ended)
+unfolding class_of
 ended_done Top i w q = absurd w
 ended_done (Within p j t) i w q = by_refl q _ (62 ∷ []) _ refl
 
@@ -226,8 +212,8 @@ named_within : (p : Path) (n : List ℕ) → IsOpenName p n → IsWithin p
 named_within Top n o = absurd o
 named_within (Within p i t) n o = tt
 
-pub finish : (p : Path) (i : Items) (a : Part) → Part_ok p i a → (q : Place) → Finish q (state_of p i a)
-unfolding class_of is_white is_letter is_later
+pub finish : (p : Path) (i : Items) (a : Part) → Part_ok p i a → (q : Position) → Finish q (state_of p i a)
+unfolding class_of
 finish p i PInside o q = by_refl q _ [] _ refl
 finish p i (PReferring e ds) o q = referring_done (held_of p i) (here p i) e ds o.1 q
 finish p i PLess o q = by_refl q _ (33 ∷ (45 ∷ (45 ∷ (45 ∷ (45 ∷ (62 ∷ [])))))) _ refl
@@ -266,7 +252,7 @@ simple : Tag
 simple = record { name = 97 ∷ []; attributes = []; white = [] }
 
 simple_ok : Tag_ok simple
-unfolding simple class_of is_white is_letter is_later
+unfolding simple class_of
 simple_ok = ((refl, tt), tt, tt)
 
 close_top : (i : Items) → Top_ok i → (b : Bool) → has_element i ≡ b → Closed Top i

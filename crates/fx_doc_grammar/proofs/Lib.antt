@@ -18,3 +18,4 @@ pub mod Turns
 pub mod Signs
 pub mod Verdicts
 pub mod JudgingLemmas
+pub mod JudgementLemmas

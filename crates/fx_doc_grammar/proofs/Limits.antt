@@ -1,19 +1,17 @@
 -- The limits on depth and length: where the machine passes one, the beginning does, and the other way round.
 -- Above the steps and what is written; code cites it.
-use Rattle.std.proofs.Common.{◌≡◌, ℕ, ◌+◌, ◌≤◌, Bool, true, false, ◌&&◌, ◌||◌, List, [], ◌∷◌, ◌++◌, Option, Some, None, length, refl, sym, ◌∙◌, ap, subst, append_assoc, append-nil, length-append, arith}
+use Rattle.std.proofs.Common.{◌≡◌, ℕ, ◌+◌, ◌≤◌, Bool, true, false, ◌&&◌, ◌||◌, List, [], ◌∷◌, ◌++◌, Option, Some, None, length, refl, sym, ◌∙◌, ap, subst, append_assoc, append-nil, length-append, arith, suc}
 use lib.Dec.{eqb, ltb, leb}
 use lib.Utf8.{encodes}
-use Rattle.fx_doc_grammar.specs.Characters.{class_of, in_name, start, after_all}
-use Rattle.fx_doc_grammar.specs.Grammar.{IsNamed, IsName, Sign, Plain, Stands, sign_text, sign_code, is_plain, is_quote, Tag, tag_text, Items, Empty, Shown, Comment, Instruction, Leaf, Branch, items_text, Head, Level, value_of, head_of, level_of}
-use Rattle.fx_doc_grammar.specs.Machine.{entity_step, Stack, Bottom, Opened, Held, Inside, Referring, Instructing, Naming, Keyed, KeySpaced, Signed, Ending, State, at, some_if, is_open, may_begin, with_sign, close_in, begin_end, is_fresh, in_inside, in_referring, in_opening, in_banged, in_bang_dashed, in_commented, in_dashed, in_dash_dashed, in_asked, in_instructing, in_name_asked, in_instructed, in_end_asked, in_naming, in_spaced, in_tight, in_keyed, in_key_spaced, in_signed, in_value, in_quoted, in_value_referring, in_slashed, in_ended, in_ending, step}
-use Rattle.fx_doc_grammar.specs.Beginnings.{Path, Top, Within, Part, PInside, PReferring, PLess, PBang, PBangDash, PComment, PDashed, PDashDashed, PAsk, PInstructing, PNameAsked, PInstructed, PEndAsked, PNaming, PSpaced, PTight, PKeyed, PKeySpaced, PSigned, PQuoted, PValueReferring, PSlashed, PEnding, PEnded, entity_text, value_part, part_text, path_text, zip_text, Items_ok, IsWithin, Path_ok, Part_ok}
+use Rattle.fx_doc_grammar.specs.Characters.{class_of, in_name}
+use Rattle.fx_base.specs.Positions.{start, after_all}
+use Rattle.fx_doc_grammar.specs.Grammar.{IsName, Sign, Plain, Stands, sign_text, sign_code, is_plain, is_quote, Tag, tag_text, Items, Empty, Shown, Comment, Instruction, Leaf, Branch, items_text, Head, Level, value_of, head_of, level_of}
+use Rattle.fx_doc_grammar.specs.Machine.{entity_step, Stack, Bottom, Opened, Held, Inside, Referring, Instructing, Naming, Keyed, KeySpaced, Signed, Ending, State, at, some_if, is_open, may_begin, with_sign, close_in, begin_end, is_fresh, in_inside, in_referring, in_opening, in_banged, in_bang_dashed, in_commented, in_dashed, in_dash_dashed, in_asked, in_instructing, in_name_asked, in_instructed, in_end_asked, in_naming, in_spaced, in_tight, in_keyed, in_key_spaced, in_signed, in_value, in_quoted, in_value_referring, in_slashed, in_ended, in_ending, step, stack_depth, mode_long, level_long, is_long, sign_position}
+use Rattle.fx_doc_grammar.specs.Beginnings.{Path, Top, Within, Part, PInside, PReferring, PLess, PBang, PBangDash, PComment, PDashed, PDashDashed, PAsk, PInstructing, PNameAsked, PInstructed, PEndAsked, PNaming, PSpaced, PTight, PKeyed, PKeySpaced, PSigned, PQuoted, PValueReferring, PSlashed, PEnding, PEnded, entity_text, value_part, part_text, path_text, zip_text, Items_ok, IsWithin, Path_ok, Part_ok, depth_of, run_count, PassesDepth, IsPast, InRun, InValue, InName, InKey, InInstruction, PassesLength}
 use Rattle.fx_doc_grammar.proofs.States.{place_at, here, level_at, stack_of, held_of, mode_of, state_of, Reached, here_place, zip_place, white_ok, sign_ok, within_open, value_more, name_more}
-use Rattle.std.proofs.Common.{suc}
-use Rattle.fx_doc_grammar.specs.Machine.{stack_depth, mode_long, level_long, is_long, sign_place}
-use Rattle.fx_doc_grammar.specs.Beginnings.{depth_of, run_count, PassesDepth, IsPast, InRun, InValue, InName, InKey, InInstruction, PassesLength}
 use Rattle.fx_doc_grammar.proofs.Marks.{as_state}
 use Rattle.fx_doc_grammar.proofs.References.{Turns, entity_goes}
-use Rattle.fx_doc_grammar.proofs.Steps.{Placed, some_same, none_some, if_some}
+use Rattle.fx_doc_grammar.proofs.Steps.{Placed, some_same, none_some, if_some, named_at}
 use Rattle.fx_doc_grammar.proofs.Tags.{value_text}
 use Rattle.fx_doc_grammar.specs.declared.Class.{Class}
 use Rattle.fx_doc_grammar.specs.declared.Class.TheVariants.{White, Less, Greater, Slash, Equals, Bang, Question, Dash, Quotation, Apostrophe, Ampersand, Letter}
@@ -22,7 +20,7 @@ use Rattle.fx_doc_grammar.specs.declared.Entity.{Entity}
 use Rattle.fx_doc_grammar.specs.declared.Entity.TheVariants.{Begun}
 use Rattle.fx_doc_grammar.specs.declared.Turn.{Turn}
 use Rattle.fx_doc_grammar.specs.declared.Turn.TheVariants.{Further, Whole}
-use Rattle.fx_doc_grammar.specs.declared.Place.{Place}
+use Rattle.fx_base.specs.declared.positions.Position.{Position}
 
 -- steps that pass no limit ------------------------------------------------------------------------
 
@@ -30,7 +28,7 @@ abbrev Quiet : Option State → Type 0
 Quiet None = Unit {0}
 Quiet (Some s) = is_long s ≡ false
 
-true_false : {X : Type 0} {b : Bool} → b ≡ true → b ≡ false → X
+pub true_false : {X : Type 0} {b : Bool} → b ≡ true → b ≡ false → X
 true_false e f = absurd (let h : true ≡ false = sym e ∙ f in cc)
 
 hush : {X : Type 0} (o : Option State) (s : State) → Quiet o → o ≡ Some s → is_long s ≡ true → X
@@ -44,10 +42,6 @@ or_false false b e = (refl, e)
 or_left : (a b : Bool) → (a || b) ≡ true → b ≡ false → a ≡ true
 or_left true b e f = refl
 or_left false b e f = true_false e f
-
-and_false : (b : Bool) → (b && false) ≡ false
-and_false true = refl
-and_false false = refl
 
 and_both : (a b : Bool) → (a && b) ≡ true → (a ≡ true) × (b ≡ true)
 and_both true b e = (refl, e)
@@ -65,7 +59,7 @@ quiet_close : (imports : List (List ℕ)) (s : Stack) (l : Level) → Quiet (clo
 quiet_close imports Bottom l = tt
 quiet_close imports (Opened s b d) l = refl
 
-quiet_less : (q : Place) (h : Held) (c : ℕ) → level_long h ≡ false → (k : Class) → Quiet (in_opening q h c k)
+quiet_less : (q : Position) (h : Held) (c : ℕ) → level_long h ≡ false → (k : Class) → Quiet (in_opening q h c k)
 quiet_less q h c n Letter = quiet_if (may_begin h) (at h (Naming q (c ∷ []))) n
 quiet_less q h c n Bang = n
 quiet_less q h c n Question = n
@@ -110,7 +104,7 @@ quiet_end_asked name x h c n Greater = n
 quiet_end_asked name x h c n Question = n
 quiet_end_asked name x h c n k = n
 
-quiet_spaced : (p : Place) (head : Head) (h : Held) (c : ℕ) → level_long h ≡ false → (k : Class) → Quiet (in_spaced p head h c k)
+quiet_spaced : (p : Position) (head : Head) (h : Held) (c : ℕ) → level_long h ≡ false → (k : Class) → Quiet (in_spaced p head h c k)
 quiet_spaced p head h c n White = n
 quiet_spaced p head h c n Slash = n
 quiet_spaced p head h c n Greater = refl
@@ -123,12 +117,12 @@ quiet_tight head h n Slash = n
 quiet_tight head h n Greater = refl
 quiet_tight head h n k = tt
 
-quiet_key_spaced : (head : Head) (q : Place) (key : List ℕ) (h : Held) → level_long h ≡ false → (k : Class) → Quiet (in_key_spaced head q key h k)
+quiet_key_spaced : (head : Head) (q : Position) (key : List ℕ) (h : Held) → level_long h ≡ false → (k : Class) → Quiet (in_key_spaced head q key h k)
 quiet_key_spaced head q key h n White = n
 quiet_key_spaced head q key h n Equals = n
 quiet_key_spaced head q key h n k = tt
 
-quiet_signed : (head : Head) (q : Place) (key : List ℕ) (h : Held) → level_long h ≡ false → (k : Class) → Quiet (in_signed head q key h k)
+quiet_signed : (head : Head) (q : Position) (key : List ℕ) (h : Held) → level_long h ≡ false → (k : Class) → Quiet (in_signed head q key h k)
 quiet_signed head q key h n White = n
 quiet_signed head q key h n Quotation = n
 quiet_signed head q key h n Apostrophe = n
@@ -160,10 +154,10 @@ full_name n c e f = exactly (length n) e (sym (ap (λ y. ltb 4096 y) (one_longer
 
 -- what is known of a step that passes the length
 abbrev Past : Path → Items → Part → ℕ → Type 0
-Past p i a c = PassesLength (zip_text p i a ++ (c ∷ [])) (sign_place (after_all (here p i) (part_text a)) (mode_of (here p i) a))
+Past p i a c = PassesLength (zip_text p i a ++ (c ∷ [])) (sign_position (after_all (here p i) (part_text a)) (mode_of (here p i) a))
 
 -- a sign more in the part at hand
-past_part : (p : Path) (i : Items) (a a0 b : Part) (c : ℕ) (q : Place) → Placed p i → Part_ok p i b → part_text a ++ (c ∷ []) ≡ part_text b → IsPast p i b (zip_text p i a0) → q ≡ after_all (here p i) (part_text a0) → PassesLength (zip_text p i a ++ (c ∷ [])) q
+past_part : (p : Path) (i : Items) (a a0 b : Part) (c : ℕ) (q : Position) → Placed p i → Part_ok p i b → part_text a ++ (c ∷ []) ≡ part_text b → IsPast p i b (zip_text p i a0) → q ≡ after_all (here p i) (part_text a0) → PassesLength (zip_text p i a ++ (c ∷ [])) q
 past_part p i a a0 b c q o k e x w = record {
   path = p;
   items = i;
@@ -171,11 +165,8 @@ past_part p i a a0 b c q o k e x w = record {
   before = zip_text p i a0;
   begun = record { path_ok = o.0; items_ok = o.1; part_ok = k; written = append_assoc (path_text p ++ items_text i) (part_text a) (c ∷ []) ∙ ap (λ z. (path_text p ++ items_text i) ++ z) e };
   past = x;
-  place = w ∙ sym (zip_place p i a0);
+  position = w ∙ sym (zip_place p i a0);
 }
-
-named_at : (c : ℕ) (k : Class) → class_of c ≡ k → in_name k ≡ true → IsNamed c
-named_at c k e h = ap in_name e ∙ h
 
 name_grows : (p : Path) (i : Items) (n : List ℕ) (c : ℕ) (s : State) → Placed p i → Part_ok p i (PNaming n) → ltb 4096 (length n) ≡ false → level_long (held_of p i) ≡ false → is_long s ≡ true
     → (k : Class) → class_of c ≡ k → some_if (in_name k) (at (held_of p i) (Naming (here p i) (n ++ (c ∷ [])))) ≡ Some s → Past p i (PNaming n) c
@@ -256,7 +247,7 @@ grows : (p : Path) (i : Items) (x : Sign) → ltb 4096 (with_sign (here p i) (si
 grows Top i x h = absurd (let e : false ≡ true = h in cc)
 grows (Within p j t) i x h = (tt, h)
 
-level_counts : (q : Place) (i : Items) → (level_of q i).count ≡ run_count i
+pub level_counts : (q : Position) (i : Items) → (level_of q i).count ≡ run_count i
 level_counts q Empty = refl
 level_counts q (Shown i s) = ap (λ y. y + 1) (level_counts q i)
 level_counts q (Comment i x) = level_counts q i
@@ -269,7 +260,7 @@ at_within Top i w = absurd w
 at_within (Within p j t) i w = level_counts (place_at (Within p j t)) i
 
 -- a sign more in a run
-past_sign : (p : Path) (i : Items) (x : Sign) (a : Part) (c : ℕ) (s : State) (q : Place) → Path_ok p → Items_ok p (Shown i x) → level_long (held_of p i) ≡ false → is_long s ≡ true → Some (as_state (with_sign (here p i) (sign_code x) (held_of p i)) Inside) ≡ Some s
+past_sign : (p : Path) (i : Items) (x : Sign) (a : Part) (c : ℕ) (s : State) (q : Position) → Path_ok p → Items_ok p (Shown i x) → level_long (held_of p i) ≡ false → is_long s ≡ true → Some (as_state (with_sign (here p i) (sign_code x) (held_of p i)) Inside) ≡ Some s
     → part_text a ++ (c ∷ []) ≡ sign_text x → q ≡ here p i → PassesLength (zip_text p i a ++ (c ∷ [])) q
 past_sign p i x a c s q o k ll l h e w =
     let g = grows p i x (ap is_long (some_same h) ∙ l) in
@@ -285,7 +276,7 @@ past_sign p i x a c s q o k ll l h e w =
         written = append_assoc (path_text p ++ items_text i) (part_text a) (c ∷ []) ∙ (ap (λ z. (path_text p ++ items_text i) ++ z) e ∙ (append_assoc (path_text p) (items_text i) (sign_text x) ∙ sym (append-nil (path_text p ++ items_text (Shown i x)))));
       };
       past = InRun i x g.0 refl refl (sym (at_within p i g.0) ∙ exactly (level_at p i).count ll g.1) refl;
-      place = w ∙ sym (here_place p i);
+      position = w ∙ sym (here_place p i);
     }
 
 open_sign : (p : Path) (i : Items) (c : ℕ) (s : State) → Placed p i → level_long (held_of p i) ≡ false → is_long s ≡ true → is_plain (class_of c) ≡ true → some_if (is_open (stack_of p)) (at (with_sign (here p i) c (held_of p i)) Inside) ≡ Some s → Past p i PInside c
@@ -340,30 +331,30 @@ past p i (PEnding said rest) c s o z n l h = hush (in_ending rest (held_of p i) 
 past p i (PEnded x w) c s o z n l h = hush (in_ended (held_of p i) (class_of c)) s (quiet_ended (held_of p i) n.1 (class_of c)) h l
 
 -- a step that passes the length
-pub long_step : (text : List ℕ) (s : State) (c : ℕ) (s' : State) → Reached text s → step (after_all start text) s c ≡ Some s' → is_long s ≡ false → is_long s' ≡ true → PassesLength (text ++ (c ∷ [])) (sign_place (after_all start text) s.mode)
+pub long_step : (text : List ℕ) (s : State) (c : ℕ) (s' : State) → Reached text s → step (after_all start text) s c ≡ Some s' → is_long s ≡ false → is_long s' ≡ true → PassesLength (text ++ (c ∷ [])) (sign_position (after_all start text) s.mode)
 long_step text s c s' r h n l =
     let q : after_all start text ≡ after_all (here r.path r.items) (part_text r.part) = ap (after_all start) r.written ∙ zip_place r.path r.items r.part in
     let g : step (after_all (here r.path r.items) (part_text r.part)) (state_of r.path r.items r.part) c ≡ Some s' =
-    ap (λ (y : Place). step y (state_of r.path r.items r.part) c) (sym q) ∙ (ap (λ (y : State). step (after_all start text) y c) r.is ∙ h) in
+    ap (λ (y : Position). step y (state_of r.path r.items r.part) c) (sym q) ∙ (ap (λ (y : State). step (after_all start text) y c) r.is ∙ h) in
     let m = or_false (mode_long (mode_of (here r.path r.items) r.part)) (level_long (held_of r.path r.items)) (ap is_long r.is ∙ n) in
     let x = past r.path r.items r.part c s' (r.path_ok, r.items_ok) r.part_ok m l g in
-    subst (λ (y : Place). PassesLength (text ++ (c ∷ [])) y) (ap (λ (y : Place). sign_place y (mode_of (here r.path r.items) r.part)) (sym q) ∙ ap (λ (y : State). sign_place (after_all start text) y.mode) r.is)
-    (subst (λ y. PassesLength (y ++ (c ∷ [])) (sign_place (after_all (here r.path r.items) (part_text r.part)) (mode_of (here r.path r.items) r.part))) (sym r.written) x)
+    subst (λ (y : Position). PassesLength (text ++ (c ∷ [])) y) (ap (λ (y : Position). sign_position y (mode_of (here r.path r.items) r.part)) (sym q) ∙ ap (λ (y : State). sign_position (after_all start text) y.mode) r.is)
+    (subst (λ y. PassesLength (y ++ (c ∷ [])) (sign_position (after_all (here r.path r.items) (part_text r.part)) (mode_of (here r.path r.items) r.part))) (sym r.written) x)
 
 -- depth -------------------------------------------------------------------------------------------
 
-depth_is : (p : Path) → stack_depth (stack_of p) ≡ depth_of p
+pub depth_is : (p : Path) → stack_depth (stack_of p) ≡ depth_of p
 depth_is Top = refl
 depth_is (Within p i t) = ap suc (depth_is p)
 
-naming_part : (q r : Place) (n : List ℕ) (a : Part) → mode_of q a ≡ Naming r n → (a ≡ PNaming n) × (q ≡ r)
+naming_part : (q r : Position) (n : List ℕ) (a : Part) → mode_of q a ≡ Naming r n → (a ≡ PNaming n) × (q ≡ r)
 naming_part q r n (PNaming m) e = (let h : m ≡ n = cc in ap (λ y. PNaming y) h, cc)
 naming_part q r n a e = absurd (cc)
 
 deep_is : (n : ℕ) → leb 128 n ≡ true → 128 ≤ n
 deep_is n e = grind (arith, e)
 
-pub deep_step : (text : List ℕ) (s : State) (q : Place) (n : List ℕ) → Reached text s → s.mode ≡ Naming q n → leb 128 (stack_depth s.held.stack) ≡ true → PassesDepth text q
+pub deep_step : (text : List ℕ) (s : State) (q : Position) (n : List ℕ) → Reached text s → s.mode ≡ Naming q n → leb 128 (stack_depth s.held.stack) ≡ true → PassesDepth text q
 deep_step text s q n r e d =
     let a = naming_part (here r.path r.items) q n r.part (ap (λ (y : State). y.mode) r.is ∙ e) in
     record {
@@ -372,5 +363,5 @@ deep_step text s q n r e d =
       name = n;
       begun = record { path_ok = r.path_ok; items_ok = r.items_ok; part_ok = subst (λ (y : Part). Part_ok r.path r.items y) a.0 r.part_ok; written = r.written ∙ ap (λ (y : Part). zip_text r.path r.items y) a.0 };
       deep = deep_is (depth_of r.path) (ap (λ y. leb 128 y) (sym (depth_is r.path)) ∙ (ap (λ (y : State). leb 128 (stack_depth y.held.stack)) r.is ∙ d));
-      place = sym a.1 ∙ sym (here_place r.path r.items);
+      position = sym a.1 ∙ sym (here_place r.path r.items);
     }

@@ -2,8 +2,10 @@
 -- Beside the steps of comments and instructions.
 use Rattle.std.proofs.Common.{◌≡◌, ℕ, ◌+◌, ◌*◌, ◌≤◌, Bool, true, false, cond, ◌&&◌, List, [], ◌∷◌, ◌++◌, Some, None, refl, sym, ◌∙◌, ap, subst, arith}
 use lib.Dec.{eqb, leb}
-use Rattle.fx_doc_grammar.specs.Characters.{Each, is_decimal, is_hexadecimal, digit_value, is_character}
-use Rattle.fx_doc_grammar.specs.Grammar.{Reference, ForLess, ForGreater, ForAmpersand, ForQuotation, ForApostrophe, ByDecimal, ByHexadecimal, reference_text, Reference_ok, stands_for, number_on, IsDecimal, IsHexadecimal}
+use Rattle.fx_doc_grammar.specs.Characters.{Each, is_character}
+use Rattle.std.specs.Char.{is_digit, digit_value}
+use Rattle.fx_doc_grammar.specs.Grammar.{Reference, ForLess, ForGreater, ForAmpersand, ForQuotation, ForApostrophe, ByDecimal, ByHexadecimal, reference_text, Reference_ok, stands_for, IsDecimal, IsHexadecimal}
+use Rattle.std.specs.Str.Parse.{digits_value_after}
 use Rattle.fx_doc_grammar.specs.Machine.{expect, decimal_digit, hexadecimal_digit, number_end, entity_step}
 use Rattle.fx_doc_grammar.specs.Beginnings.{entity_text, Entity_ok}
 use Rattle.fx_doc_grammar.proofs.States.{each_more, filled_more}
@@ -12,9 +14,7 @@ use Rattle.fx_doc_grammar.specs.declared.Entity.{Entity}
 use Rattle.fx_doc_grammar.specs.declared.Entity.TheVariants.{Begun, A, Am, Amp, Ap, Apo, Apos, G, Gt, L, Lt, Q, Qu, Quo, Quot, Hash, Decimal, Hex, HexDigits}
 use Rattle.fx_doc_grammar.specs.declared.Turn.{Turn}
 use Rattle.fx_doc_grammar.specs.declared.Turn.TheVariants.{Further, Whole}
-
-pub eqb_is : (c n : ℕ) → eqb c n ≡ true → c ≡ n
-eqb_is c n e = grind (arith, e)
+use Rattle.std.proofs.lemmas.Bool.{and_parts, eqb-true}
 
 -- what one more character makes of a reference, and what has been written then
 abbrev pub Turns : List ℕ → Turn → Type 0
@@ -29,31 +29,27 @@ expected false t u h = absurd (none_some h)
 letter_goes : (x : ℕ) (t u : Turn) (c : ℕ) (said : List ℕ → List ℕ) → Turns (said (x ∷ [])) t → expect x t c ≡ Some u → Turns (said (c ∷ [])) u
 letter_goes x t u c said o h =
     let r = expected (eqb c x) t u h in
-    let o' : Turns (said (c ∷ [])) t = subst (λ y. Turns (said (y ∷ [])) t) (sym (eqb_is c x r.0)) o in
+    let o' : Turns (said (c ∷ [])) t = subst (λ y. Turns (said (y ∷ [])) t) (sym (eqb-true c x r.0)) o in
     subst (Turns (said (c ∷ []))) r.1 o'
 
-two_true : (a b : Bool) → (a && b) ≡ true → (a ≡ true) × (b ≡ true)
-two_true true b e = (refl, e)
-two_true false b e = cc
-
-pub number_more : (base n : ℕ) (ds : List ℕ) (c : ℕ) → number_on base n (ds ++ (c ∷ [])) ≡ number_on base n ds * base + digit_value c
+pub number_more : (base n : ℕ) (ds : List ℕ) (c : ℕ) → digits_value_after base n (ds ++ (c ∷ [])) ≡ digits_value_after base n ds * base + digit_value c
 number_more base n [] c = refl
 number_more base n (d ∷ ds) c = number_more base (n * base + digit_value d) ds c
 
 pub in_range : (n : ℕ) → leb n 1114111 ≡ true → n ≤ 1114111
 in_range n e = grind (arith, e)
 
-decimal_goes : (n : ℕ) (ds : List ℕ) (c : ℕ) (u : Turn) → Each IsDecimal ds → number_on 10 0 ds ≡ n → decimal_digit n c ≡ Some u → Turns (38 ∷ (35 ∷ (ds ++ (c ∷ [])))) u
+decimal_goes : (n : ℕ) (ds : List ℕ) (c : ℕ) (u : Turn) → Each IsDecimal ds → digits_value_after 10 0 ds ≡ n → decimal_digit n c ≡ Some u → Turns (38 ∷ (35 ∷ (ds ++ (c ∷ [])))) u
 decimal_goes n ds c u o e h =
-    let r = expected (is_decimal c && leb (n * 10 + digit_value c) 1114111) (Further (Decimal (n * 10 + digit_value c))) u h in
-    let b = two_true (is_decimal c) (leb (n * 10 + digit_value c) 1114111) r.0 in
+    let r = expected (is_digit c 10 && leb (n * 10 + digit_value c) 1114111) (Further (Decimal (n * 10 + digit_value c))) u h in
+    let b = and_parts (is_digit c 10) (leb (n * 10 + digit_value c) 1114111) r.0 in
     subst (Turns (38 ∷ (35 ∷ (ds ++ (c ∷ []))))) r.1
     (ds ++ (c ∷ []), (filled_more ds c, each_more IsDecimal ds c o b.0, number_more 10 0 ds c ∙ ap (λ y. y * 10 + digit_value c) e, in_range (n * 10 + digit_value c) b.1), refl)
 
-hexadecimal_goes : (n : ℕ) (ds : List ℕ) (c : ℕ) (u : Turn) → Each IsHexadecimal ds → number_on 16 0 ds ≡ n → hexadecimal_digit n c ≡ Some u → Turns (38 ∷ (35 ∷ (120 ∷ (ds ++ (c ∷ []))))) u
+hexadecimal_goes : (n : ℕ) (ds : List ℕ) (c : ℕ) (u : Turn) → Each IsHexadecimal ds → digits_value_after 16 0 ds ≡ n → hexadecimal_digit n c ≡ Some u → Turns (38 ∷ (35 ∷ (120 ∷ (ds ++ (c ∷ []))))) u
 hexadecimal_goes n ds c u o e h =
-    let r = expected (is_hexadecimal c && leb (n * 16 + digit_value c) 1114111) (Further (HexDigits (n * 16 + digit_value c))) u h in
-    let b = two_true (is_hexadecimal c) (leb (n * 16 + digit_value c) 1114111) r.0 in
+    let r = expected (is_digit c 16 && leb (n * 16 + digit_value c) 1114111) (Further (HexDigits (n * 16 + digit_value c))) u h in
+    let b = and_parts (is_digit c 16) (leb (n * 16 + digit_value c) 1114111) r.0 in
     subst (Turns (38 ∷ (35 ∷ (120 ∷ (ds ++ (c ∷ [])))))) r.1
     (ds ++ (c ∷ []), (filled_more ds c, each_more IsHexadecimal ds c o b.0, number_more 16 0 ds c ∙ ap (λ y. y * 16 + digit_value c) e, in_range (n * 16 + digit_value c) b.1), refl)
 
@@ -61,32 +57,32 @@ decimal_ends : (n : ℕ) (ds : List ℕ) (c : ℕ) (u : Turn) → Entity_ok (Dec
 decimal_ends n ds c u o true e h =
     let r = expected (is_character n) (Whole n) u h in
     subst (Turns (38 ∷ (35 ∷ (ds ++ (c ∷ []))))) r.1
-    (ByDecimal ds, (o.1, ap is_character o.2 ∙ r.0), ap (λ y. 38 ∷ (35 ∷ (ds ++ (y ∷ [])))) (eqb_is c 59 e), sym o.2)
+    (ByDecimal ds, (o.1, ap is_character o.2 ∙ r.0), ap (λ y. 38 ∷ (35 ∷ (ds ++ (y ∷ [])))) (eqb-true c 59 e), sym o.2)
 decimal_ends n ds c u o false e h = decimal_goes n ds c u o.1 o.2 h
 
 hexadecimal_ends : (n : ℕ) (ds : List ℕ) (c : ℕ) (u : Turn) → Entity_ok (HexDigits n) ds → (b : Bool) → eqb c 59 ≡ b → cond b (number_end n) (hexadecimal_digit n c) ≡ Some u → Turns (38 ∷ (35 ∷ (120 ∷ (ds ++ (c ∷ []))))) u
 hexadecimal_ends n ds c u o true e h =
     let r = expected (is_character n) (Whole n) u h in
     subst (Turns (38 ∷ (35 ∷ (120 ∷ (ds ++ (c ∷ [])))))) r.1
-    (ByHexadecimal ds, (o.1, ap is_character o.2 ∙ r.0), ap (λ y. 38 ∷ (35 ∷ (120 ∷ (ds ++ (y ∷ []))))) (eqb_is c 59 e), sym o.2)
+    (ByHexadecimal ds, (o.1, ap is_character o.2 ∙ r.0), ap (λ y. 38 ∷ (35 ∷ (120 ∷ (ds ++ (y ∷ []))))) (eqb-true c 59 e), sym o.2)
 hexadecimal_ends n ds c u o false e h = hexadecimal_goes n ds c u o.1 o.2 h
 
 hash_goes : (c : ℕ) (u : Turn) (b : Bool) → eqb c 120 ≡ b → cond b (Some (Further Hex)) (decimal_digit 0 c) ≡ Some u → Turns (38 ∷ (35 ∷ (c ∷ []))) u
-hash_goes c u true e h = subst (Turns (38 ∷ (35 ∷ (c ∷ [])))) (some_same h) ([], tt, ap (λ y. 38 ∷ (35 ∷ (y ∷ []))) (eqb_is c 120 e))
+hash_goes c u true e h = subst (Turns (38 ∷ (35 ∷ (c ∷ [])))) (some_same h) ([], tt, ap (λ y. 38 ∷ (35 ∷ (y ∷ []))) (eqb-true c 120 e))
 hash_goes c u false e h = decimal_goes 0 [] c u tt refl h
 
 after_a_goes : (c : ℕ) (u : Turn) (b1 b2 : Bool) → eqb c 109 ≡ b1 → eqb c 112 ≡ b2 → cond b1 (Some (Further Am)) (cond b2 (Some (Further Ap)) None) ≡ Some u → Turns (38 ∷ (97 ∷ (c ∷ []))) u
-after_a_goes c u true b2 e1 e2 h = subst (Turns (38 ∷ (97 ∷ (c ∷ [])))) (some_same h) ([], tt, ap (λ y. 38 ∷ (97 ∷ (y ∷ []))) (eqb_is c 109 e1))
-after_a_goes c u false true e1 e2 h = subst (Turns (38 ∷ (97 ∷ (c ∷ [])))) (some_same h) ([], tt, ap (λ y. 38 ∷ (97 ∷ (y ∷ []))) (eqb_is c 112 e2))
+after_a_goes c u true b2 e1 e2 h = subst (Turns (38 ∷ (97 ∷ (c ∷ [])))) (some_same h) ([], tt, ap (λ y. 38 ∷ (97 ∷ (y ∷ []))) (eqb-true c 109 e1))
+after_a_goes c u false true e1 e2 h = subst (Turns (38 ∷ (97 ∷ (c ∷ [])))) (some_same h) ([], tt, ap (λ y. 38 ∷ (97 ∷ (y ∷ []))) (eqb-true c 112 e2))
 after_a_goes c u false false e1 e2 h = absurd (none_some h)
 
 begin_goes : (c : ℕ) (u : Turn) (b1 b2 b3 b4 b5 : Bool) → eqb c 97 ≡ b1 → eqb c 103 ≡ b2 → eqb c 108 ≡ b3 → eqb c 113 ≡ b4 → eqb c 35 ≡ b5
     → cond b1 (Some (Further A)) (cond b2 (Some (Further G)) (cond b3 (Some (Further L)) (cond b4 (Some (Further Q)) (cond b5 (Some (Further Hash)) None)))) ≡ Some u → Turns (38 ∷ (c ∷ [])) u
-begin_goes c u true b2 b3 b4 b5 e1 e2 e3 e4 e5 h = subst (Turns (38 ∷ (c ∷ []))) (some_same h) ([], tt, ap (λ y. 38 ∷ (y ∷ [])) (eqb_is c 97 e1))
-begin_goes c u false true b3 b4 b5 e1 e2 e3 e4 e5 h = subst (Turns (38 ∷ (c ∷ []))) (some_same h) ([], tt, ap (λ y. 38 ∷ (y ∷ [])) (eqb_is c 103 e2))
-begin_goes c u false false true b4 b5 e1 e2 e3 e4 e5 h = subst (Turns (38 ∷ (c ∷ []))) (some_same h) ([], tt, ap (λ y. 38 ∷ (y ∷ [])) (eqb_is c 108 e3))
-begin_goes c u false false false true b5 e1 e2 e3 e4 e5 h = subst (Turns (38 ∷ (c ∷ []))) (some_same h) ([], tt, ap (λ y. 38 ∷ (y ∷ [])) (eqb_is c 113 e4))
-begin_goes c u false false false false true e1 e2 e3 e4 e5 h = subst (Turns (38 ∷ (c ∷ []))) (some_same h) ([], tt, ap (λ y. 38 ∷ (y ∷ [])) (eqb_is c 35 e5))
+begin_goes c u true b2 b3 b4 b5 e1 e2 e3 e4 e5 h = subst (Turns (38 ∷ (c ∷ []))) (some_same h) ([], tt, ap (λ y. 38 ∷ (y ∷ [])) (eqb-true c 97 e1))
+begin_goes c u false true b3 b4 b5 e1 e2 e3 e4 e5 h = subst (Turns (38 ∷ (c ∷ []))) (some_same h) ([], tt, ap (λ y. 38 ∷ (y ∷ [])) (eqb-true c 103 e2))
+begin_goes c u false false true b4 b5 e1 e2 e3 e4 e5 h = subst (Turns (38 ∷ (c ∷ []))) (some_same h) ([], tt, ap (λ y. 38 ∷ (y ∷ [])) (eqb-true c 108 e3))
+begin_goes c u false false false true b5 e1 e2 e3 e4 e5 h = subst (Turns (38 ∷ (c ∷ []))) (some_same h) ([], tt, ap (λ y. 38 ∷ (y ∷ [])) (eqb-true c 113 e4))
+begin_goes c u false false false false true e1 e2 e3 e4 e5 h = subst (Turns (38 ∷ (c ∷ []))) (some_same h) ([], tt, ap (λ y. 38 ∷ (y ∷ [])) (eqb-true c 35 e5))
 begin_goes c u false false false false false e1 e2 e3 e4 e5 h = absurd (none_some h)
 
 pub entity_goes : (e : Entity) (ds : List ℕ) (c : ℕ) (u : Turn) → Entity_ok e ds → entity_step e c ≡ Some u → Turns (entity_text e ds ++ (c ∷ [])) u

@@ -1,31 +1,28 @@
 -- The place of the first sign past a limit is told by the state before its last character.
 -- Below the law that a text has one answer.
-use Rattle.std.proofs.Common.{◌≡◌, ℕ, ◌+◌, ◌≤◌, List, [], ◌∷◌, ◌++◌, Option, Some, None, length, refl, sym, ◌∙◌, ap, subst, append_assoc, append-nil, arith}
+use Rattle.std.proofs.Common.{◌≡◌, ℕ, ◌+◌, ◌≤◌, List, [], ◌∷◌, ◌++◌, Option, Some, None, length, refl, sym, ◌∙◌, ap, subst, append_assoc, append-nil, arith, suc}
 use lib.Utf8.{encode}
-use Rattle.fx_doc_grammar.specs.Characters.{start, after, after_all, Each}
+use Rattle.fx_doc_grammar.specs.Characters.{Each}
+use Rattle.fx_base.specs.Positions.{start, after, after_all}
 use Rattle.fx_doc_grammar.specs.Grammar.{IsNamed, IsName, Reference, ForLess, ForGreater, ForAmpersand, ForQuotation, ForApostrophe, ByDecimal, ByHexadecimal, reference_text, Reference_ok, stands_for, Sign, Plain, Stands, Sign_ok, Value_ok, Value_sign_ok, Tag, tag_text, Items, Shown, items_text, value_of, head_of}
-use Rattle.fx_doc_grammar.specs.Machine.{entity_step, Inside, Referring, Naming, Quoted, ValueReferring, State, initial, with_sign, step, run}
-use Rattle.fx_doc_grammar.specs.Beginnings.{Path, Top, Within, Part, PInside, PInstructing, PNaming, PKeyed, PQuoted, value_part, part_text, path_text, zip_text, Items_ok, IsWithin, Part_ok}
+use Rattle.fx_doc_grammar.specs.Machine.{entity_step, Inside, Referring, Naming, Quoted, ValueReferring, State, initial, with_sign, step, run, stack_depth, sign_position}
+use Rattle.fx_doc_grammar.specs.Beginnings.{Path, Top, Within, Part, PInside, PInstructing, PNaming, PKeyed, PQuoted, value_part, part_text, path_text, zip_text, Items_ok, IsWithin, Part_ok, IsBegun, depth_of, PassesDepth, IsPast, InRun, InValue, InName, InKey, InInstruction, PassesLength}
 use Rattle.fx_doc_grammar.proofs.Runs.{run-append}
 use Rattle.fx_doc_grammar.proofs.States.{here, stack_of, held_of, mode_of, state_of, here_place}
 use Rattle.fx_doc_grammar.proofs.Ends.{last_same}
-use Rattle.std.proofs.Common.{suc}
-use Rattle.fx_doc_grammar.specs.Machine.{stack_depth, sign_place}
-use Rattle.fx_doc_grammar.specs.Beginnings.{IsBegun, depth_of, PassesDepth, IsPast, InRun, InValue, InName, InKey, InInstruction, PassesLength}
 use Rattle.fx_doc_grammar.proofs.Goes.{Goes, stays, one_then, ends_at, entity_run, turn_step, turned, reference_rest, reference_parts, reference_run}
 use Rattle.fx_doc_grammar.proofs.TagGoes.{value_turned, value_ampersand}
-use Rattle.fx_doc_grammar.proofs.Written.{referring_turned, ampersand_inside}
+use Rattle.fx_doc_grammar.proofs.Written.{referring_turned, ampersand_inside, inside_goes}
 use Rattle.fx_doc_grammar.proofs.Bounds.{StateAt, naming_at, instructing_at, keyed_at, quoted_at, inside_at}
 use Rattle.fx_doc_grammar.proofs.Marks.{as_state}
 use Rattle.fx_doc_grammar.proofs.Steps.{some_same}
 use Rattle.fx_doc_grammar.proofs.Tags.{value_text}
-use Rattle.fx_doc_grammar.proofs.Written.{inside_goes}
 use Rattle.fx_doc_grammar.specs.declared.Quote.{Quote}
 use Rattle.fx_doc_grammar.specs.declared.Entity.{Entity}
 use Rattle.fx_doc_grammar.specs.declared.Entity.TheVariants.{Begun}
 use Rattle.fx_doc_grammar.specs.declared.Turn.{Turn}
 use Rattle.fx_doc_grammar.specs.declared.Turn.TheVariants.{Further, Whole}
-use Rattle.fx_doc_grammar.specs.declared.Place.{Place}
+use Rattle.fx_base.specs.declared.positions.Position.{Position}
 
 -- references but for their last character ---------------------------------------------------------
 
@@ -61,13 +58,13 @@ none_stays cs e h = let g : None ≡ Some (Further e) = sym (entity_nothing cs) 
 further_same : (e e' : Entity) → Some (Further e) ≡ Some (Further e') → e ≡ e'
 further_same e e' h = cc
 
-turn_on : (f : Entity → State) (g : ℕ → State) (e : Entity) (c : ℕ) (cs : List ℕ) (p : Place) (e' : Entity) (o : Option Turn) → step p (f e) c ≡ turned f g o → entity_run o cs ≡ Some (Further e')
+turn_on : (f : Entity → State) (g : ℕ → State) (e : Entity) (c : ℕ) (cs : List ℕ) (p : Position) (e' : Entity) (o : Option Turn) → step p (f e) c ≡ turned f g o → entity_run o cs ≡ Some (Further e')
     → ((d : Entity) → entity_run (Some (Further d)) cs ≡ Some (Further e') → Goes (after p c) (f d) cs (f e')) → Goes p (f e) (c ∷ cs) (f e')
 turn_on f g e c cs p e' None h r k = absurd (none_stays cs e' r)
 turn_on f g e c cs p e' (Some (Further d)) h r k = one_then h (k d r)
 turn_on f g e c cs p e' (Some (Whole m)) h r k = absurd (whole_stays cs m e' r)
 
-entity_on : (f : Entity → State) (g : ℕ → State) → ((p : Place) (e : Entity) (c : ℕ) → step p (f e) c ≡ turned f g (entity_step e c)) → (cs : List ℕ) (e : Entity) (p : Place) (e' : Entity) → entity_run (Some (Further e)) cs ≡ Some (Further e') → Goes p (f e) cs (f e')
+entity_on : (f : Entity → State) (g : ℕ → State) → ((p : Position) (e : Entity) (c : ℕ) → step p (f e) c ≡ turned f g (entity_step e c)) → (cs : List ℕ) (e : Entity) (p : Position) (e' : Entity) → entity_run (Some (Further e)) cs ≡ Some (Further e') → Goes p (f e) cs (f e')
 entity_on f g k [] e p e' r = ends_at (ap f (further_same e e' r)) stays
 entity_on f g k (c ∷ cs) e p e' r = turn_on f g e c cs p e' (entity_step e c) (k p e c) r (λ d r'. entity_on f g k cs d (after p c) e' r')
 
@@ -84,8 +81,8 @@ broken r o =
 -- the state before the last character -------------------------------------------------------------
 
 -- where the last sign of a text begins, by the state before its last character
-abbrev pub SignAt : List ℕ → Place → Type 0
-SignAt front p = (s : State) × StateAt front s × (p ≡ sign_place (after_all start front) s.mode)
+abbrev pub SignAt : List ℕ → Position → Type 0
+SignAt front p = (s : State) × StateAt front s × (p ≡ sign_position (after_all start front) s.mode)
 
 last_text : (front : List ℕ) (c : ℕ) (p : Path) (i : Items) (a b : Part) (d : ℕ) → front ++ (c ∷ []) ≡ zip_text p i a → part_text a ≡ part_text b ++ (d ∷ []) → front ≡ zip_text p i b
 last_text front c p i a b d w e = (last_same front (zip_text p i b) c d (w ∙ (ap (λ y. (path_text p ++ items_text i) ++ y) e ∙ sym (append_assoc (path_text p ++ items_text i) (part_text b) (d ∷ []))))).0
@@ -106,12 +103,12 @@ value_less u [] s o = (tt, o.0)
 value_less u (x ∷ v) s o = ((o.0, (value_less u v s o.1).0), (value_less u v s o.1).1)
 
 -- at a part that is a sign by itself less
-plain_sign : (front : List ℕ) (p : Path) (i : Items) (b : Part) (q : Place) (before : List ℕ) → StateAt front (state_of p i b) → front ≡ before → q ≡ after_all start before → ((r : Place) → sign_place r (mode_of (here p i) b) ≡ r) → SignAt front q
+plain_sign : (front : List ℕ) (p : Path) (i : Items) (b : Part) (q : Position) (before : List ℕ) → StateAt front (state_of p i b) → front ≡ before → q ≡ after_all start before → ((r : Position) → sign_position r (mode_of (here p i) b) ≡ r) → SignAt front q
 plain_sign front p i b q before s w k m = (state_of p i b, s, k ∙ (ap (after_all start) (sym w) ∙ sym (m (after_all start front))))
 
 -- at a reference: its `&` is told by the mode
-reference_sign : (front before : List ℕ) (c : ℕ) (r : Reference) (o : Reference_ok r) (s : State) (f : Entity → State) (g : ℕ → State) (q : Place) → front ++ (c ∷ []) ≡ before ++ reference_text r → StateAt before s → step (after_all start before) s 38 ≡ Some (f Begun)
-    → ((p : Place) (e : Entity) (d : ℕ) → step p (f e) d ≡ turned f g (entity_step e d)) → ((p : Place) (e : Entity) → q ≡ sign_place p (f e).mode) → SignAt front q
+reference_sign : (front before : List ℕ) (c : ℕ) (r : Reference) (o : Reference_ok r) (s : State) (f : Entity → State) (g : ℕ → State) (q : Position) → front ++ (c ∷ []) ≡ before ++ reference_text r → StateAt before s → step (after_all start before) s 38 ≡ Some (f Begun)
+    → ((p : Position) (e : Entity) (d : ℕ) → step p (f e) d ≡ turned f g (entity_step e d)) → ((p : Position) (e : Entity) → q ≡ sign_position p (f e).mode) → SignAt front q
 reference_sign front before c r o s f g q w h a k m =
     let b = broken r o in
     let e : front ≡ before ++ (38 ∷ b.0) = (last_same front (before ++ (38 ∷ b.0)) c 59 (w ∙ (ap (λ y. before ++ y) b.2 ∙ sym (append_assoc before (38 ∷ b.0) (59 ∷ []))))).0 in
@@ -121,7 +118,7 @@ reference_sign front before c r o s f g q w h a k m =
       m (after_all start front) b.1,
     )
 
-value_sign : (front : List ℕ) (c : ℕ) (p : Path) (i : Items) (t : Tag) (key w v : List ℕ) (u : Quote) (value : List Sign) (s : Sign) (q : Place) → IsBegun (front ++ (c ∷ [])) p i (PQuoted t key w v u (value ++ (s ∷ [])))
+value_sign : (front : List ℕ) (c : ℕ) (p : Path) (i : Items) (t : Tag) (key w v : List ℕ) (u : Quote) (value : List Sign) (s : Sign) (q : Position) → IsBegun (front ++ (c ∷ [])) p i (PQuoted t key w v u (value ++ (s ∷ [])))
     → q ≡ after_all start (zip_text p i (PQuoted t key w v u value)) → SignAt front q
 value_sign front c p i t key w v u value (Plain d) q b k =
     let o = b.part_ok in
@@ -145,7 +142,7 @@ sign_of : (p : Path) (i : Items) (s : Sign) → IsWithin p → Items_ok p (Shown
 sign_of Top i s w o = absurd w
 sign_of (Within p j t) i s w o = o
 
-run_sign : (front : List ℕ) (c : ℕ) (p : Path) (i : Items) (s : Sign) (q : Place) → IsWithin p → IsBegun (front ++ (c ∷ [])) p (Shown i s) PInside → q ≡ after_all start (path_text p ++ items_text i) → SignAt front q
+run_sign : (front : List ℕ) (c : ℕ) (p : Path) (i : Items) (s : Sign) (q : Position) → IsWithin p → IsBegun (front ++ (c ∷ [])) p (Shown i s) PInside → q ≡ after_all start (path_text p ++ items_text i) → SignAt front q
 run_sign front c p i (Plain d) q w b k =
     let o = sign_of p i (Plain d) w b.items_ok in
     let e : front ≡ path_text p ++ items_text i = (last_same front (path_text p ++ items_text i) c d (b.written ∙ (append-nil (path_text p ++ (items_text i ++ (d ∷ []))) ∙ sym (append_assoc (path_text p) (items_text i) (d ∷ []))))).0 in
@@ -155,14 +152,14 @@ run_sign front c p i (Stands r) q w b k =
     reference_sign front (path_text p ++ items_text i) c r o.1 (state_of p i PInside) (λ e. as_state (held_of p i) (Referring (here p i) e)) (λ n. as_state (with_sign (here p i) n (held_of p i)) Inside) q
     (b.written ∙ (append-nil (path_text p ++ (items_text i ++ reference_text r)) ∙ sym (append_assoc (path_text p) (items_text i) (reference_text r))))
     (inside_goes p i b.path_ok o.0).is
-    (ap (λ (y : Place). step y (state_of p i PInside) 38) (here_place p i) ∙ ampersand_inside p i w)
+    (ap (λ (y : Position). step y (state_of p i PInside) 38) (here_place p i) ∙ ampersand_inside p i w)
     (λ y e d. referring_turned (held_of p i) (here p i) (entity_step e d))
     (λ y e. k ∙ here_place p i)
 
 with_part : (text : List ℕ) (p : Path) (i : Items) (a b : Part) → a ≡ b → IsBegun text p i a → IsBegun text p i b
 with_part text p i a b e x = subst (λ (y : Part). IsBegun text p i y) e x
 
-pub sign_at : (front : List ℕ) (c : ℕ) (p : Path) (i : Items) (a : Part) (before : List ℕ) (q : Place) → IsBegun (front ++ (c ∷ [])) p i a → IsPast p i a before → q ≡ after_all start before → SignAt front q
+pub sign_at : (front : List ℕ) (c : ℕ) (p : Path) (i : Items) (a : Part) (before : List ℕ) (q : Position) → IsBegun (front ++ (c ∷ [])) p i a → IsPast p i a before → q ≡ after_all start before → SignAt front q
 sign_at front c p i a before q b (InRun j s w ei ea n h) k = run_sign front c p j s q w (subst (λ (y : Items). IsBegun (front ++ (c ∷ [])) p y PInside) ei (with_part (front ++ (c ∷ [])) p i a PInside ea b)) (k ∙ ap (after_all start) h)
 sign_at front c p i a before q b (InValue t key w v u value s e n h) k = value_sign front c p i t key w v u value s q (with_part (front ++ (c ∷ [])) p i a (PQuoted t key w v u (value ++ (s ∷ []))) e b) (k ∙ ap (after_all start) h)
 sign_at front c p i a before q b (InName m d e n h) k =
@@ -179,11 +176,11 @@ sign_at front c p i a before q b (InInstruction m d e n h) k =
     let f = last_text front c p i (PInstructing (m ++ (d ∷ []))) (PInstructing m) d x.written refl in
     plain_sign front p i (PInstructing m) q before (instructing_at front p i m (begun_by front p i (PInstructing (m ++ (d ∷ []))) (PInstructing m) (front ++ (c ∷ [])) x (name_less m d n x.part_ok) f)) (f ∙ sym h) k (λ r. refl)
 
-pub length_place : (front : List ℕ) (c : ℕ) (q : Place) → PassesLength (front ++ (c ∷ [])) q → SignAt front q
-length_place front c q x = sign_at front c x.path x.items x.part x.before q x.begun x.past x.place
+pub length_place : (front : List ℕ) (c : ℕ) (q : Position) → PassesLength (front ++ (c ∷ [])) q → SignAt front q
+length_place front c q x = sign_at front c x.path x.items x.part x.before q x.begun x.past x.position
 
-pub depth_place : (text : List ℕ) (q : Place) → PassesDepth text q → (s : State) × (n : List ℕ) × StateAt text s × (s.mode ≡ Naming q n)
-depth_place text q x = (state_of x.path x.items (PNaming x.name), x.name, naming_at text x.path x.items x.name x.begun, ap (λ (y : Place). Naming y x.name) (sym (here_place x.path x.items) ∙ sym x.place))
+pub depth_place : (text : List ℕ) (q : Position) → PassesDepth text q → (s : State) × (n : List ℕ) × StateAt text s × (s.mode ≡ Naming q n)
+depth_place text q x = (state_of x.path x.items (PNaming x.name), x.name, naming_at text x.path x.items x.name x.begun, ap (λ (y : Position). Naming y x.name) (sym (here_place x.path x.items) ∙ sym x.position))
 
 -- an element begins too deep only before its name is long
 
@@ -191,7 +188,7 @@ stack_depths : (p : Path) → stack_depth (stack_of p) ≡ depth_of p
 stack_depths Top = refl
 stack_depths (Within p i t) = ap suc (stack_depths p)
 
-deep_before : (front : List ℕ) (c : ℕ) (p : Path) (i : Items) (a : Part) (before : List ℕ) (q : Place) (s : State) (n : List ℕ) → IsBegun (front ++ (c ∷ [])) p i a → IsPast p i a before → StateAt (front ++ (c ∷ [])) s → s.mode ≡ Naming q n → 128 ≤ stack_depth s.held.stack → (r : Place) × PassesDepth front r
+deep_before : (front : List ℕ) (c : ℕ) (p : Path) (i : Items) (a : Part) (before : List ℕ) (q : Position) (s : State) (n : List ℕ) → IsBegun (front ++ (c ∷ [])) p i a → IsPast p i a before → StateAt (front ++ (c ∷ [])) s → s.mode ≡ Naming q n → 128 ≤ stack_depth s.held.stack → (r : Position) × PassesDepth front r
 deep_before front c p i a before q s n b (InRun j y w ei ea m h) st sm d =
     let x = inside_at (front ++ (c ∷ [])) p (Shown j y) (subst (λ (z : Items). IsBegun (front ++ (c ∷ [])) p z PInside) ei (with_part (front ++ (c ∷ [])) p i a PInside ea b)) in
     let g : Inside ≡ Naming q n = ap (λ (z : State). z.mode) (some_same (sym x ∙ st)) ∙ sm in
@@ -211,7 +208,7 @@ deep_before front c p i a before q s n b (InName m k e l h) st sm d =
         name = m;
         begun = begun_by front p i (PNaming (m ++ (k ∷ []))) (PNaming m) (front ++ (c ∷ [])) x (x.part_ok.0, name_less m k l x.part_ok.1) f;
         deep = subst (λ z. 128 ≤ z) (ap (λ (z : State). stack_depth z.held.stack) (some_same (sym st ∙ y)) ∙ stack_depths p) d;
-        place = refl;
+        position = refl;
       },
     )
 deep_before front c p i a before q s n b (InKey t key k e l h) st sm d =
@@ -223,7 +220,7 @@ deep_before front c p i a before q s n b (InInstruction m k e l h) st sm d =
     let g : (state_of p i (PInstructing (m ++ (k ∷ [])))).mode ≡ Naming q n = ap (λ (z : State). z.mode) (some_same (sym x ∙ st)) ∙ sm in
     absurd (cc)
 
-pub not_both : (front : List ℕ) (c : ℕ) (p q : Place) → PassesDepth (front ++ (c ∷ [])) p → PassesLength (front ++ (c ∷ [])) q → (r : Place) × PassesDepth front r
+pub not_both : (front : List ℕ) (c : ℕ) (p q : Position) → PassesDepth (front ++ (c ∷ [])) p → PassesLength (front ++ (c ∷ [])) q → (r : Position) × PassesDepth front r
 not_both front c p q x y =
     deep_before front c y.path y.items y.part y.before p (state_of x.path x.items (PNaming x.name)) x.name y.begun y.past (naming_at (front ++ (c ∷ [])) x.path x.items x.name x.begun)
-    (ap (λ (z : Place). Naming z x.name) (sym (here_place x.path x.items) ∙ sym x.place)) (subst (λ z. 128 ≤ z) (sym (stack_depths x.path)) x.deep)
+    (ap (λ (z : Position). Naming z x.name) (sym (here_place x.path x.items) ∙ sym x.position)) (subst (λ z. 128 ≤ z) (sym (stack_depths x.path)) x.deep)

@@ -2,19 +2,20 @@
 -- Above the runs, below the steps.
 use Rattle.std.proofs.Common.{◌≡◌, ℕ, Bool, true, false, cond, not, ◌&&◌, ◌||◌, List, [], ◌∷◌, ◌++◌, None, length, refl, sym, ◌∙◌, ap, append_assoc, append-nil}
 use lib.Utf8.{encodes}
-use Rattle.fx_doc_grammar.specs.Characters.{class_of, IsWhite, start, after_all, Each}
+use Rattle.fx_doc_grammar.specs.Characters.{class_of, IsWhite, Each}
+use Rattle.fx_base.specs.Positions.{start, after_all}
 use Rattle.fx_doc_grammar.specs.Grammar.{IsNamed, IsName, IsFilled, Sign, Plain, sign_code, Sign_ok, is_plain, Value_ok, Value_sign_ok, Written, attribute_text, attributes_text, Attribute_ok, Attributes_ok, Tag, tag_text, Tag_ok, is_among, Items, Empty, Shown, Comment, Instruction, Leaf, Branch, items_text, IsComment, IsApart, Instruction_ok, Content_ok, has_element, Attr, Level, one_child, closed, value_of, attr_at, attributes_of, head_of, level_of, root_of, imports_of, listed}
 use Rattle.fx_doc_grammar.specs.Machine.{Stack, Bottom, Opened, Held, Mode, Inside, Referring, Opening, Banged, BangDashed, Commented, Dashed, DashDashed, Asked, Instructing, NameAsked, Instructed, EndAsked, Naming, Spaced, Tight, Keyed, KeySpaced, Signed, Quoted, ValueReferring, Slashed, Ending, Ended, State, is_open, is_nothing, may_begin, with_sign, with_instruction, with_leaf, open_element, keys_of}
 use Rattle.fx_doc_grammar.specs.Beginnings.{Path, Top, Within, Part, PInside, PReferring, PLess, PBang, PBangDash, PComment, PDashed, PDashDashed, PAsk, PInstructing, PNameAsked, PInstructed, PEndAsked, PNaming, PSpaced, PTight, PKeyed, PKeySpaced, PSigned, PQuoted, PValueReferring, PSlashed, PEnding, PEnded, value_part, part_text, path_text, zip_text, Items_ok, IsRoom, IsWithin, Path_ok, Part_ok, keys}
 use Rattle.fx_doc_grammar.proofs.Runs.{after-append}
 use Rattle.fx_doc_grammar.specs.declared.Class.TheVariants.{White}
-use Rattle.fx_doc_grammar.specs.declared.Place.{Place}
+use Rattle.fx_base.specs.declared.positions.Position.{Position}
 
-abbrev pub place_at : Path → Place
+abbrev pub place_at : Path → Position
 place_at Top = start
 place_at (Within p i t) = after_all (after_all (place_at p) (items_text i)) (tag_text t ++ (62 ∷ []))
 
-abbrev pub here : Path → Items → Place
+abbrev pub here : Path → Items → Position
 here p i = after_all (place_at p) (items_text i)
 
 abbrev pub level_at : Path → Items → Level
@@ -32,7 +33,7 @@ imports_at (Within p j t) i = imports_at p j
 abbrev pub held_of : Path → Items → Held
 held_of p i = record { imports = imports_at p i; stack = stack_of p; level = level_at p i }
 
-abbrev pub mode_of : Place → Part → Mode
+abbrev pub mode_of : Position → Part → Mode
 mode_of q PInside = Inside
 mode_of q (PReferring e ds) = Referring q e
 mode_of q PLess = Opening q
@@ -109,7 +110,7 @@ pub held_branch : (p : Path) (i : Items) (t : Tag) (inner : Items) (w : List ℕ
 held_branch Top i t inner w = refl
 held_branch (Within p j u) i t inner w = refl
 
-pub none_yet : (q : Place) (i : Items) → is_nothing (root_of q i) ≡ not (has_element i)
+pub none_yet : (q : Position) (i : Items) → is_nothing (root_of q i) ≡ not (has_element i)
 none_yet q Empty = refl
 none_yet q (Shown i s) = none_yet q i
 none_yet q (Comment i x) = none_yet q i
@@ -177,13 +178,13 @@ pub attributes_text-append : (a b : List Written) → attributes_text (a ++ b) �
 attributes_text-append [] b = refl
 attributes_text-append (x ∷ a) b = ap (λ z. attribute_text x ++ z) (attributes_text-append a b) ∙ sym (append_assoc (attribute_text x) (attributes_text a) (attributes_text b))
 
-pub attributes_of-more : (p : Place) (ats : List Written) (a : Written) → attributes_of p (ats ++ (a ∷ [])) ≡ attributes_of p ats ++ (attr_at (after_all p (attributes_text ats)) a ∷ [])
+pub attributes_of-more : (p : Position) (ats : List Written) (a : Written) → attributes_of p (ats ++ (a ∷ [])) ≡ attributes_of p ats ++ (attr_at (after_all p (attributes_text ats)) a ∷ [])
 attributes_of-more p [] a = refl
 attributes_of-more p (x ∷ ats) a =
     ap (λ (z : List Attr). attr_at p x ∷ z) (attributes_of-more (after_all p (attribute_text x)) ats a
     ∙ ap (λ q. attributes_of (after_all p (attribute_text x)) ats ++ (attr_at q a ∷ [])) (sym (after-append p (attribute_text x) (attributes_text ats))))
 
-pub keys_of_are : (p : Place) (ats : List Written) → keys_of (attributes_of p ats) ≡ keys ats
+pub keys_of_are : (p : Position) (ats : List Written) → keys_of (attributes_of p ats) ≡ keys ats
 keys_of_are p [] = refl
 keys_of_are p (a ∷ ats) = ap (λ (z : List (List ℕ)). a.key ∷ z) (keys_of_are (after_all p (attribute_text a)) ats)
 

@@ -2,7 +2,7 @@
 -- Above the states; the theorems on whole texts rest on it.
 use Rattle.std.proofs.Common.{◌≡◌, ℕ, Bool, true, false, List, [], ◌∷◌, ◌++◌, Option, Some, None, refl, sym, ◌∙◌, ap, subst, append_assoc, append-nil, arith}
 use lib.Utf8.{encode, encodes}
-use Rattle.fx_doc_grammar.specs.Characters.{class_of, in_name, is_white, is_letter, is_later, IsWhite, Each}
+use Rattle.fx_doc_grammar.specs.Characters.{class_of, in_name, IsWhite, Each}
 use Rattle.fx_doc_grammar.specs.Grammar.{IsNamed, IsName, Plain, is_plain, Tag, tag_text, Tag_ok, Items, Empty, Shown, Comment, Instruction, Branch, items_text, comment_text, instruction_text, end_text}
 use Rattle.fx_doc_grammar.specs.Machine.{Held, Inside, Referring, Commented, Instructing, Instructed, EndAsked, Naming, State, at, some_if, is_open, may_begin, with_sign, close, in_inside, in_opening, in_banged, in_bang_dashed, in_commented, in_dashed, in_dash_dashed, in_asked, in_instructing, in_name_asked, in_instructed, in_end_asked}
 use Rattle.fx_doc_grammar.specs.Beginnings.{Path, Top, Within, Part, PInside, PReferring, PLess, PBang, PBangDash, PComment, PDashed, PDashDashed, PAsk, PInstructing, PNameAsked, PInstructed, PEndAsked, PNaming, PEnding, part_text, path_text, zip_text, Items_ok, IsRoom, Path_ok, HasNoEnd, EndsOtherwise, Part_ok}
@@ -132,15 +132,15 @@ adv_bang_dash p i c s o k e h = absurd (none_some h)
 -- comments and instructions -----------------------------------------------------------------------
 
 pub class_dash : class_of 45 ≡ Dash
-unfolding class_of is_white is_letter is_later
+unfolding class_of
 class_dash = refl
 
 pub class_question : class_of 63 ≡ Question
-unfolding class_of is_white is_letter is_later
+unfolding class_of
 class_question = refl
 
 pub class_greater : class_of 62 ≡ Greater
-unfolding class_of is_white is_letter is_later
+unfolding class_of
 class_greater = refl
 
 -- a last character of another class
@@ -190,7 +190,7 @@ pub adv_ask : (p : Path) (i : Items) (c : ℕ) (s : State) → Placed p i → (k
 adv_ask p i c s o Letter e h = stay p i PAsk (PInstructing (c ∷ [])) c s o (e, tt) refl h
 adv_ask p i c s o k e h = absurd (none_some h)
 
-named_at : (c : ℕ) (k : Class) → class_of c ≡ k → in_name k ≡ true → IsNamed c
+pub named_at : (c : ℕ) (k : Class) → class_of c ≡ k → in_name k ≡ true → IsNamed c
 named_at c k e h = ap in_name e ∙ h
 
 instructing_more : (p : Path) (i : Items) (n : List ℕ) (c : ℕ) (s : State) → Placed p i → IsName n → (k : Class) → class_of c ≡ k → some_if (in_name k) (at (held_of p i) (Instructing (n ++ (c ∷ [])))) ≡ Some s → Leads p i (PInstructing n) c s

@@ -2,22 +2,20 @@
 -- Beside the steps of comments and instructions.
 use Rattle.std.proofs.Common.{◌≡◌, ℕ, ◌+◌, Bool, true, false, List, [], ◌∷◌, ◌++◌, Some, length, refl, sym, ◌∙◌, ap, subst, append_assoc, append-nil, length-append, arith}
 use lib.Dec.{eqb}
-use Rattle.fx_doc_grammar.specs.Characters.{class_of, in_name, IsWhite, after_all}
-use Rattle.fx_doc_grammar.specs.Grammar.{IsNamed, Sign, Plain, sign_text, sign_value, signs_text, is_plain, is_quote, Value_sign_ok, Written, attributes_text, quote_code, Tag, tag_text, Tag_ok, is_among, Items, Leaf, Attr, Head, value_byte, value_of, attributes_of, head_of}
+use Rattle.fx_doc_grammar.specs.Characters.{class_of, in_name, IsWhite}
+use Rattle.fx_base.specs.Positions.{after_all}
+use Rattle.fx_doc_grammar.specs.Grammar.{Sign, Plain, sign_text, sign_value, signs_text, is_plain, is_quote, Value_sign_ok, Written, attributes_text, quote_code, Tag, tag_text, Tag_ok, is_among, Items, Leaf, Attr, Head, value_byte, value_of, attributes_of, head_of}
 use Rattle.fx_doc_grammar.specs.Machine.{Held, Inside, Naming, Tight, Keyed, KeySpaced, Signed, Quoted, Ending, State, at, some_if, keys_of, is_fresh, with_attribute, in_naming, in_spaced, in_tight, in_keyed, in_key_spaced, in_signed, in_value, in_quoted, in_slashed, in_ended, in_ending}
 use Rattle.fx_doc_grammar.specs.Beginnings.{Path, Top, Within, PNaming, PSpaced, PTight, PKeyed, PKeySpaced, PSigned, PQuoted, PValueReferring, PSlashed, PEnding, PEnded, value_part, IsOpenName, keys, Part_ok}
 use Rattle.fx_doc_grammar.proofs.Runs.{after-append, signs_text-append, value_of-append, fits_at}
 use Rattle.fx_doc_grammar.proofs.States.{here, held_of, state_of, held_leaf, held_open, leaf_ok, not_false, attributes_text-append, attributes_of-more, keys_of_are, attributes_more, value_more, each_more, name_more, filled_more}
-use Rattle.fx_doc_grammar.proofs.Steps.{Leads, Placed, none_some, stay, done, opens, closes, if_some}
+use Rattle.fx_doc_grammar.proofs.Steps.{Leads, Placed, none_some, stay, done, opens, closes, if_some, named_at}
 use Rattle.fx_doc_grammar.specs.declared.Class.{Class}
 use Rattle.fx_doc_grammar.specs.declared.Class.TheVariants.{White, Less, Greater, Slash, Equals, Quotation, Apostrophe, Ampersand, Letter}
 use Rattle.fx_doc_grammar.specs.declared.Quote.{Quote}
 use Rattle.fx_doc_grammar.specs.declared.Quote.TheVariants.{Single, Double}
 use Rattle.fx_doc_grammar.specs.declared.Entity.TheVariants.{Begun}
-use Rattle.fx_doc_grammar.specs.declared.Place.{Place}
-
-named_at : (c : ℕ) (k : Class) → class_of c ≡ k → in_name k ≡ true → IsNamed c
-named_at c k e h = ap in_name e ∙ h
+use Rattle.fx_base.specs.declared.positions.Position.{Position}
 
 -- the tag of a name alone
 abbrev bare : List ℕ → List ℕ → Tag
@@ -69,7 +67,7 @@ adv_slashed p i t c s o z k e h = absurd (none_some h)
 
 -- attributes
 
-pub fresh_key : (q : Place) (t : Tag) (key : List ℕ) → is_fresh key (head_of q t) ≡ true → is_among key (keys t.attributes) ≡ false
+pub fresh_key : (q : Position) (t : Tag) (key : List ℕ) → is_fresh key (head_of q t) ≡ true → is_among key (keys t.attributes) ≡ false
 fresh_key q t key e = sym (ap (λ y. is_among key y) (keys_of_are (after_all q (60 ∷ t.name)) t.attributes)) ∙ not_false (is_among key (keys_of (attributes_of (after_all q (60 ∷ t.name)) t.attributes))) e
 
 keyed_more : (p : Path) (i : Items) (t : Tag) (key : List ℕ) (c : ℕ) (s : State) → Placed p i → Part_ok p i (PKeyed t key) → (k : Class) → class_of c ≡ k → some_if (in_name k) (at (held_of p i) (Keyed (head_of (here p i) t) (after_all (here p i) (tag_text t)) (key ++ (c ∷ [])))) ≡ Some s → Leads p i (PKeyed t key) c s
@@ -134,11 +132,11 @@ with_whole_text t key w v u value =
     whole_lists (60 ∷ t.name) (attributes_text t.attributes) t.white (key ++ (w ++ (61 ∷ (v ++ (quote_code u ∷ signs_text value))))) (key ++ (w ++ (61 ∷ (v ++ (quote_code u ∷ (signs_text value ++ (quote_code u ∷ []))))))) (quote_code u ∷ []) (value_tail key w v (signs_text value) (quote_code u))
     ∙ ap (λ y. (60 ∷ t.name) ++ (y ++ [])) (sym (attributes_text-append t.attributes (whole t.white key w v u value ∷ [])))
 
-with_whole_head : (q : Place) (t : Tag) (key w v : List ℕ) (u : Quote) (value : List Sign) → head_of q (with_whole t key w v u value) ≡ with_attribute (head_of q t) (after_all q (tag_text t)) key (value_of value)
+with_whole_head : (q : Position) (t : Tag) (key w v : List ℕ) (u : Quote) (value : List Sign) → head_of q (with_whole t key w v u value) ≡ with_attribute (head_of q t) (after_all q (tag_text t)) key (value_of value)
 with_whole_head q t key w v u value =
-    ap (λ (y : List Attr). record { name = t.name; attributes = y; place = q })
+    ap (λ (y : List Attr). record { name = t.name; attributes = y; position = q })
     (attributes_of-more (after_all q (60 ∷ t.name)) t.attributes (whole t.white key w v u value)
-    ∙ ap (λ (y : Place). attributes_of (after_all q (60 ∷ t.name)) t.attributes ++ (record { name = key; value = value_of value; place = y } ∷ []))
+    ∙ ap (λ (y : Position). attributes_of (after_all q (60 ∷ t.name)) t.attributes ++ (record { name = key; value = value_of value; position = y } ∷ []))
     (sym (after-append (after_all q (60 ∷ t.name)) (attributes_text t.attributes) t.white) ∙ sym (after-append q (60 ∷ t.name) (attributes_text t.attributes ++ t.white))))
 
 pub value_text : (t : Tag) (key w v : List ℕ) (u : Quote) (value : List Sign) (x : Sign) → value_part t key w v u value ++ sign_text x ≡ value_part t key w v u (value ++ (x ∷ []))

@@ -1,7 +1,8 @@
 -- What is written the machine takes: items, open elements, and whole documents.
 -- Above the goings over each piece.
 use Rattle.std.proofs.Common.{◌≡◌, ℕ, Bool, true, false, not, List, [], ◌∷◌, ◌++◌, Option, Some, None, refl, sym, ◌∙◌, ap}
-use Rattle.fx_doc_grammar.specs.Characters.{class_of, is_white, is_letter, is_later, IsWhite, start, after, after_all, Each}
+use Rattle.fx_doc_grammar.specs.Characters.{class_of, IsWhite, Each}
+use Rattle.fx_base.specs.Positions.{start, after, after_all}
 use Rattle.fx_doc_grammar.specs.Grammar.{Reference, reference_text, Reference_ok, stands_for, Sign, Plain, Stands, sign_text, is_plain, Tag, tag_text, Tag_ok, Items, Empty, Shown, Comment, Instruction, Leaf, Branch, items_text, IsComment, Instruction_ok, Content_ok, has_element, comment_text, instruction_text, end_text, Head, head_of, root_of, imports_of, Reading, Spells}
 use Rattle.fx_doc_grammar.specs.Machine.{entity_step, Bottom, Held, Inside, Referring, Slashed, State, at, initial, is_nothing, with_sign, with_leaf, in_inside, in_referring, step, run, answer, answer_of}
 use Rattle.fx_doc_grammar.specs.Beginnings.{Path, Top, Within, PInside, PReferring, path_text, Items_ok, IsRoom, IsWithin, Path_ok}
@@ -15,7 +16,7 @@ use Rattle.fx_doc_grammar.specs.declared.Class.TheVariants.{White, Less, Ampersa
 use Rattle.fx_doc_grammar.specs.declared.Entity.TheVariants.{Begun}
 use Rattle.fx_doc_grammar.specs.declared.Turn.{Turn}
 use Rattle.fx_doc_grammar.specs.declared.Turn.TheVariants.{Further, Whole}
-use Rattle.fx_doc_grammar.specs.declared.Place.{Place}
+use Rattle.fx_base.specs.declared.positions.Position.{Position}
 
 plain_inside : (p : Path) (i : Items) (c : ℕ) → IsWithin p → (k : Class) → is_plain k ≡ true → in_inside (here p i) (held_of p i) c k ≡ at (with_sign (here p i) c (held_of p i)) Inside
 plain_inside Top i c w k e = absurd w
@@ -29,11 +30,11 @@ plain_step Top i c o = ap (λ k. in_inside (here Top i) (held_of Top i) c k) o.1
 plain_step (Within p j t) i c o = plain_inside (Within p j t) i c tt (class_of c) o.1
 
 pub ampersand_inside : (p : Path) (i : Items) → IsWithin p → step (here p i) (state_of p i PInside) 38 ≡ Some (state_of p i (PReferring Begun []))
-unfolding class_of is_white is_letter is_later
+unfolding class_of
 ampersand_inside Top i w = absurd w
 ampersand_inside (Within p j t) i w = refl
 
-pub referring_turned : (h : Held) (q : Place) (o : Option Turn) → in_referring q h o ≡ turned (λ e. as_state h (Referring q e)) (λ n. as_state (with_sign q n h) Inside) o
+pub referring_turned : (h : Held) (q : Position) (o : Option Turn) → in_referring q h o ≡ turned (λ e. as_state h (Referring q e)) (λ n. as_state (with_sign q n h) Inside) o
 referring_turned h q (Some (Further e)) = refl
 referring_turned h q (Some (Whole n)) = refl
 referring_turned h q None = refl
@@ -74,8 +75,8 @@ before_branch : (p : Path) (i : Items) (t : Tag) (inner : Items) (w : List ℕ) 
 before_branch Top i t inner w o = o
 before_branch (Within p j u) i t inner w o = (o.0, tt, o.1, o.2, o.3)
 
-slashed_last : (h : Held) (head : Head) (p : Place) → step p (as_state h (Slashed head)) 62 ≡ Some (as_state (with_leaf h head) Inside)
-unfolding class_of is_white is_letter is_later
+slashed_last : (h : Held) (head : Head) (p : Position) → step p (as_state h (Slashed head)) 62 ≡ Some (as_state (with_leaf h head) Inside)
+unfolding class_of
 slashed_last h head p = refl
 
 pub leaf_goes : (p : Path) (i : Items) (t : Tag) → TagGoes (held_of p i) (here p i) t → Goes (here p i) (state_of p i PInside) (tag_text t ++ (47 ∷ (62 ∷ []))) (state_of p (Leaf i t) PInside)
@@ -89,7 +90,7 @@ item_after : (p : Path) (i j : Items) (piece : List ℕ) → items_text j ≡ it
     → Goes (place_at p) (state_of p Empty PInside) (items_text j) (state_of p j PInside)
 item_after p i j piece e g h = over (sym e) (seq g h)
 
-pub branch_end : (p : Path) (i : Items) (t : Tag) (inner : Items) (w : List ℕ) → Each IsWhite w → (q : Place) → Goes q (state_of (Within p i t) inner PInside) (end_text t.name w) (state_of p (Branch i t inner w) PInside)
+pub branch_end : (p : Path) (i : Items) (t : Tag) (inner : Items) (w : List ℕ) → Each IsWhite w → (q : Position) → Goes q (state_of (Within p i t) inner PInside) (end_text t.name w) (state_of p (Branch i t inner w) PInside)
 branch_end p i t inner w o q = ends_at (ap (λ (y : Held). as_state y Inside) (sym (held_branch p i t inner w)))
     (end_goes (imports_at (Within p i t) inner) (stack_of p) (level_at p i) (head_of (here p i) t) (level_at (Within p i t) inner) w o q)
 

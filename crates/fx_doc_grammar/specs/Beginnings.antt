@@ -1,12 +1,15 @@
--- The beginnings of documents: what has been written up to a place, as a path of open elements and the part that is being written there.
--- The limits on depth and length are facts of beginnings, and not of documents.
-use Rattle.std.specs.Prelude.{◌≡◌, ℕ, suc, ◌+◌, ◌≤◌, false, List, [], ◌∷◌, ◌++◌, length}
-use Rattle.fx_doc_grammar.specs.Characters.{IsWhite, start, after_all, Each}
-use Rattle.fx_doc_grammar.specs.Grammar.{IsName, IsFilled, number_on, IsDecimal, IsHexadecimal, Sign, signs_text, Value_ok, Written, quote_code, Tag, tag_text, Tag_ok, is_among, Items, Empty, Shown, Comment, Instruction, Leaf, Branch, items_text, IsApart, Content_ok, Top_ok, has_element, IsMarkup}
+-- The beginnings of documents: what has been written up to a position, as a path of open elements and the part that is
+-- being written there. The limits on depth and length are facts of beginnings, and not of documents.
+use Rattle.std.specs.Prelude.{◌≡◌, ℕ, suc, ◌+◌, ◌≤◌, false, List, [], ◌∷◌, ◌++◌, length, codes}
+use Rattle.std.specs.Str.Parse.{digits_value}
+use Rattle.fx_text.specs.Characters as ascii
+use Rattle.fx_base.specs.Positions.{start, after_all}
+use Rattle.fx_base.specs.declared.positions.Position.{Position}
+use Rattle.fx_doc_grammar.specs.Characters.{IsWhite, Each, last_code}
+use Rattle.fx_doc_grammar.specs.Grammar.{IsName, IsFilled, IsDecimal, IsHexadecimal, Sign, signs_text, Value_ok, Written, quote_code, Tag, tag_text, Tag_ok, is_among, Items, Empty, Shown, Comment, Instruction, Leaf, Branch, items_text, IsApart, Content_ok, Top_ok, has_element, IsMarkup}
 use Rattle.fx_doc_grammar.specs.declared.Quote.{Quote}
 use Rattle.fx_doc_grammar.specs.declared.Entity.{Entity}
 use Rattle.fx_doc_grammar.specs.declared.Entity.TheVariants.{Begun, A, Am, Amp, Ap, Apo, Apos, G, Gt, L, Lt, Q, Qu, Quo, Quot, Hash, Decimal, Hex, HexDigits}
-use Rattle.fx_doc_grammar.specs.declared.Place.{Place}
 
 -- the open elements, the innermost outside, with what stands before each and its tag
 pub data Path : Type 0 where
@@ -43,69 +46,71 @@ pub data Part : Type 0 where
   PEnded : List ℕ → List ℕ → Part
 
 abbrev pub entity_text : Entity → List ℕ → List ℕ
-entity_text Begun ds = 38 ∷ []
-entity_text A ds = 38 ∷ (97 ∷ [])
-entity_text Am ds = 38 ∷ (97 ∷ (109 ∷ []))
-entity_text Amp ds = 38 ∷ (97 ∷ (109 ∷ (112 ∷ [])))
-entity_text Ap ds = 38 ∷ (97 ∷ (112 ∷ []))
-entity_text Apo ds = 38 ∷ (97 ∷ (112 ∷ (111 ∷ [])))
-entity_text Apos ds = 38 ∷ (97 ∷ (112 ∷ (111 ∷ (115 ∷ []))))
-entity_text G ds = 38 ∷ (103 ∷ [])
-entity_text Gt ds = 38 ∷ (103 ∷ (116 ∷ []))
-entity_text L ds = 38 ∷ (108 ∷ [])
-entity_text Lt ds = 38 ∷ (108 ∷ (116 ∷ []))
-entity_text Q ds = 38 ∷ (113 ∷ [])
-entity_text Qu ds = 38 ∷ (113 ∷ (117 ∷ []))
-entity_text Quo ds = 38 ∷ (113 ∷ (117 ∷ (111 ∷ [])))
-entity_text Quot ds = 38 ∷ (113 ∷ (117 ∷ (111 ∷ (116 ∷ []))))
-entity_text Hash ds = 38 ∷ (35 ∷ [])
-entity_text (Decimal n) ds = 38 ∷ (35 ∷ ds)
-entity_text Hex ds = 38 ∷ (35 ∷ (120 ∷ []))
-entity_text (HexDigits n) ds = 38 ∷ (35 ∷ (120 ∷ ds))
+entity_text Begun ds = codes "&"
+entity_text A ds = codes "&a"
+entity_text Am ds = codes "&am"
+entity_text Amp ds = codes "&amp"
+entity_text Ap ds = codes "&ap"
+entity_text Apo ds = codes "&apo"
+entity_text Apos ds = codes "&apos"
+entity_text G ds = codes "&g"
+entity_text Gt ds = codes "&gt"
+entity_text L ds = codes "&l"
+entity_text Lt ds = codes "&lt"
+entity_text Q ds = codes "&q"
+entity_text Qu ds = codes "&qu"
+entity_text Quo ds = codes "&quo"
+entity_text Quot ds = codes "&quot"
+entity_text Hash ds = codes "&#"
+entity_text (Decimal n) ds = codes "&#" ++ ds
+entity_text Hex ds = codes "&#x"
+entity_text (HexDigits n) ds = codes "&#x" ++ ds
 
 abbrev pub Entity_ok : Entity → List ℕ → Type 0
-Entity_ok (Decimal n) ds = IsFilled ds × Each IsDecimal ds × (number_on 10 0 ds ≡ n) × (n ≤ 1114111)
-Entity_ok (HexDigits n) ds = IsFilled ds × Each IsHexadecimal ds × (number_on 16 0 ds ≡ n) × (n ≤ 1114111)
+Entity_ok (Decimal n) ds = IsFilled ds × Each IsDecimal ds × (digits_value 10 ds ≡ n) × (n ≤ last_code)
+Entity_ok (HexDigits n) ds = IsFilled ds × Each IsHexadecimal ds × (digits_value 16 ds ≡ n) × (n ≤ last_code)
 Entity_ok _ ds = Unit {0}
 
-abbrev pub key_text : Tag → List ℕ → List ℕ → List ℕ
+abbrev key_text : Tag → List ℕ → List ℕ → List ℕ
 key_text t key before = tag_text t ++ (key ++ before)
 
-abbrev pub sign_part : Tag → List ℕ → List ℕ → List ℕ → List ℕ
-sign_part t key before behind = tag_text t ++ (key ++ (before ++ (61 ∷ behind)))
+abbrev sign_part : Tag → List ℕ → List ℕ → List ℕ → List ℕ
+sign_part t key before behind = tag_text t ++ (key ++ (before ++ (ascii.equals_sign ∷ behind)))
 
 abbrev pub value_part : Tag → List ℕ → List ℕ → List ℕ → Quote → List Sign → List ℕ
-value_part t key before behind quote value = tag_text t ++ (key ++ (before ++ (61 ∷ (behind ++ (quote_code quote ∷ signs_text value)))))
+value_part t key before behind quote value =
+    tag_text t ++ (key ++ (before ++ (ascii.equals_sign ∷ (behind ++ (quote_code quote ∷ signs_text value)))))
 
 abbrev pub part_text : Part → List ℕ
 part_text PInside = []
 part_text (PReferring e ds) = entity_text e ds
-part_text PLess = 60 ∷ []
-part_text PBang = 60 ∷ (33 ∷ [])
-part_text PBangDash = 60 ∷ (33 ∷ (45 ∷ []))
-part_text (PComment x) = 60 ∷ (33 ∷ (45 ∷ (45 ∷ x)))
-part_text (PDashed x) = 60 ∷ (33 ∷ (45 ∷ (45 ∷ (x ++ (45 ∷ [])))))
-part_text (PDashDashed x) = 60 ∷ (33 ∷ (45 ∷ (45 ∷ (x ++ (45 ∷ (45 ∷ []))))))
-part_text PAsk = 60 ∷ (63 ∷ [])
-part_text (PInstructing n) = 60 ∷ (63 ∷ n)
-part_text (PNameAsked n) = 60 ∷ (63 ∷ (n ++ (63 ∷ [])))
-part_text (PInstructed n x) = 60 ∷ (63 ∷ (n ++ x))
-part_text (PEndAsked n x) = 60 ∷ (63 ∷ (n ++ (x ++ (63 ∷ []))))
-part_text (PNaming n) = 60 ∷ n
+part_text PLess = codes "<"
+part_text PBang = codes "<!"
+part_text PBangDash = codes "<!-"
+part_text (PComment x) = codes "<!--" ++ x
+part_text (PDashed x) = codes "<!--" ++ (x ++ codes "-")
+part_text (PDashDashed x) = codes "<!--" ++ (x ++ codes "--")
+part_text PAsk = codes "<?"
+part_text (PInstructing n) = codes "<?" ++ n
+part_text (PNameAsked n) = codes "<?" ++ (n ++ codes "?")
+part_text (PInstructed n x) = codes "<?" ++ (n ++ x)
+part_text (PEndAsked n x) = codes "<?" ++ (n ++ (x ++ codes "?"))
+part_text (PNaming n) = ascii.less_than_sign ∷ n
 part_text (PSpaced t) = tag_text t
 part_text (PTight t) = tag_text t
 part_text (PKeyed t key) = tag_text t ++ key
 part_text (PKeySpaced t key before) = key_text t key before
 part_text (PSigned t key before behind) = sign_part t key before behind
 part_text (PQuoted t key before behind quote value) = value_part t key before behind quote value
-part_text (PValueReferring t key before behind quote value e ds) = value_part t key before behind quote value ++ entity_text e ds
-part_text (PSlashed t) = tag_text t ++ (47 ∷ [])
-part_text (PEnding said rest) = 60 ∷ (47 ∷ said)
-part_text (PEnded name white) = 60 ∷ (47 ∷ (name ++ white))
+part_text (PValueReferring t key before behind quote value e ds) =
+    value_part t key before behind quote value ++ entity_text e ds
+part_text (PSlashed t) = tag_text t ++ codes "/"
+part_text (PEnding said rest) = codes "</" ++ said
+part_text (PEnded name white) = codes "</" ++ (name ++ white)
 
 abbrev pub path_text : Path → List ℕ
 path_text Top = []
-path_text (Within p i t) = (path_text p ++ items_text i) ++ (tag_text t ++ (62 ∷ []))
+path_text (Within p i t) = (path_text p ++ items_text i) ++ (tag_text t ++ codes ">")
 
 abbrev pub zip_text : Path → Items → Part → List ℕ
 zip_text p i part = (path_text p ++ items_text i) ++ part_text part
@@ -133,7 +138,7 @@ IsOpenName (Within p i t) n = n ≡ t.name
 
 -- no end of a comment, or of an instruction, has been written
 abbrev pub HasNoEnd : List ℕ → List ℕ → Type 0
-HasNoEnd e x = (a b : List ℕ) → x ≡ a ++ (e ++ (62 ∷ b)) → ⊥
+HasNoEnd e x = (a b : List ℕ) → x ≡ a ++ (e ++ (ascii.greater_than_sign ∷ b)) → ⊥
 
 abbrev pub EndsOtherwise : ℕ → List ℕ → Type 0
 EndsOtherwise c x = (a : List ℕ) → x ≡ a ++ (c ∷ []) → ⊥
@@ -142,10 +147,10 @@ abbrev pub keys : List Written → List (List ℕ)
 keys [] = []
 keys (a ∷ ats) = a.key ∷ keys ats
 
-abbrev pub Key_ok : Tag → List ℕ → Type 0
+abbrev Key_ok : Tag → List ℕ → Type 0
 Key_ok t key = Tag_ok t × IsFilled t.white × IsName key
 
-abbrev pub Fresh_key_ok : Tag → List ℕ → List ℕ → Type 0
+abbrev Fresh_key_ok : Tag → List ℕ → List ℕ → Type 0
 Fresh_key_ok t key before = Key_ok t key × (is_among key (keys t.attributes) ≡ false) × Each IsWhite before
 
 abbrev pub Part_ok : Path → Items → Part → Type 0
@@ -154,22 +159,25 @@ Part_ok p i (PReferring e ds) = IsWithin p × Entity_ok e ds
 Part_ok p i PLess = Unit {0}
 Part_ok p i PBang = Unit {0}
 Part_ok p i PBangDash = Unit {0}
-Part_ok p i (PComment x) = HasNoEnd (45 ∷ (45 ∷ [])) x × EndsOtherwise 45 x
-Part_ok p i (PDashed x) = HasNoEnd (45 ∷ (45 ∷ [])) (x ++ (45 ∷ [])) × EndsOtherwise 45 x
-Part_ok p i (PDashDashed x) = HasNoEnd (45 ∷ (45 ∷ [])) (x ++ (45 ∷ (45 ∷ []))) × Unit {0}
+Part_ok p i (PComment x) = HasNoEnd (codes "--") x × EndsOtherwise ascii.hyphen x
+Part_ok p i (PDashed x) = HasNoEnd (codes "--") (x ++ codes "-") × EndsOtherwise ascii.hyphen x
+Part_ok p i (PDashDashed x) = HasNoEnd (codes "--") (x ++ codes "--") × Unit {0}
 Part_ok p i PAsk = Unit {0}
 Part_ok p i (PInstructing n) = IsName n
 Part_ok p i (PNameAsked n) = IsName n
-Part_ok p i (PInstructed n x) = IsName n × IsFilled x × IsApart x × HasNoEnd (63 ∷ []) x × EndsOtherwise 63 x
-Part_ok p i (PEndAsked n x) = IsName n × IsFilled x × IsApart x × HasNoEnd (63 ∷ []) (x ++ (63 ∷ []))
+Part_ok p i (PInstructed n x) =
+    IsName n × IsFilled x × IsApart x × HasNoEnd (codes "?") x × EndsOtherwise ascii.question_mark x
+Part_ok p i (PEndAsked n x) = IsName n × IsFilled x × IsApart x × HasNoEnd (codes "?") (x ++ codes "?")
 Part_ok p i (PNaming n) = IsRoom p i × IsName n
 Part_ok p i (PSpaced t) = IsRoom p i × Tag_ok t × IsFilled t.white
 Part_ok p i (PTight t) = IsRoom p i × Tag_ok t × (t.white ≡ [])
 Part_ok p i (PKeyed t key) = IsRoom p i × Key_ok t key
 Part_ok p i (PKeySpaced t key before) = IsRoom p i × Fresh_key_ok t key before
 Part_ok p i (PSigned t key before behind) = IsRoom p i × Fresh_key_ok t key before × Each IsWhite behind
-Part_ok p i (PQuoted t key before behind quote value) = IsRoom p i × Fresh_key_ok t key before × Each IsWhite behind × Value_ok quote value
-Part_ok p i (PValueReferring t key before behind quote value e ds) = IsRoom p i × Fresh_key_ok t key before × Each IsWhite behind × Value_ok quote value × Entity_ok e ds
+Part_ok p i (PQuoted t key before behind quote value) =
+    IsRoom p i × Fresh_key_ok t key before × Each IsWhite behind × Value_ok quote value
+Part_ok p i (PValueReferring t key before behind quote value e ds) =
+    IsRoom p i × Fresh_key_ok t key before × Each IsWhite behind × Value_ok quote value × Entity_ok e ds
 Part_ok p i (PSlashed t) = IsRoom p i × Tag_ok t
 Part_ok p i (PEnding said rest) = IsOpenName p (said ++ rest)
 Part_ok p i (PEnded name white) = IsOpenName p name × Each IsWhite white
@@ -198,38 +206,46 @@ run_count (Leaf i t) = 0
 run_count (Branch i t inner w) = 0
 
 -- an element begins at p within 128 open ones
-pub record PassesDepth (text : List ℕ) (p : Place) : Type 0 where
+pub record PassesDepth (text : List ℕ) (p : Position) : Type 0 where
   pub path : Path
   pub items : Items
   pub name : List ℕ
   pub begun : IsBegun text path items (PNaming name)
   pub deep : 128 ≤ depth_of path
-  pub place : p ≡ after_all start (path_text path ++ items_text items)
+  pub position : p ≡ after_all start (path_text path ++ items_text items)
 
--- the last sign is the first past 4,096, of a run within an element, of a value or of a name; and what is written before it
+-- the last sign is the first past 4,096, of a run within an element, of a value or of a name; and what is written
+-- before it
 pub data IsPast (path : Path) (items : Items) (part : Part) (before : List ℕ) : Type 0 where
-  InRun : (i : Items) (s : Sign) → IsWithin path → items ≡ Shown i s → part ≡ PInside → run_count i ≡ 4096 → before ≡ path_text path ++ items_text i → IsPast path items part before
-  InValue : (t : Tag) (key w v : List ℕ) (u : Quote) (value : List Sign) (s : Sign) → part ≡ PQuoted t key w v u (value ++ (s ∷ [])) → length value ≡ 4096 → before ≡ zip_text path items (PQuoted t key w v u value) → IsPast path items part before
-  InName : (n : List ℕ) (c : ℕ) → part ≡ PNaming (n ++ (c ∷ [])) → length n ≡ 4096 → before ≡ zip_text path items (PNaming n) → IsPast path items part before
-  InKey : (t : Tag) (key : List ℕ) (c : ℕ) → part ≡ PKeyed t (key ++ (c ∷ [])) → length key ≡ 4096 → before ≡ zip_text path items (PKeyed t key) → IsPast path items part before
-  InInstruction : (n : List ℕ) (c : ℕ) → part ≡ PInstructing (n ++ (c ∷ [])) → length n ≡ 4096 → before ≡ zip_text path items (PInstructing n) → IsPast path items part before
+  InRun : (i : Items) (s : Sign) → IsWithin path → items ≡ Shown i s → part ≡ PInside → run_count i ≡ 4096
+      → before ≡ path_text path ++ items_text i → IsPast path items part before
+  InValue : (t : Tag) (key w v : List ℕ) (u : Quote) (value : List Sign) (s : Sign)
+      → part ≡ PQuoted t key w v u (value ++ (s ∷ [])) → length value ≡ 4096
+      → before ≡ zip_text path items (PQuoted t key w v u value) → IsPast path items part before
+  InName : (n : List ℕ) (c : ℕ) → part ≡ PNaming (n ++ (c ∷ [])) → length n ≡ 4096
+      → before ≡ zip_text path items (PNaming n) → IsPast path items part before
+  InKey : (t : Tag) (key : List ℕ) (c : ℕ) → part ≡ PKeyed t (key ++ (c ∷ [])) → length key ≡ 4096
+      → before ≡ zip_text path items (PKeyed t key) → IsPast path items part before
+  InInstruction : (n : List ℕ) (c : ℕ) → part ≡ PInstructing (n ++ (c ∷ [])) → length n ≡ 4096
+      → before ≡ zip_text path items (PInstructing n) → IsPast path items part before
 
 -- a sign that begins at p is the first past 4,096
-pub record PassesLength (text : List ℕ) (p : Place) : Type 0 where
+pub record PassesLength (text : List ℕ) (p : Position) : Type 0 where
   pub path : Path
   pub items : Items
   pub part : Part
   pub before : List ℕ
   pub begun : IsBegun text path items part
   pub past : IsPast path items part before
-  pub place : p ≡ after_all start before
+  pub position : p ≡ after_all start before
 
 -- no beginning of the text passes a limit
 abbrev pub IsWithinLimits : List ℕ → Type 0
-IsWithinLimits text = (front more : List ℕ) (p : Place) → text ≡ front ++ more → (PassesDepth front p → ⊥) × (PassesLength front p → ⊥)
+IsWithinLimits text = (front more : List ℕ) (p : Position) → text ≡ front ++ more
+    → (PassesDepth front p → ⊥) × (PassesLength front p → ⊥)
 
 -- the first limit that the text passes is the depth, at p; or the length
-pub record IsTooDeep (text : List ℕ) (p : Place) : Type 0 where
+pub record IsTooDeep (text : List ℕ) (p : Position) : Type 0 where
   pub front : List ℕ
   pub last : ℕ
   pub more : List ℕ
@@ -237,7 +253,7 @@ pub record IsTooDeep (text : List ℕ) (p : Place) : Type 0 where
   pub before : IsWithinLimits front
   pub passes : PassesDepth (front ++ (last ∷ [])) p
 
-pub record IsTooLong (text : List ℕ) (p : Place) : Type 0 where
+pub record IsTooLong (text : List ℕ) (p : Position) : Type 0 where
   pub front : List ℕ
   pub last : ℕ
   pub more : List ℕ
@@ -246,6 +262,6 @@ pub record IsTooLong (text : List ℕ) (p : Place) : Type 0 where
   pub passes : PassesLength (front ++ (last ∷ [])) p
 
 -- the text is no document, and passes no limit up to p, the end of its longest prefix that some document begins with
-pub record IsStopped (text : List ℕ) (p : Place) : Type 0 where
+pub record IsStopped (text : List ℕ) (p : Position) : Type 0 where
   pub markup : IsMarkup text p
   pub within : IsWithinLimits markup.front

@@ -1,15 +1,21 @@
 -- A document as it is written, and what is read of it.
--- The public sources are XML 1.0 and Introduction to FXML; the language here is the part of XML that this file states, with ASCII names.
-use Rattle.std.specs.Prelude.{◌≡◌, ℕ, ◌+◌, ◌*◌, ◌≤◌, Bool, true, false, cond, ◌&&◌, ◌||◌, List, [], ◌∷◌, ◌++◌, Option, Some, None, length}
-use lib.Dec.{eqb, leb}
-use Rattle.std.specs.Str.{chars}
+-- The public sources are XML 1.0 and Introduction to FXML; the language here is the part of XML that this file states,
+-- with ASCII names.
+use Rattle.std.specs.Prelude.{◌≡◌, ℕ, ◌+◌, ◌≤◌, Bool, true, false, ◌&&◌, if◌then◌else◌, List, [], ◌∷◌, ◌++◌, Option, Some, None, length, codes, nat_le}
+use Rattle.std.specs.Char.{is_digit}
+use Rattle.std.specs.List.{list_any}
+use Rattle.std.specs.Str.{chars, bytes_eq}
+use Rattle.std.specs.Str.Parse.{digits_value}
 use lib.Utf8.{encode, encodes}
-use Rattle.fx_doc_grammar.specs.Characters.{class_of, is_white, IsWhite, in_name, start, after_all, Each, is_decimal, is_hexadecimal, digit_value, is_character}
+use Rattle.fx_text.specs.Characters as ascii
+use Rattle.fx_text.specs.Trimming.{trimmed}
+use Rattle.fx_base.specs.Positions.{start, after_all}
+use Rattle.fx_base.specs.declared.positions.Position.{Position}
+use Rattle.fx_doc_grammar.specs.Characters.{class_of, IsWhite, in_name, Each, is_character}
 use Rattle.fx_doc_grammar.specs.declared.Class.{Class}
 use Rattle.fx_doc_grammar.specs.declared.Class.TheVariants.{White, Less, Quotation, Apostrophe, Ampersand, Letter}
 use Rattle.fx_doc_grammar.specs.declared.Quote.{Quote}
 use Rattle.fx_doc_grammar.specs.declared.Quote.TheVariants.{Single, Double}
-use Rattle.fx_doc_grammar.specs.declared.Place.{Place}
 
 -- a name is a letter or `_`, and then letters, digits, `_`, `-`, `.` and `:`
 abbrev pub IsNamed : ℕ → Type 0
@@ -30,37 +36,32 @@ pub data Reference : Type 0 where
   ByHexadecimal : List ℕ → Reference
 
 abbrev pub reference_text : Reference → List ℕ
-reference_text ForLess = 38 ∷ (108 ∷ (116 ∷ (59 ∷ [])))
-reference_text ForGreater = 38 ∷ (103 ∷ (116 ∷ (59 ∷ [])))
-reference_text ForAmpersand = 38 ∷ (97 ∷ (109 ∷ (112 ∷ (59 ∷ []))))
-reference_text ForQuotation = 38 ∷ (113 ∷ (117 ∷ (111 ∷ (116 ∷ (59 ∷ [])))))
-reference_text ForApostrophe = 38 ∷ (97 ∷ (112 ∷ (111 ∷ (115 ∷ (59 ∷ [])))))
-reference_text (ByDecimal ds) = 38 ∷ (35 ∷ (ds ++ (59 ∷ [])))
-reference_text (ByHexadecimal ds) = 38 ∷ (35 ∷ (120 ∷ (ds ++ (59 ∷ []))))
-
--- the number that digits give, behind digits that gave n
-abbrev pub number_on : ℕ → ℕ → List ℕ → ℕ
-number_on base n [] = n
-number_on base n (d ∷ ds) = number_on base (n * base + digit_value d) ds
+reference_text ForLess = codes "&lt;"
+reference_text ForGreater = codes "&gt;"
+reference_text ForAmpersand = codes "&amp;"
+reference_text ForQuotation = codes "&quot;"
+reference_text ForApostrophe = codes "&apos;"
+reference_text (ByDecimal ds) = codes "&#" ++ (ds ++ codes ";")
+reference_text (ByHexadecimal ds) = codes "&#x" ++ (ds ++ codes ";")
 
 abbrev pub stands_for : Reference → ℕ
-stands_for ForLess = 60
-stands_for ForGreater = 62
-stands_for ForAmpersand = 38
-stands_for ForQuotation = 34
-stands_for ForApostrophe = 39
-stands_for (ByDecimal ds) = number_on 10 0 ds
-stands_for (ByHexadecimal ds) = number_on 16 0 ds
+stands_for ForLess = ascii.less_than_sign
+stands_for ForGreater = ascii.greater_than_sign
+stands_for ForAmpersand = ascii.ampersand
+stands_for ForQuotation = ascii.quotation_mark
+stands_for ForApostrophe = ascii.apostrophe
+stands_for (ByDecimal ds) = digits_value 10 ds
+stands_for (ByHexadecimal ds) = digits_value 16 ds
 
 abbrev pub IsDecimal : ℕ → Type 0
-IsDecimal c = is_decimal c ≡ true
+IsDecimal c = is_digit c 10 ≡ true
 
 abbrev pub IsHexadecimal : ℕ → Type 0
-IsHexadecimal c = is_hexadecimal c ≡ true
+IsHexadecimal c = is_digit c 16 ≡ true
 
 abbrev pub Reference_ok : Reference → Type 0
-Reference_ok (ByDecimal ds) = Each IsDecimal ds × (is_character (number_on 10 0 ds) ≡ true)
-Reference_ok (ByHexadecimal ds) = Each IsHexadecimal ds × (is_character (number_on 16 0 ds) ≡ true)
+Reference_ok (ByDecimal ds) = Each IsDecimal ds × (is_character (digits_value 10 ds) ≡ true)
+Reference_ok (ByHexadecimal ds) = Each IsHexadecimal ds × (is_character (digits_value 16 ds) ≡ true)
 Reference_ok ForLess = Unit {0}
 Reference_ok ForGreater = Unit {0}
 Reference_ok ForAmpersand = Unit {0}
@@ -104,11 +105,12 @@ pub record Written : Type 0 where
   pub value : List Sign
 
 abbrev pub quote_code : Quote → ℕ
-quote_code Single = 39
-quote_code Double = 34
+quote_code Single = ascii.apostrophe
+quote_code Double = ascii.quotation_mark
 
 abbrev pub attribute_text : Written → List ℕ
-attribute_text a = a.white ++ (a.key ++ (a.before ++ (61 ∷ (a.behind ++ (quote_code a.quote ∷ (signs_text a.value ++ (quote_code a.quote ∷ [])))))))
+attribute_text a = a.white ++ (a.key ++ (a.before ++ (ascii.equals_sign ∷ (a.behind ++
+    (quote_code a.quote ∷ (signs_text a.value ++ (quote_code a.quote ∷ [])))))))
 
 abbrev pub attributes_text : List Written → List ℕ
 attributes_text [] = []
@@ -133,17 +135,12 @@ IsFilled [] = ⊥
 IsFilled (c ∷ cs) = Unit {0}
 
 abbrev pub Attribute_ok : Written → Type 0
-Attribute_ok a = IsFilled a.white × Each IsWhite a.white × IsName a.key × Each IsWhite a.before × Each IsWhite a.behind × Value_ok a.quote a.value
-
--- two names are the same
-abbrev pub same_name : List ℕ → List ℕ → Bool
-same_name [] [] = true
-same_name (a ∷ as') (b ∷ bs) = eqb a b && same_name as' bs
-same_name _ _ = false
+Attribute_ok a =
+    IsFilled a.white × Each IsWhite a.white × IsName a.key × Each IsWhite a.before × Each IsWhite a.behind
+    × Value_ok a.quote a.value
 
 abbrev pub is_among : List ℕ → List (List ℕ) → Bool
-is_among k [] = false
-is_among k (n ∷ ns) = same_name k n || is_among k ns
+is_among name names = list_any (bytes_eq name) names
 
 -- the attributes of a tag behind attributes of these names: no name stands twice
 abbrev pub Attributes_ok : List (List ℕ) → List Written → Type 0
@@ -157,7 +154,7 @@ pub record Tag : Type 0 where
   pub white : List ℕ
 
 abbrev pub tag_text : Tag → List ℕ
-tag_text t = (60 ∷ t.name) ++ (attributes_text t.attributes ++ t.white)
+tag_text t = (ascii.less_than_sign ∷ t.name) ++ (attributes_text t.attributes ++ t.white)
 
 abbrev pub Tag_ok : Tag → Type 0
 Tag_ok t = IsName t.name × Attributes_ok [] t.attributes × Each IsWhite t.white
@@ -173,35 +170,29 @@ pub data Items : Type 0 where
   -- before, tag, content, and the white of the end tag
   Branch : Items → Tag → Items → List ℕ → Items
 
-abbrev pub comment_end : List ℕ
-comment_end = 45 ∷ (45 ∷ (62 ∷ []))
-
-abbrev pub instruction_end : List ℕ
-instruction_end = 63 ∷ (62 ∷ [])
-
 abbrev pub comment_text : List ℕ → List ℕ
-comment_text inside = 60 ∷ (33 ∷ (45 ∷ (45 ∷ (inside ++ comment_end))))
+comment_text inside = codes "<!--" ++ (inside ++ codes "-->")
 
 abbrev pub instruction_text : List ℕ → List ℕ → List ℕ
-instruction_text name inside = 60 ∷ (63 ∷ (name ++ (inside ++ instruction_end)))
+instruction_text name inside = codes "<?" ++ (name ++ (inside ++ codes "?>"))
 
 abbrev pub end_text : List ℕ → List ℕ → List ℕ
-end_text name white = 60 ∷ (47 ∷ (name ++ (white ++ (62 ∷ []))))
+end_text name white = codes "</" ++ (name ++ (white ++ codes ">"))
 
 abbrev pub items_text : Items → List ℕ
 items_text Empty = []
 items_text (Shown i s) = items_text i ++ sign_text s
 items_text (Comment i inside) = items_text i ++ comment_text inside
 items_text (Instruction i name inside) = items_text i ++ instruction_text name inside
-items_text (Leaf i t) = items_text i ++ (tag_text t ++ (47 ∷ (62 ∷ [])))
-items_text (Branch i t inner w) = items_text i ++ ((tag_text t ++ (62 ∷ [])) ++ (items_text inner ++ end_text t.name w))
+items_text (Leaf i t) = items_text i ++ (tag_text t ++ codes "/>")
+items_text (Branch i t inner w) = items_text i ++ ((tag_text t ++ codes ">") ++ (items_text inner ++ end_text t.name w))
 
 -- the end that is written behind a text is the first end there: none is within the text, nor begins in it
 abbrev pub IsComment : List ℕ → Type 0
-IsComment s = (a b : List ℕ) → s ++ (45 ∷ (45 ∷ [])) ≡ a ++ (comment_end ++ b) → ⊥
+IsComment s = (a b : List ℕ) → s ++ codes "--" ≡ a ++ (codes "-->" ++ b) → ⊥
 
 abbrev pub IsInstructed : List ℕ → Type 0
-IsInstructed s = (a b : List ℕ) → s ++ (63 ∷ []) ≡ a ++ (instruction_end ++ b) → ⊥
+IsInstructed s = (a b : List ℕ) → s ++ codes "?" ≡ a ++ (codes "?>" ++ b) → ⊥
 
 -- behind the name of an instruction stands white, or its end
 abbrev pub IsApart : List ℕ → Type 0
@@ -246,42 +237,44 @@ Top_ok (Branch i t inner w) = Top_ok i × (has_element i ≡ false) × Tag_ok t 
 pub record Attr : Type 0 where
   pub name : List ℕ
   pub value : List ℕ
-  pub place : Place
+  pub position : Position
 
--- what stands before a tag's end: its name, its attributes, and the place of its `<`
+-- what stands before a tag's end: its name, its attributes, and the position of its `<`
 pub record Head : Type 0 where
   pub name : List ℕ
   pub attributes : List Attr
-  pub place : Place
+  pub position : Position
 
 pub data Nodes : Type 0 where
   Nothing : Nodes
-  -- before, the UTF-8 of a run of characters, and the place of the first that isn't white
-  Letters : Nodes → List ℕ → Place → Nodes
+  -- before, the UTF-8 of a run of characters, and the position of the first that isn't white
+  Letters : Nodes → List ℕ → Position → Nodes
   -- before, the tag, and the content
   Node : Nodes → Head → Nodes → Nodes
 
--- what is read of the items of one element so far: the nodes, and the run behind them, with the place of its first sign that isn't white and its count of signs
+-- what is read of the items of one element so far: the nodes, and the run behind them, with the position of its first
+-- sign that isn't white and its count of signs
 pub record Level : Type 0 where
   pub nodes : Nodes
   pub run : List ℕ
-  pub first : Option Place
+  pub first : Option Position
   pub count : ℕ
 
 abbrev pub fresh_level : Level
 fresh_level = record { nodes = Nothing; run = []; first = None; count = 0 }
 
-abbrev pub first_shown : Option Place → Place → Class → Option Place
+abbrev pub first_shown : Option Position → Position → Class → Option Position
 first_shown (Some q) p k = Some q
 first_shown None p White = None
 first_shown None p k = Some p
 
 -- one more character in a run, written at p
-abbrev pub one_sign : Place → ℕ → Level → Level
-one_sign p c l = record { nodes = l.nodes; run = l.run ++ encode c; first = first_shown l.first p (class_of c); count = l.count + 1 }
+abbrev pub one_sign : Position → ℕ → Level → Level
+one_sign p c l =
+    record { nodes = l.nodes; run = l.run ++ encode c; first = first_shown l.first p (class_of c); count = l.count + 1 }
 
 -- the run goes among the nodes, unless it is blank
-abbrev pub with_run : Option Place → Nodes → List ℕ → Nodes
+abbrev pub with_run : Option Position → Nodes → List ℕ → Nodes
 with_run None n r = n
 with_run (Some p) n r = Letters n r p
 
@@ -293,7 +286,7 @@ one_child l h n = record { nodes = Node (closed l) h n; run = []; first = None; 
 
 -- tab, CR and LF in a value become a space, but not as references
 abbrev pub value_byte : Class → ℕ → List ℕ
-value_byte White c = 32 ∷ []
+value_byte White c = ascii.space ∷ []
 value_byte _ c = encode c
 
 abbrev pub sign_value : Sign → List ℕ
@@ -304,69 +297,53 @@ abbrev pub value_of : List Sign → List ℕ
 value_of [] = []
 value_of (s ∷ ss) = sign_value s ++ value_of ss
 
-abbrev pub attr_at : Place → Written → Attr
-attr_at p a = record { name = a.key; value = value_of a.value; place = after_all p a.white }
+abbrev pub attr_at : Position → Written → Attr
+attr_at p a = record { name = a.key; value = value_of a.value; position = after_all p a.white }
 
-abbrev pub attributes_of : Place → List Written → List Attr
+abbrev pub attributes_of : Position → List Written → List Attr
 attributes_of p [] = []
 attributes_of p (a ∷ ats) = attr_at p a ∷ attributes_of (after_all p (attribute_text a)) ats
 
-abbrev pub head_of : Place → Tag → Head
-head_of p t = record { name = t.name; attributes = attributes_of (after_all p (60 ∷ t.name)) t.attributes; place = p }
+abbrev pub head_of : Position → Tag → Head
+head_of p t =
+    let attributes = attributes_of (after_all p (ascii.less_than_sign ∷ t.name)) t.attributes in
+    record { name = t.name; attributes = attributes; position = p }
 
-abbrev pub level_of : Place → Items → Level
+abbrev pub level_of : Position → Items → Level
 level_of p Empty = fresh_level
 level_of p (Shown i s) = one_sign (after_all p (items_text i)) (sign_code s) (level_of p i)
 level_of p (Comment i inside) = level_of p i
 level_of p (Instruction i name inside) = level_of p i
 level_of p (Leaf i t) = one_child (level_of p i) (head_of (after_all p (items_text i)) t) Nothing
 level_of p (Branch i t inner w) = one_child (level_of p i) (head_of (after_all p (items_text i)) t)
-    (closed (level_of (after_all (after_all p (items_text i)) (tag_text t ++ (62 ∷ []))) inner))
+    (closed (level_of (after_all (after_all p (items_text i)) (tag_text t ++ codes ">")) inner))
 
 -- what is read at the top: the element there
-abbrev pub root_of : Place → Items → Nodes
+abbrev pub root_of : Position → Items → Nodes
 root_of p Empty = Nothing
 root_of p (Shown i s) = root_of p i
 root_of p (Comment i inside) = root_of p i
 root_of p (Instruction i name inside) = root_of p i
 root_of p (Leaf i t) = Node (root_of p i) (head_of (after_all p (items_text i)) t) Nothing
 root_of p (Branch i t inner w) = Node (root_of p i) (head_of (after_all p (items_text i)) t)
-    (closed (level_of (after_all (after_all p (items_text i)) (tag_text t ++ (62 ∷ []))) inner))
+    (closed (level_of (after_all (after_all p (items_text i)) (tag_text t ++ codes ">")) inner))
 
 -- one element, and nothing before it
 abbrev pub IsRoot : Nodes → Type 0
 IsRoot (Node before head inner) = before ≡ Nothing
 IsRoot _ = ⊥
 
--- a text without the white at its ends
-abbrev pub trim_front : List ℕ → List ℕ
-trim_front [] = []
-trim_front (c ∷ cs) = cond (is_white c) (trim_front cs) (c ∷ cs)
-
-abbrev pub trim_last : ℕ → List ℕ → List ℕ
-trim_last c [] = cond (is_white c) [] (c ∷ [])
-trim_last c (d ∷ ds) = c ∷ (d ∷ ds)
-
-abbrev pub trim_back : List ℕ → List ℕ
-trim_back [] = []
-trim_back (c ∷ cs) = trim_last c (trim_back cs)
-
-abbrev pub trimmed : List ℕ → List ℕ
-trimmed s = trim_back (trim_front s)
-
-abbrev pub import_name : List ℕ
-import_name = 105 ∷ (109 ∷ (112 ∷ (111 ∷ (114 ∷ (116 ∷ [])))))
-
 -- what an instruction adds to the imports: the UTF-8 of its trimmed text, unless that is over 4,096 characters
 abbrev pub listed : List ℕ → List ℕ → List (List ℕ)
-listed name inside = cond (same_name name import_name && leb (length (chars (trimmed inside))) 4096) (trimmed inside ∷ []) []
+listed name inside =
+    if bytes_eq name (codes "import") && nat_le (length (chars (trimmed inside))) 4096 then trimmed inside ∷ [] else []
 
 -- the imports before the first element
 abbrev pub imports_of : Items → List (List ℕ)
 imports_of Empty = []
 imports_of (Shown i s) = imports_of i
 imports_of (Comment i inside) = imports_of i
-imports_of (Instruction i name inside) = imports_of i ++ cond (has_element i) [] (listed name (encodes inside))
+imports_of (Instruction i name inside) = imports_of i ++ (if has_element i then [] else listed name (encodes inside))
 imports_of (Leaf i t) = imports_of i
 imports_of (Branch i t inner w) = imports_of i
 
@@ -388,11 +365,11 @@ abbrev pub Begins : List ℕ → Type 0
 Begins text = (more : List ℕ) × (reading : Reading) × Spells (text ++ more) reading
 
 -- the text is no document, and p is the end of its longest prefix that some document begins with
-pub record IsMarkup (text : List ℕ) (p : Place) : Type 0 where
+pub record IsMarkup (text : List ℕ) (p : Position) : Type 0 where
   pub nothing : (reading : Reading) → Spells text reading → ⊥
   pub front : List ℕ
   pub rest : List ℕ
   pub split : text ≡ front ++ rest
   pub begins : Begins front
   pub longest : (longer more : List ℕ) → text ≡ longer ++ more → Begins longer → length longer ≤ length front
-  pub place : p ≡ after_all start front
+  pub position : p ≡ after_all start front

@@ -4,3 +4,4 @@ pub mod Machine
 pub mod Beginnings
 pub mod Verdicts
 pub mod Judging
+pub mod Judgements

@@ -1,9 +1,12 @@
 -- A machine that reads a document, one character at a time, with a stack of the open elements.
 -- The theorem does not rest on it: code is proved to be this machine, and the machine to read what the grammar spells.
-use Rattle.std.specs.Prelude.{ℕ, suc, ◌+◌, ◌*◌, Bool, true, false, cond, not, ◌&&◌, ◌||◌, List, [], ◌∷◌, ◌++◌, Option, Some, None, length, map}
-use lib.Dec.{eqb, ltb, leb}
+use Rattle.std.specs.Prelude.{ℕ, suc, ◌+◌, ◌*◌, Bool, true, false, not, ◌==◌, ◌&&◌, ◌||◌, if◌then◌else◌, List, [], ◌∷◌, ◌++◌, Option, Some, None, length, map, codes, nat_lt, nat_le}
+use Rattle.std.specs.Char.{is_digit, digit_value}
 use lib.Utf8.{encode}
-use Rattle.fx_doc_grammar.specs.Characters.{class_of, in_name, after, is_decimal, is_hexadecimal, digit_value, is_character}
+use Rattle.fx_text.specs.Characters as ascii
+use Rattle.fx_base.specs.Positions.{after}
+use Rattle.fx_base.specs.declared.positions.Position.{Position}
+use Rattle.fx_doc_grammar.specs.Characters.{class_of, in_name, is_character, last_code}
 use Rattle.fx_doc_grammar.specs.Grammar.{Head, Attr, Nodes, Nothing, Letters, Node, Level, fresh_level, one_sign, one_child, closed, value_byte, is_among, is_quote, listed, Reading}
 use Rattle.fx_doc_grammar.specs.declared.Class.{Class}
 use Rattle.fx_doc_grammar.specs.declared.Class.TheVariants.{White, Less, Greater, Slash, Equals, Bang, Question, Dash, Quotation, Apostrophe, Ampersand, Letter}
@@ -13,54 +16,65 @@ use Rattle.fx_doc_grammar.specs.declared.Entity.{Entity}
 use Rattle.fx_doc_grammar.specs.declared.Entity.TheVariants.{Begun, A, Am, Amp, Ap, Apo, Apos, G, Gt, L, Lt, Q, Qu, Quo, Quot, Hash, Decimal, Hex, HexDigits}
 use Rattle.fx_doc_grammar.specs.declared.Turn.{Turn}
 use Rattle.fx_doc_grammar.specs.declared.Turn.TheVariants.{Further, Whole}
-use Rattle.fx_doc_grammar.specs.declared.Place.{Place}
 
 -- References --------------------------------------------------------------------------------------
 
+-- the character that a text of one character is
+abbrev pub letter : List ℕ → ℕ
+letter [] = 0
+letter (c ∷ cs) = c
+
 abbrev pub expect : ℕ → Turn → ℕ → Option Turn
-expect x t c = cond (eqb c x) (Some t) None
+expect x t c = if c == x then Some t else None
 
 abbrev pub begin_entity : ℕ → Option Turn
 begin_entity c =
-    cond (eqb c 97) (Some (Further A))
-    (cond (eqb c 103) (Some (Further G))
-    (cond (eqb c 108) (Some (Further L))
-    (cond (eqb c 113) (Some (Further Q))
-    (cond (eqb c 35) (Some (Further Hash)) None))))
+    if c == letter (codes "a") then Some (Further A)
+    else (if c == letter (codes "g") then Some (Further G)
+    else (if c == letter (codes "l") then Some (Further L)
+    else (if c == letter (codes "q") then Some (Further Q)
+    else (if c == ascii.number_sign then Some (Further Hash) else None))))
 
 abbrev pub after_a : ℕ → Option Turn
-after_a c = cond (eqb c 109) (Some (Further Am)) (cond (eqb c 112) (Some (Further Ap)) None)
+after_a c =
+    if c == letter (codes "m") then Some (Further Am)
+    else (if c == letter (codes "p") then Some (Further Ap) else None)
 
--- one more digit, as long as the number stays among the code points
+-- a number with one more digit, as long as it stays among the code points
+abbrev pub with_digit : ℕ → (ℕ → Entity) → ℕ → ℕ → Option Turn
+with_digit base entity n c =
+    if is_digit c base && nat_le (n * base + digit_value c) last_code
+    then Some (Further (entity (n * base + digit_value c))) else None
+
 abbrev pub decimal_digit : ℕ → ℕ → Option Turn
-decimal_digit n c = cond (is_decimal c && leb (n * 10 + digit_value c) 1114111) (Some (Further (Decimal (n * 10 + digit_value c)))) None
+decimal_digit n c = with_digit 10 Decimal n c
 
 abbrev pub hexadecimal_digit : ℕ → ℕ → Option Turn
-hexadecimal_digit n c = cond (is_hexadecimal c && leb (n * 16 + digit_value c) 1114111) (Some (Further (HexDigits (n * 16 + digit_value c)))) None
+hexadecimal_digit n c = with_digit 16 HexDigits n c
 
 abbrev pub number_end : ℕ → Option Turn
-number_end n = cond (is_character n) (Some (Whole n)) None
+number_end n = if is_character n then Some (Whole n) else None
 
 abbrev pub entity_step : Entity → ℕ → Option Turn
 entity_step Begun c = begin_entity c
 entity_step A c = after_a c
-entity_step Am c = expect 112 (Further Amp) c
-entity_step Amp c = expect 59 (Whole 38) c
-entity_step Ap c = expect 111 (Further Apo) c
-entity_step Apo c = expect 115 (Further Apos) c
-entity_step Apos c = expect 59 (Whole 39) c
-entity_step G c = expect 116 (Further Gt) c
-entity_step Gt c = expect 59 (Whole 62) c
-entity_step L c = expect 116 (Further Lt) c
-entity_step Lt c = expect 59 (Whole 60) c
-entity_step Q c = expect 117 (Further Qu) c
-entity_step Qu c = expect 111 (Further Quo) c
-entity_step Quo c = expect 116 (Further Quot) c
-entity_step Quot c = expect 59 (Whole 34) c
-entity_step Hash c = cond (eqb c 120) (Some (Further Hex)) (decimal_digit 0 c)
-entity_step (Decimal n) c = cond (eqb c 59) (number_end n) (decimal_digit n c)
+entity_step Am c = expect (letter (codes "p")) (Further Amp) c
+entity_step Amp c = expect ascii.semicolon (Whole ascii.ampersand) c
+entity_step Ap c = expect (letter (codes "o")) (Further Apo) c
+entity_step Apo c = expect (letter (codes "s")) (Further Apos) c
+entity_step Apos c = expect ascii.semicolon (Whole ascii.apostrophe) c
+entity_step G c = expect (letter (codes "t")) (Further Gt) c
+entity_step Gt c = expect ascii.semicolon (Whole ascii.greater_than_sign) c
+entity_step L c = expect (letter (codes "t")) (Further Lt) c
+entity_step Lt c = expect ascii.semicolon (Whole ascii.less_than_sign) c
+entity_step Q c = expect (letter (codes "u")) (Further Qu) c
+entity_step Qu c = expect (letter (codes "o")) (Further Quo) c
+entity_step Quo c = expect (letter (codes "t")) (Further Quot) c
+entity_step Quot c = expect ascii.semicolon (Whole ascii.quotation_mark) c
+entity_step Hash c = if c == ascii.small_x then Some (Further Hex) else decimal_digit 0 c
+entity_step (Decimal n) c = if c == ascii.semicolon then number_end n else decimal_digit n c
 entity_step Hex c = hexadecimal_digit 0 c
-entity_step (HexDigits n) c = cond (eqb c 59) (number_end n) (hexadecimal_digit n c)
+entity_step (HexDigits n) c = if c == ascii.semicolon then number_end n else hexadecimal_digit n c
 
 -- States ------------------------------------------------------------------------------------------
 
@@ -76,8 +90,8 @@ pub record Held : Type 0 where
 
 pub data Mode : Type 0 where
   Inside : Mode
-  Referring : Place → Entity → Mode
-  Opening : Place → Mode
+  Referring : Position → Entity → Mode
+  Opening : Position → Mode
   Banged : Mode
   BangDashed : Mode
   Commented : Mode
@@ -88,15 +102,15 @@ pub data Mode : Type 0 where
   NameAsked : List ℕ → Mode
   Instructed : List ℕ → List ℕ → Mode
   EndAsked : List ℕ → List ℕ → Mode
-  Naming : Place → List ℕ → Mode
+  Naming : Position → List ℕ → Mode
   Spaced : Head → Mode
   Tight : Head → Mode
-  Keyed : Head → Place → List ℕ → Mode
-  KeySpaced : Head → Place → List ℕ → Mode
-  Signed : Head → Place → List ℕ → Mode
+  Keyed : Head → Position → List ℕ → Mode
+  KeySpaced : Head → Position → List ℕ → Mode
+  Signed : Head → Position → List ℕ → Mode
   -- the value so far, and its count of signs
-  Quoted : Head → Place → List ℕ → Quote → List ℕ → ℕ → Mode
-  ValueReferring : Head → Place → List ℕ → Quote → List ℕ → ℕ → Place → Entity → Mode
+  Quoted : Head → Position → List ℕ → Quote → List ℕ → ℕ → Mode
+  ValueReferring : Head → Position → List ℕ → Quote → List ℕ → ℕ → Position → Entity → Mode
   Slashed : Head → Mode
   -- what is left of the open name
   Ending : List ℕ → Mode
@@ -133,16 +147,18 @@ abbrev pub with_level : Held → Level → Held
 with_level h l = record { imports = h.imports; stack = h.stack; level = l }
 
 -- white outside the elements is not kept
-abbrev pub sign_in : Stack → Place → ℕ → Held → Held
+abbrev pub sign_in : Stack → Position → ℕ → Held → Held
 sign_in Bottom p c h = h
 sign_in (Opened s l head) p c h = with_level h (one_sign p c h.level)
 
-abbrev pub with_sign : Place → ℕ → Held → Held
+abbrev pub with_sign : Position → ℕ → Held → Held
 with_sign p c h = sign_in h.stack p c h
 
 -- an instruction is whole: before the first element it may be an import
 abbrev pub with_instruction : Held → List ℕ → List ℕ → Held
-with_instruction h name inside = record { imports = h.imports ++ cond (may_begin h && not (is_open h.stack)) (listed name inside) []; stack = h.stack; level = h.level }
+with_instruction h name inside =
+    let imports = h.imports ++ (if may_begin h && not (is_open h.stack) then listed name inside else []) in
+    record { imports = imports; stack = h.stack; level = h.level }
 
 abbrev pub with_leaf : Held → Head → Held
 with_leaf h head = with_level h (one_child h.level head Nothing)
@@ -152,7 +168,8 @@ open_element h head = record { imports = h.imports; stack = Opened h.stack h.lev
 
 abbrev pub close_in : List (List ℕ) → Stack → Level → Option State
 close_in imports Bottom l = None
-close_in imports (Opened s before head) l = at (record { imports = imports; stack = s; level = one_child before head (closed l) }) Inside
+close_in imports (Opened s before head) l =
+    at (record { imports = imports; stack = s; level = one_child before head (closed l) }) Inside
 
 abbrev pub close : Held → Option State
 close h = close_in h.imports h.stack h.level
@@ -167,23 +184,25 @@ keys_of ats = map (λ (a : Attr). a.name) ats
 abbrev pub is_fresh : List ℕ → Head → Bool
 is_fresh key head = not (is_among key (keys_of head.attributes))
 
-abbrev pub with_attribute : Head → Place → List ℕ → List ℕ → Head
-with_attribute head q key value = record { name = head.name; attributes = head.attributes ++ (record { name = key; value = value; place = q } ∷ []); place = head.place }
+abbrev pub with_attribute : Head → Position → List ℕ → List ℕ → Head
+with_attribute head q key value =
+    let attributes = head.attributes ++ (record { name = key; value = value; position = q } ∷ []) in
+    record { name = head.name; attributes = attributes; position = head.position }
 
 -- Steps, one function for each mode ---------------------------------------------------------------
 
-abbrev pub in_inside : Place → Held → ℕ → Class → Option State
+abbrev pub in_inside : Position → Held → ℕ → Class → Option State
 in_inside p h c White = at (with_sign p c h) Inside
 in_inside p h c Less = at h (Opening p)
 in_inside p h c Ampersand = some_if (is_open h.stack) (at h (Referring p Begun))
 in_inside p h c _ = some_if (is_open h.stack) (at (with_sign p c h) Inside)
 
-abbrev pub in_referring : Place → Held → Option Turn → Option State
+abbrev pub in_referring : Position → Held → Option Turn → Option State
 in_referring q h (Some (Further e)) = at h (Referring q e)
 in_referring q h (Some (Whole n)) = at (with_sign q n h) Inside
 in_referring q h None = None
 
-abbrev pub in_opening : Place → Held → ℕ → Class → Option State
+abbrev pub in_opening : Position → Held → ℕ → Class → Option State
 in_opening q h c Letter = some_if (may_begin h) (at h (Naming q (c ∷ [])))
 in_opening q h c Bang = at h Banged
 in_opening q h c Question = at h Asked
@@ -231,16 +250,16 @@ in_instructed n x h c _ = at h (Instructed n (x ++ encode c))
 -- behind `?`, which belongs to the text unless `>` follows
 abbrev pub in_end_asked : List ℕ → List ℕ → Held → ℕ → Class → Option State
 in_end_asked n x h c Greater = at (with_instruction h n x) Inside
-in_end_asked n x h c Question = at h (EndAsked n (x ++ (63 ∷ [])))
-in_end_asked n x h c _ = at h (Instructed n ((x ++ (63 ∷ [])) ++ encode c))
+in_end_asked n x h c Question = at h (EndAsked n (x ++ codes "?"))
+in_end_asked n x h c _ = at h (Instructed n ((x ++ codes "?") ++ encode c))
 
-abbrev pub in_naming : Place → List ℕ → Held → ℕ → Class → Option State
-in_naming q n h c White = at h (Spaced (record { name = n; attributes = []; place = q }))
-in_naming q n h c Slash = at h (Slashed (record { name = n; attributes = []; place = q }))
-in_naming q n h c Greater = at (open_element h (record { name = n; attributes = []; place = q })) Inside
+abbrev pub in_naming : Position → List ℕ → Held → ℕ → Class → Option State
+in_naming q n h c White = at h (Spaced (record { name = n; attributes = []; position = q }))
+in_naming q n h c Slash = at h (Slashed (record { name = n; attributes = []; position = q }))
+in_naming q n h c Greater = at (open_element h (record { name = n; attributes = []; position = q })) Inside
 in_naming q n h c k = some_if (in_name k) (at h (Naming q (n ++ (c ∷ []))))
 
-abbrev pub in_spaced : Place → Head → Held → ℕ → Class → Option State
+abbrev pub in_spaced : Position → Head → Held → ℕ → Class → Option State
 in_spaced p head h c White = at h (Spaced head)
 in_spaced p head h c Slash = at h (Slashed head)
 in_spaced p head h c Greater = at (open_element h head) Inside
@@ -254,33 +273,34 @@ in_tight head h Slash = at h (Slashed head)
 in_tight head h Greater = at (open_element h head) Inside
 in_tight head h _ = None
 
-abbrev pub in_keyed : Head → Place → List ℕ → Held → ℕ → Class → Option State
+abbrev pub in_keyed : Head → Position → List ℕ → Held → ℕ → Class → Option State
 in_keyed head q k h c White = some_if (is_fresh k head) (at h (KeySpaced head q k))
 in_keyed head q k h c Equals = some_if (is_fresh k head) (at h (Signed head q k))
 in_keyed head q k h c kind = some_if (in_name kind) (at h (Keyed head q (k ++ (c ∷ []))))
 
-abbrev pub in_key_spaced : Head → Place → List ℕ → Held → Class → Option State
+abbrev pub in_key_spaced : Head → Position → List ℕ → Held → Class → Option State
 in_key_spaced head q k h White = at h (KeySpaced head q k)
 in_key_spaced head q k h Equals = at h (Signed head q k)
 in_key_spaced head q k h _ = None
 
-abbrev pub in_signed : Head → Place → List ℕ → Held → Class → Option State
+abbrev pub in_signed : Head → Position → List ℕ → Held → Class → Option State
 in_signed head q k h White = at h (Signed head q k)
 in_signed head q k h Quotation = at h (Quoted head q k Double [] 0)
 in_signed head q k h Apostrophe = at h (Quoted head q k Single [] 0)
 in_signed head q k h _ = None
 
 -- a character of a value that is no `<` and no `&`
-abbrev pub in_value : Bool → Head → Place → List ℕ → Quote → List ℕ → ℕ → Held → ℕ → Class → Option State
+abbrev pub in_value : Bool → Head → Position → List ℕ → Quote → List ℕ → ℕ → Held → ℕ → Class → Option State
 in_value true head q k u v n h c kind = at h (Tight (with_attribute head q k v))
 in_value false head q k u v n h c kind = at h (Quoted head q k u (v ++ value_byte kind c) (n + 1))
 
-abbrev pub in_quoted : Place → Head → Place → List ℕ → Quote → List ℕ → ℕ → Held → ℕ → Class → Option State
+abbrev pub in_quoted : Position → Head → Position → List ℕ → Quote → List ℕ → ℕ → Held → ℕ → Class → Option State
 in_quoted p head q k u v n h c Less = None
 in_quoted p head q k u v n h c Ampersand = at h (ValueReferring head q k u v n p Begun)
 in_quoted p head q k u v n h c kind = in_value (is_quote u kind) head q k u v n h c kind
 
-abbrev pub in_value_referring : Head → Place → List ℕ → Quote → List ℕ → ℕ → Place → Held → Option Turn → Option State
+abbrev pub in_value_referring : Head → Position → List ℕ → Quote → List ℕ → ℕ → Position → Held → Option Turn
+    → Option State
 in_value_referring head q k u v n r h (Some (Further e)) = at h (ValueReferring head q k u v n r e)
 in_value_referring head q k u v n r h (Some (Whole x)) = at h (Quoted head q k u (v ++ encode x) (n + 1))
 in_value_referring head q k u v n r h None = None
@@ -296,9 +316,9 @@ in_ended h _ = None
 
 abbrev pub in_ending : List ℕ → Held → ℕ → Class → Option State
 in_ending [] h c k = in_ended h k
-in_ending (x ∷ rest) h c k = some_if (eqb c x) (at h (Ending rest))
+in_ending (x ∷ rest) h c k = some_if (c == x) (at h (Ending rest))
 
-abbrev pub move : Place → Held → Mode → ℕ → Class → Option State
+abbrev pub move : Position → Held → Mode → ℕ → Class → Option State
 move p h Inside c k = in_inside p h c k
 move p h (Referring q e) c k = in_referring q h (entity_step e c)
 move p h (Opening q) c k = in_opening q h c k
@@ -324,14 +344,14 @@ move p h (Slashed head) c k = in_slashed head h k
 move p h (Ending rest) c k = in_ending rest h c k
 move p h Ended c k = in_ended h k
 
-abbrev pub step : Place → State → ℕ → Option State
+abbrev pub step : Position → State → ℕ → Option State
 step p s c = move p s.held s.mode c (class_of c)
 
-abbrev pub next : Place → Option State → ℕ → Option State
+abbrev pub next : Position → Option State → ℕ → Option State
 next p None c = None
 next p (Some s) c = step p s c
 
-abbrev pub run : Place → Option State → List ℕ → Option State
+abbrev pub run : Position → Option State → List ℕ → Option State
 run p o [] = o
 run p o (c ∷ cs) = run (after p c) (next p o c) cs
 
@@ -355,25 +375,25 @@ is_naming _ = false
 
 -- an element begins within 128 open ones
 abbrev pub is_deep : State → Bool
-is_deep s = is_naming s.mode && leb 128 (stack_depth s.held.stack)
+is_deep s = is_naming s.mode && nat_le 128 (stack_depth s.held.stack)
 
 abbrev pub mode_long : Mode → Bool
-mode_long (Instructing n) = ltb 4096 (length n)
-mode_long (Naming q n) = ltb 4096 (length n)
-mode_long (Keyed head q key) = ltb 4096 (length key)
-mode_long (Quoted head q key u v n) = ltb 4096 n
-mode_long (ValueReferring head q key u v n r e) = ltb 4096 n
+mode_long (Instructing n) = nat_lt 4096 (length n)
+mode_long (Naming q n) = nat_lt 4096 (length n)
+mode_long (Keyed head q key) = nat_lt 4096 (length key)
+mode_long (Quoted head q key u v n) = nat_lt 4096 n
+mode_long (ValueReferring head q key u v n r e) = nat_lt 4096 n
 mode_long _ = false
 
 -- the run at hand is too long
 abbrev pub level_long : Held → Bool
-level_long h = ltb 4096 h.level.count
+level_long h = nat_lt 4096 h.level.count
 
 abbrev pub is_long : State → Bool
 is_long s = mode_long s.mode || level_long s.held
 
 -- where the sign begins whose last character stands at p
-abbrev pub sign_place : Place → Mode → Place
-sign_place p (Referring q e) = q
-sign_place p (ValueReferring head q key u v n r e) = r
-sign_place p _ = p
+abbrev pub sign_position : Position → Mode → Position
+sign_position p (Referring q e) = q
+sign_position p (ValueReferring head q key u v n r e) = r
+sign_position p _ = p

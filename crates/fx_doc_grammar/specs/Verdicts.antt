@@ -3,13 +3,13 @@
 use Rattle.std.specs.Prelude.{◌≡◌, ℕ, List}
 use Rattle.fx_doc_grammar.specs.Grammar.{Reading, Spells}
 use Rattle.fx_doc_grammar.specs.Beginnings.{IsWithinLimits, IsTooDeep, IsTooLong, IsStopped}
-use Rattle.fx_doc_grammar.specs.declared.Place.{Place}
+use Rattle.fx_base.specs.declared.positions.Position.{Position}
 
 pub data Verdict : Type 0 where
   Reads : Reading → Verdict
-  Stops : Place → Verdict
-  Deep : Place → Verdict
-  Long : Place → Verdict
+  Stops : Position → Verdict
+  Deep : Position → Verdict
+  Long : Position → Verdict
 
 abbrev pub IsVerdict : List ℕ → Verdict → Type 0
 IsVerdict text (Reads n) = Spells text n × IsWithinLimits text

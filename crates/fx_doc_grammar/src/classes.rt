@@ -1,14 +1,13 @@
-//! The class of a character, and the place behind one.
-//! The reader takes each character by its class.
-ghost use Rattle.std.specs.Prelude.{◌≡◌, ◌<◌, ◌^◌};
-ghost use Rattle.fx_doc_grammar.specs.Characters.{class_of, in_name, after};
+//! The class of a character, by which the reader takes it.
+ghost use Rattle.std.specs.Prelude.{◌≡◌};
+ghost use Rattle.fx_doc_grammar.specs.Characters.{class_of, in_name};
 ghost use Rattle.fx_doc_grammar.specs.Grammar.{is_quote};
 
-use crate::{Class, Place, Quote};
+use crate::{Class, Quote};
 
 impl Class {
     /// What the character means to the grammar.
-    #[tactic(auto, unfolding(crate::specs::Characters::class_of, crate::specs::Characters::is_white, crate::specs::Characters::is_letter, crate::specs::Characters::is_later))]
+    #[tactic(auto, unfolding(crate::specs::Characters::class_of))]
     pub fn of(c: char) -> Class
         ensures { result ≡ class_of c }
     {
@@ -46,30 +45,6 @@ impl Class {
         match quote {
             Quote::Single => matches!(self, Class::Apostrophe),
             Quote::Double => matches!(self, Class::Quotation),
-        }
-    }
-}
-
-impl Place {
-    /// The place of the first character of a text.
-    pub const START: Place = Place { line: 1, column: 1 };
-
-    /// The place behind this character, which stands at `self`.
-    pub fn after(self, c: char) -> Place
-        requires line { self.line < 2 ^ 31 }
-        requires column { self.column < 2 ^ 31 }
-        ensures { result ≡ after self c }
-    {
-        if c == '\n' {
-            Place {
-                line: self.line + 1,
-                column: 1,
-            }
-        } else {
-            Place {
-                line: self.line,
-                column: self.column + 1,
-            }
         }
     }
 }

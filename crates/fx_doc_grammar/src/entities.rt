@@ -1,7 +1,7 @@
 //! References, a character at a time.
 //! The reader keeps how far one is read within its mode.
 ghost use Rattle.std.specs.Prelude.{◌≡◌, ◌≤◌, ◌<◌, ◌+◌, ◌*◌, true, SomeIff};
-ghost use Rattle.fx_doc_grammar.specs.Characters.{is_decimal, is_hexadecimal, digit_value};
+ghost use Rattle.fx_doc_grammar.specs.Characters.{last_code};
 ghost use Rattle.fx_doc_grammar.specs.Machine.{entity_step, expect, begin_entity, after_a, decimal_digit, hexadecimal_digit, number_end};
 
 use crate::{Entity, Turn};
@@ -67,46 +67,10 @@ fn behind_a(c: char) -> Option<Turn>
     }
 }
 
-#[tactic(auto, unfolding(crate::specs::Characters::is_decimal))]
-fn is_digit(c: char) -> bool
-    ensures { result ≡ is_decimal c }
-{
-    matches!(c, '0'..='9')
-}
-
-#[tactic(auto, unfolding(crate::specs::Characters::is_hexadecimal))]
-fn is_hexadecimal_digit(c: char) -> bool
-    ensures { result ≡ is_hexadecimal c }
-{
-    matches!(c, '0'..='9' | 'A'..='F' | 'a'..='f')
-}
-
-#[tactic(auto, unfolding(crate::specs::Characters::is_decimal))]
-fn decimal_value(c: char) -> u32
-    requires { is_decimal c ≡ true }
-    ensures value { result ≡ digit_value c }
-    ensures small { result < 10 }
-{
-    c as u32 - '0' as u32
-}
-
-#[tactic(auto, unfolding(crate::specs::Characters::is_hexadecimal))]
-fn hexadecimal_value(c: char) -> u32
-    requires { is_hexadecimal c ≡ true }
-    ensures value { result ≡ digit_value c }
-    ensures small { result < 16 }
-{
-    match c {
-        '0'..='9' => c as u32 - '0' as u32,
-        'A'..='F' => c as u32 - 'A' as u32 + 10,
-        _ => c as u32 - 'a' as u32 + 10,
-    }
-}
-
 /// The number with one more digit, as long as it stays among the code points.
 fn grown(number: u32, base: u32, value: u32) -> Option<u32>
     requires small { base ≤ 16 }
-    ensures { SomeIff result (number * base + value ≤ 1114111) (number * base + value) }
+    ensures { SomeIff result (number * base + value ≤ last_code) (number * base + value) }
 {
     let next = number.checked_mul(base)?.checked_add(value)?;
     if next <= LAST_CODE { Some(next) } else { None }
@@ -115,20 +79,14 @@ fn grown(number: u32, base: u32, value: u32) -> Option<u32>
 fn more_decimal(number: u32, c: char) -> Option<Turn>
     ensures { result ≡ decimal_digit number c }
 {
-    if !is_digit(c) {
-        return None;
-    }
-    let next = grown(number, 10, decimal_value(c))?;
+    let next = grown(number, 10, c.to_digit(10)?)?;
     Some(Turn::Further(Entity::Decimal(next)))
 }
 
 fn more_hexadecimal(number: u32, c: char) -> Option<Turn>
     ensures { result ≡ hexadecimal_digit number c }
 {
-    if !is_hexadecimal_digit(c) {
-        return None;
-    }
-    let next = grown(number, 16, hexadecimal_value(c))?;
+    let next = grown(number, 16, c.to_digit(16)?)?;
     Some(Turn::Further(Entity::HexDigits(next)))
 }
 

@@ -6,14 +6,10 @@ mod classes;
 mod entities;
 mod laws;
 
-pub use laws::{answers_are_one, documents_are_one};
-
-/// A place in a text: line and column, both from 1, counted in characters. Only LF ends a line.
-#[derive(Clone, Copy, Debug, PartialEq, Eq)]
-pub struct Place {
-    pub line: u32,
-    pub column: u32,
-}
+pub use laws::{
+    answers_are_one, bytes_are_judged_by_the_grammar, documents_are_one,
+    texts_are_judged_by_the_grammar,
+};
 
 /// What a character means to the grammar (Introduction to FXML, over XML 1.0).
 #[derive(Clone, Copy, Debug, PartialEq, Eq)]

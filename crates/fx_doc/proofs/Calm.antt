@@ -4,13 +4,15 @@ use Rattle.std.proofs.Common.{◌≡◌, ℕ, ◌+◌, ◌≤◌, ◌<◌, Bool,
 use Rattle.std.specs.List.{list_all}
 use lib.Dec.{eqb, ltb, leb}
 use Rattle.std.proofs.lemmas.Str.{encode_ascii}
-use Rattle.fx_doc_grammar.specs.Characters.{class_of, is_white, is_letter, is_later, in_name, starts_name, start, after, after_all}
+use Rattle.fx_doc_grammar.specs.Characters.{class_of, is_later, in_name, starts_name}
+use Rattle.fx_text.specs.Classes.{is_white, is_letter}
+use Rattle.fx_base.specs.Positions.{start, after, after_all}
 use Rattle.fx_doc_grammar.specs.Grammar.{Head, is_quote, value_byte}
 use Rattle.fx_doc_grammar.specs.Machine.{State, Held, Mode, Spaced, Tight, Keyed, Signed, Quoted, at, some_if, initial, step, next, run, is_fresh, with_attribute, is_deep, is_long, level_long, mode_long, in_spaced, in_keyed, in_quoted, in_value}
 use Rattle.fx_doc_grammar.specs.Beginnings.{IsWithinLimits}
 use Rattle.fx_doc_grammar.specs.declared.Class.{Class}
 use Rattle.fx_doc_grammar.specs.declared.Class.TheVariants.{White, Less, Greater, Slash, Equals, Bang, Question, Dash, Quotation, Apostrophe, Ampersand, Letter, Digit, Other}
-use Rattle.fx_doc_grammar.specs.declared.Place.{Place}
+use Rattle.fx_base.specs.declared.positions.Position.{Position}
 use Rattle.fx_doc_grammar.specs.declared.Quote.{Quote}
 use Rattle.fx_doc_grammar.specs.declared.Quote.TheVariants.{Double}
 use Rattle.fx_doc_grammar.proofs.Marks.{as_state}
@@ -21,7 +23,7 @@ use Rattle.fx_doc_drafts.specs.Ahead.{IsAhead, is_named, is_plain, begins_name}
 use Rattle.fx_doc.specs.Reached.{Calm, Said}
 use Rattle.fx_doc.proofs.Defaults.{quoted_rest}
 
-pub said_more : (said : List ℕ) (p : Place) (s : State) (cs : List ℕ) (s' : State) → Said said p s → Calm p s cs s' → Said (said ++ cs) (after_all p cs) s'
+pub said_more : (said : List ℕ) (p : Position) (s : State) (cs : List ℕ) (s' : State) → Said said p s → Calm p s cs s' → Said (said ++ cs) (after_all p cs) s'
 said_more said p s [] s' h k = subst (λ (y : List ℕ). Said y p s') (sym (append-nil said)) (subst (λ (y : State). Said said p y) k h)
 said_more said p s (c ∷ cs) s' h k =
     let one : Said (said ++ (c ∷ [])) (after p c) k.0 = record {
@@ -32,7 +34,7 @@ said_more said p s (c ∷ cs) s' h k =
     subst (λ (y : List ℕ). Said y (after_all (after p c) cs) s') (append_assoc said (c ∷ []) cs) (said_more (said ++ (c ∷ [])) (after p c) k.0 cs s' one k.4)
 
 -- a step within the limits, and the rest
-one_calm : (p : Place) (s m : State) (c : ℕ) (cs : List ℕ) (s' : State) → step p s c ≡ Some m → is_deep m ≡ false → is_long m ≡ false → Calm (after p c) m cs s' → Calm p s (c ∷ cs) s'
+one_calm : (p : Position) (s m : State) (c : ℕ) (cs : List ℕ) (s' : State) → step p s c ≡ Some m → is_deep m ≡ false → is_long m ≡ false → Calm (after p c) m cs s' → Calm p s (c ∷ cs) s'
 one_calm p s m c cs s' e d l k = (m, e, d, l, k)
 
 short_or : (n : ℕ) (b : Bool) → n ≤ 4096 → b ≡ false → (ltb 4096 n || b) ≡ false
@@ -45,8 +47,8 @@ both : (a b : Bool) → (a && b) ≡ true → (a ≡ true) × (b ≡ true)
 both true b e = (refl, e)
 both false b e = Prim.cc
 
-keyed_calm : (h : Held) (head : Head) (q : Place) → level_long h ≡ false → (cs k key rest : List ℕ) (s' : State) (p : Place) → key ≡ k ++ cs → list_all is_named cs ≡ true → length key ≤ 4096
-    → ((t : Place) → Calm t (as_state h (Keyed head q key)) rest s') → Calm p (as_state h (Keyed head q k)) (cs ++ rest) s'
+keyed_calm : (h : Held) (head : Head) (q : Position) → level_long h ≡ false → (cs k key rest : List ℕ) (s' : State) (p : Position) → key ≡ k ++ cs → list_all is_named cs ≡ true → length key ≤ 4096
+    → ((t : Position) → Calm t (as_state h (Keyed head q key)) rest s') → Calm p (as_state h (Keyed head q k)) (cs ++ rest) s'
 keyed_calm h head q l [] k key rest s' p e n f w = subst (λ (y : List ℕ). Calm p (as_state h (Keyed head q y)) rest s') (e ∙ append-nil k) (w p)
 keyed_calm h head q l (c ∷ cs) k key rest s' p e n f w =
     let a = both (is_named c) (list_all is_named cs) n in
@@ -102,7 +104,6 @@ unfolding class_of
 white_is c h = by_white c (is_white c) refl h
 
 plain_white : (c : ℕ) → is_plain c ≡ true → is_white c ≡ true → c ≡ 32
-unfolding is_white
 plain_white c e w = grind (arith, e, w)
 
 plain_low : (c : ℕ) → is_plain c ≡ true → c < 128
@@ -115,17 +116,17 @@ byte_by c k e f = encode_ascii c (plain_low c e)
 plain_byte : (c : ℕ) → is_plain c ≡ true → value_byte (class_of c) c ≡ c ∷ []
 plain_byte c e = byte_by c (class_of c) e refl
 
-abbrev quoting : Held → Head → Place → List ℕ → List ℕ → ℕ → State
+abbrev quoting : Held → Head → Position → List ℕ → List ℕ → ℕ → State
 quoting h head q key v n = as_state h (Quoted head q key Double v n)
 
-quoted_on : (p : Place) (h : Held) (head : Head) (q : Place) (key v : List ℕ) (n c : ℕ) → is_plain c ≡ true → step p (quoting h head q key v n) c ≡ Some (quoting h head q key (v ++ (c ∷ [])) (n + 1))
+quoted_on : (p : Position) (h : Held) (head : Head) (q : Position) (key v : List ℕ) (n c : ℕ) → is_plain c ≡ true → step p (quoting h head q key v n) c ≡ Some (quoting h head q key (v ++ (c ∷ [])) (n + 1))
 quoted_on p h head q key v n c e =
     quoted_rest p head q key Double v n h c (class_of c) (plain_less c e) (plain_ampersand c e)
     ∙ (ap (λ b. in_value b head q key Double v n h c (class_of c)) (plain_unquoted c e)
     ∙ ap (λ y. Some (quoting h head q key (v ++ y) (n + 1))) (plain_byte c e))
 
-value_calm : (h : Held) (head : Head) (q : Place) (key : List ℕ) → level_long h ≡ false → (cs v value rest : List ℕ) (n : ℕ) (s' : State) (p : Place) → value ≡ v ++ cs → length v ≡ n → list_all is_plain cs ≡ true → length value ≤ 4096
-    → ((t : Place) (m : ℕ) → Calm t (quoting h head q key value m) rest s') → Calm p (quoting h head q key v n) (cs ++ rest) s'
+value_calm : (h : Held) (head : Head) (q : Position) (key : List ℕ) → level_long h ≡ false → (cs v value rest : List ℕ) (n : ℕ) (s' : State) (p : Position) → value ≡ v ++ cs → length v ≡ n → list_all is_plain cs ≡ true → length value ≤ 4096
+    → ((t : Position) (m : ℕ) → Calm t (quoting h head q key value m) rest s') → Calm p (quoting h head q key v n) (cs ++ rest) s'
 value_calm h head q key l [] v value rest n s' p e j f g w = subst (λ (y : List ℕ). Calm p (quoting h head q key y n) rest s') (e ∙ append-nil v) (w p n)
 value_calm h head q key l (c ∷ cs) v value rest n s' p e j f g w =
     let a = both (is_plain c) (list_all is_plain cs) f in
@@ -142,15 +143,15 @@ if_fresh : (b : Bool) (o : Option State) → b ≡ true → some_if b o ≡ o
 if_fresh true o e = refl
 if_fresh false o e = absurd (let f : false ≡ true = e in cc)
 
-equals_on : (h : Held) (head : Head) (q : Place) (key : List ℕ) (p : Place) → is_fresh key head ≡ true → step p (as_state h (Keyed head q key)) 61 ≡ Some (as_state h (Signed head q key))
-unfolding class_of is_white is_letter is_later
+equals_on : (h : Held) (head : Head) (q : Position) (key : List ℕ) (p : Position) → is_fresh key head ≡ true → step p (as_state h (Keyed head q key)) 61 ≡ Some (as_state h (Signed head q key))
+unfolding class_of
 equals_on h head q key p f = if_fresh (is_fresh key head) (at h (Signed head q key)) f
 
-quote_on : (h : Held) (head : Head) (q : Place) (key : List ℕ) (p : Place) → step p (as_state h (Signed head q key)) 34 ≡ Some (quoting h head q key [] 0)
-unfolding class_of is_white is_letter is_later
+quote_on : (h : Held) (head : Head) (q : Position) (key : List ℕ) (p : Position) → step p (as_state h (Signed head q key)) 34 ≡ Some (quoting h head q key [] 0)
+unfolding class_of
 quote_on h head q key p = refl
 
-first_on : (h : Held) (head : Head) (p : Place) (c : ℕ) (k : Class) → starts_name k ≡ true → in_spaced p head h c k ≡ Some (as_state h (Keyed head p (c ∷ [])))
+first_on : (h : Held) (head : Head) (p : Position) (c : ℕ) (k : Class) → starts_name k ≡ true → in_spaced p head h c k ≡ Some (as_state h (Keyed head p (c ∷ [])))
 first_on h head p c Letter e = refl
 first_on h head p c k e = absurd (let f : false ≡ true = e in cc)
 
@@ -159,13 +160,13 @@ begun [] e = absurd (let f : false ≡ true = e in cc)
 begun (c ∷ cs) e = (c, cs, refl, e)
 
 -- from the white before a name to the end of its value
-abbrev pub tight_after : Held → Head → Place → List ℕ → List ℕ → State
+abbrev pub tight_after : Held → Head → Position → List ℕ → List ℕ → State
 tight_after h head p name value = as_state h (Tight (with_attribute head p name value))
 
 abbrev pub attribute_text : List ℕ → List ℕ → List ℕ
 attribute_text name value = name ++ (61 ∷ (34 ∷ (value ++ (34 ∷ []))))
 
-pub attribute_calm : (h : Held) (head : Head) (name value : List ℕ) (p : Place) → level_long h ≡ false → begins_name name ≡ true → list_all is_named name ≡ true → list_all is_plain value ≡ true → length name ≤ 4096 → length value ≤ 4096
+pub attribute_calm : (h : Held) (head : Head) (name value : List ℕ) (p : Position) → level_long h ≡ false → begins_name name ≡ true → list_all is_named name ≡ true → list_all is_plain value ≡ true → length name ≤ 4096 → length value ≤ 4096
     → is_fresh name head ≡ true → Calm p (as_state h (Spaced head)) (attribute_text name value) (tight_after h head p name value)
 attribute_calm h head [] value p l b n v s t f = absurd (let g : false ≡ true = b in cc)
 attribute_calm h head (c ∷ cs) value p l b n v s t f =

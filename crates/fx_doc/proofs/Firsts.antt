@@ -6,8 +6,8 @@ use Rattle.std.specs.Char.{IsScalar}
 use lib.Dec.{eqb, ltb}
 use lib.Utf8.{encode, encodes, scalar, scalars}
 use Rattle.std.proofs.lemmas.Str.{chars-append, chars-encodes, length-le-encodes, IsUtf8-encode, IsUtf8-past_char, IsUtf8-from_ascii, chars-IsAscii, encode_ascii}
-use Rattle.fx_doc_grammar.specs.Characters.{after_all}
-use Rattle.fx_doc_grammar.specs.declared.Place.{Place}
+use Rattle.fx_base.specs.Positions.{after_all}
+use Rattle.fx_base.specs.declared.positions.Position.{Position}
 use Rattle.fx_doc.specs.Reached.{is_flat}
 
 alone : (c : ℕ) → IsScalar c → chars (encode c) ≡ c ∷ []
@@ -66,10 +66,10 @@ utf8_behind (c ∷ part) rest e u =
 off : (c : ℕ) → not (eqb c 10) ≡ true → eqb c 10 ≡ false
 off c e = grind (arith, e)
 
-abbrev column_at : Place → ℕ → Place
+abbrev column_at : Position → ℕ → Position
 column_at p n = record { line = p.line; column = n }
 
-pub along_is : (p : Place) (part : List ℕ) → list_all is_flat part ≡ true → after_all p part ≡ column_at p (p.column + length part)
+pub along_is : (p : Position) (part : List ℕ) → list_all is_flat part ≡ true → after_all p part ≡ column_at p (p.column + length part)
 along_is p [] e = ap (column_at p) (none p.column)
   where
     none : (n : ℕ) → n ≡ n + 0

@@ -1,17 +1,17 @@
 -- Names that are the same: the grammar's test, and those of code.
 -- Below the answers on imports and attributes.
-use Rattle.std.proofs.Common.{◌≡◌, Bool, true, false, cond, ◌&&◌, ◌||◌, List, [], ◌∷◌, ◌++◌, map, refl, sym, ◌∙◌, ap, arith}
+use Rattle.std.proofs.Common.{◌≡◌, Bool, true, false, cond, ◌&&◌, ◌||◌, List, [], ◌∷◌, ◌++◌, map, refl, sym, ◌∙◌, ap, arith, zero, drop-cons, add-one, ◌≤◌, IsTrue, ◌↔◌, not, ℕ, ◌+◌, ◌<◌, suc, length, take, drop, get_or}
 use lib.Dec.{eqb, leb}
 use lib.Pointwise.{pointwise}
 use Rattle.std.proofs.Math.Seq.{take-suc}
 use Rattle.std.proofs.lemmas.List.{take-append-drop}
-use Rattle.std.proofs.Common.{zero, drop-cons, add-one, ◌≤◌, IsTrue, ◌↔◌, not, ℕ, ◌+◌, ◌<◌, suc, length, take, drop, get_or}
-use Rattle.fx_doc_grammar.specs.Grammar.{same_name, is_among}
+use Rattle.fx_doc_grammar.specs.Grammar.{is_among}
+use Rattle.std.specs.Str.{bytes_eq}
 use Rattle.fx_doc_grammar.specs.Machine.{keys_of}
 use Rattle.fx_doc.specs.Views.{attr_view}
 use Rattle.fx_doc.specs.declared.document.Attribute.{Attribute}
 
-pub pointwise_same : (a b : List ℕ) → pointwise eqb a b ≡ same_name a b
+pub pointwise_same : (a b : List ℕ) → pointwise eqb a b ≡ bytes_eq a b
 pointwise_same [] [] = refl
 pointwise_same [] (y ∷ b) = refl
 pointwise_same (x ∷ a) [] = refl
@@ -20,9 +20,9 @@ pointwise_same (x ∷ a) (y ∷ b) = ap (λ z. eqb x y && z) (pointwise_same a b
 eqb_refl : (n : ℕ) → eqb n n ≡ true
 eqb_refl n = grind arith
 
-pub same_itself : (a : List ℕ) → same_name a a ≡ true
+pub same_itself : (a : List ℕ) → bytes_eq a a ≡ true
 same_itself [] = refl
-same_itself (x ∷ a) = ap (λ z. z && same_name a a) (eqb_refl x) ∙ same_itself a
+same_itself (x ∷ a) = ap (λ z. z && bytes_eq a a) (eqb_refl x) ∙ same_itself a
 
 both : (a b : Bool) → (a && b) ≡ true → (a ≡ true) × (b ≡ true)
 both true b e = (refl, e)
@@ -31,12 +31,12 @@ both false b e = Prim.cc
 eqb_is : (a b : ℕ) → eqb a b ≡ true → a ≡ b
 eqb_is a b e = grind (arith, e)
 
-pub same_is : (a b : List ℕ) → same_name a b ≡ true → a ≡ b
+pub same_is : (a b : List ℕ) → bytes_eq a b ≡ true → a ≡ b
 same_is [] [] e = refl
 same_is [] (y ∷ b) e = Prim.cc
 same_is (x ∷ a) [] e = Prim.cc
 same_is (x ∷ a) (y ∷ b) e =
-    let r = both (eqb x y) (same_name a b) e in
+    let r = both (eqb x y) (bytes_eq a b) e in
     let h : x ≡ y = eqb_is x y r.0 in
     let t : a ≡ b = same_is a b r.1 in
     Prim.cc
@@ -45,13 +45,13 @@ no_true : (b : Bool) → (b ≡ true → ⊥) → b ≡ false
 no_true true n = absurd (n refl)
 no_true false n = refl
 
-pub same_not : (a b : List ℕ) → (b ≡ a → ⊥) → same_name a b ≡ false
-same_not a b n = no_true (same_name a b) (λ e. n (sym (same_is a b e)))
+pub same_not : (a b : List ℕ) → (b ≡ a → ⊥) → bytes_eq a b ≡ false
+same_not a b n = no_true (bytes_eq a b) (λ e. n (sym (same_is a b e)))
 
 -- a name is among names, from the left
 pub among_found : (k n : List ℕ) (before after : List (List ℕ)) → n ≡ k → is_among k (before ++ (n ∷ after)) ≡ true
-among_found k n [] after e = ap (λ y. y || is_among k after) (ap (λ y. same_name k y) e ∙ same_itself k)
-among_found k n (x ∷ before) after e = ap (λ y. same_name k x || y) (among_found k n before after e) ∙ or_true (same_name k x)
+among_found k n [] after e = ap (λ y. y || is_among k after) (ap (λ y. bytes_eq k y) e ∙ same_itself k)
+among_found k n (x ∷ before) after e = ap (λ y. bytes_eq k x || y) (among_found k n before after e) ∙ or_true (bytes_eq k x)
   where
     or_true : (b : Bool) → (b || true) ≡ true
     or_true true = refl
@@ -60,7 +60,7 @@ among_found k n (x ∷ before) after e = ap (λ y. same_name k x || y) (among_fo
 pub among_not : (k n : List ℕ) (before : List (List ℕ)) → is_among k before ≡ false → (n ≡ k → ⊥) → is_among k (before ++ (n ∷ [])) ≡ false
 among_not k n [] e f = ap (λ y. y || false) (same_not k n f)
 among_not k n (x ∷ before) e f =
-    let r = none (same_name k x) (is_among k before) e in
+    let r = none (bytes_eq k x) (is_among k before) e in
     ap (λ y. y || is_among k (before ++ (n ∷ []))) r.0 ∙ among_not k n before r.1 f
   where
     none : (a b : Bool) → (a || b) ≡ false → (a ≡ false) × (b ≡ false)
@@ -110,7 +110,7 @@ so_not false r e p = let h : false ≡ true = r.1 p in Prim.cc
 
 among_both : (k : List ℕ) (ns ms : List (List ℕ)) → is_among k (ns ++ ms) ≡ (is_among k ns || is_among k ms)
 among_both k [] ms = refl
-among_both k (n ∷ ns) ms = ap (λ z. same_name k n || z) (among_both k ns ms) ∙ or_same (same_name k n) (is_among k ns) (is_among k ms)
+among_both k (n ∷ ns) ms = ap (λ z. bytes_eq k n || z) (among_both k ns ms) ∙ or_same (bytes_eq k n) (is_among k ns) (is_among k ms)
   where
     or_same : (a b c : Bool) → (a || (b || c)) ≡ ((a || b) || c)
     or_same true b c = refl

@@ -1,18 +1,15 @@
 -- The innermost open name, and one more attribute in a tag.
 -- Below the answers on values and end tags.
-use Rattle.std.proofs.Common.{◌≡◌, ℕ, ◌+◌, ◌-◌, ◌<◌, ◌≤◌, List, [], ◌∷◌, ◌++◌, zero, suc, map, length, drop, get_or, refl, sym, ◌∙◌, ap, subst, add-one, drop-cons, arith}
-use Rattle.fx_doc_grammar.specs.declared.Place.{Place}
+use Rattle.std.proofs.Common.{◌≡◌, ℕ, ◌+◌, ◌-◌, ◌<◌, ◌≤◌, List, [], ◌∷◌, ◌++◌, zero, suc, map, length, drop, get_or, refl, sym, ◌∙◌, ap, subst, add-one, drop-cons, arith, Bool, true, false, ◌&&◌, Option, Some, None}
+use Rattle.fx_base.specs.declared.positions.Position.{Position}
 use Rattle.fx_doc_grammar.specs.Grammar.{Attr, Head as HeadView}
-use Rattle.std.proofs.Common.{Bool, true, false, ◌&&◌}
 use lib.Dec.{leb}
 use Rattle.fx_doc_grammar.specs.Machine.{Stack, Bottom, Opened, stack_depth, is_deep, is_naming, State, is_long}
-use Rattle.std.proofs.Common.{Option, Some, None}
-use Rattle.fx_doc.specs.Views.{view, mode_view, IsDeepAt, IsDeepMode, IsLongStep}
+use Rattle.fx_doc.specs.Views.{view, mode_view, IsDeepAt, IsDeepMode, IsLongStep, attr_view, head_view, level_view, stack_from, stack_view, open_name}
 use Rattle.fx_doc.specs.declared.modes.Mode.{Mode}
 use Rattle.fx_doc.specs.declared.modes.Mode.TheVariants as v
 use Rattle.fx_doc.specs.declared.modes.Reader.{Reader}
 use Rattle.fx_doc_drafts.specs.declared.drafts.Word.{Word}
-use Rattle.fx_doc.specs.Views.{attr_view, head_view, level_view, stack_from, stack_view, open_name}
 use Rattle.fx_doc.specs.declared.document.Attribute.{Attribute}
 use Rattle.fx_doc.specs.declared.modes.Open.{Open}
 
@@ -20,10 +17,10 @@ attrs_push : (xs : List Attribute) (a : Attribute) → map attr_view (xs ++ (a �
 attrs_push [] a = refl
 attrs_push (x ∷ xs) a = ap (λ (y : List Attr). attr_view x ∷ y) (attrs_push xs a)
 
-abbrev pub head_by : List ℕ → List Attr → Place → HeadView
+abbrev pub head_by : List ℕ → List Attr → Position → HeadView
 head_by n ats p = record { name = n; attributes = ats; place = p }
 
-pub head_push : (name : List ℕ) (xs ys : List Attribute) (a : Attribute) (p : Place) (b : Attr) → ys ≡ xs ++ (a ∷ []) → attr_view a ≡ b → head_by name (map attr_view ys) p ≡ head_by name (map attr_view xs ++ (b ∷ [])) p
+pub head_push : (name : List ℕ) (xs ys : List Attribute) (a : Attribute) (p : Position) (b : Attr) → ys ≡ xs ++ (a ∷ []) → attr_view a ≡ b → head_by name (map attr_view ys) p ≡ head_by name (map attr_view xs ++ (b ∷ [])) p
 head_push name xs ys a p b e f = ap (λ (y : List Attr). head_by name y p) (ap (map attr_view) e ∙ (attrs_push xs a ∙ ap (λ (y : Attr). map attr_view xs ++ (y ∷ [])) f))
 
 last_from : (s : Stack) (y : Open) (os : List Open) (x : Open) → x ≡ get_or (y ∷ os) (length os) x → open_name (stack_from s (y ∷ os)) ≡ x.head.name
@@ -66,7 +63,7 @@ depth_is os n e =
     let h : stack_depth (stack_view os) ≡ 0 + length os = depth_from Bottom os in
     omega arith
 
-pub deep_view : (r : Reader) (n : ℕ) (p : Place) (w : Word) → r.mode ≡ v.Naming p w → n ≡ length r.held.stack.items → 128 ≤ n → IsDeepAt (view r) p
+pub deep_view : (r : Reader) (n : ℕ) (p : Position) (w : Word) → r.mode ≡ v.Naming p w → n ≡ length r.held.stack.items → 128 ≤ n → IsDeepAt (view r) p
 deep_view r n p w e g h = (subst (λ (y : Mode). IsDeepMode (mode_view (stack_view r.held.stack.items) y) p) (sym e) refl, subst (λ y. 128 ≤ y) (sym (depth_is r.held.stack.items n g)) h)
 
 and_false : (b : Bool) → (b && false) ≡ false

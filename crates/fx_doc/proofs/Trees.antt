@@ -1,12 +1,10 @@
 -- The fold by which contracts see the tree: at a child, at a run, and at one more piece of content.
 -- Below the answers on levels.
-use Rattle.std.proofs.Common.{◌≡◌, ℕ, Bool, true, false, not, List, [], ◌∷◌, ◌++◌, map, length, refl, sym, ◌∙◌, ap, subst, nat_eq, arith}
+use Rattle.std.proofs.Common.{◌≡◌, ℕ, Bool, true, false, not, List, [], ◌∷◌, ◌++◌, map, length, refl, sym, ◌∙◌, ap, subst, nat_eq, arith, Option, Some, None, suc}
 use Rattle.std.proofs.lemmas.Grind.{common_steps}
-use Rattle.fx_doc_grammar.specs.declared.Place.{Place}
-use Rattle.fx_doc_grammar.specs.Grammar.{IsRoot, Nodes, Nothing, Letters, Node, Reading as ReadingView, Level as LevelView, Head as HeadView}
+use Rattle.fx_base.specs.declared.positions.Position.{Position}
+use Rattle.fx_doc_grammar.specs.Grammar.{IsRoot, Nodes, Nothing, Letters, Node, Reading as ReadingView, Level as LevelView, Head as HeadView, one_child, closed, with_run}
 use Rattle.fx_doc_grammar.specs.Machine.{Stack, Bottom, Opened, Held as HeldView, is_nothing, is_open, close_in, at, Inside, State, answer, answer_of}
-use Rattle.fx_doc_grammar.specs.Grammar.{one_child, closed, with_run}
-use Rattle.std.proofs.Common.{Option, Some, None, suc}
 use Rattle.fx_doc.specs.Views.{Onto, built, onto, nodes_of, onto_element, node_of, IsRun, AnswersRoot, content_step, element_step, attr_view, head_view, level_view, level_behind, stack_from, stack_view}
 use Rattle.fx_doc.specs.declared.document.Content.{Content}
 use Rattle.fx_doc.specs.declared.document.Element.{Element}
@@ -73,7 +71,7 @@ held_by a s l = record { imports = a; stack = s; level = l }
 pub held_same : (a : List (List ℕ)) (s s' : Stack) (l l' : LevelView) → s ≡ s' → l ≡ l' → held_by a s l ≡ held_by a s' l'
 held_same a s s' l l' e g = λ i. record { imports = a; stack = e i; level = g i }
 
-pub closed_push : (cs ds : List Content) (t bytes : List ℕ) (first : Option Place) (p : Place) → ds ≡ cs ++ (v.Chars t p.line p.column ∷ []) → t ≡ bytes → first ≡ Some p → nodes_of ds ≡ with_run first (nodes_of cs) bytes
+pub closed_push : (cs ds : List Content) (t bytes : List ℕ) (first : Option Position) (p : Position) → ds ≡ cs ++ (v.Chars t p.line p.column ∷ []) → t ≡ bytes → first ≡ Some p → nodes_of ds ≡ with_run first (nodes_of cs) bytes
 closed_push cs ds t bytes first p e g h =
     ap nodes_of e ∙ (nodes_of_push cs (v.Chars t p.line p.column) ∙ (onto_chars t p.line p.column (nodes_of cs)
     ∙ (ap (λ y. Letters (nodes_of cs) y p) g ∙ ap (λ y. with_run y (nodes_of cs) bytes) (sym h))))
@@ -81,16 +79,16 @@ closed_push cs ds t bytes first p e g h =
 abbrev pub element_head : Element → HeadView
 element_head e = record { name = (w.out-Element e).name; attributes = map attr_view (w.out-Element e).attributes; place = record { line = (w.out-Element e).line; column = (w.out-Element e).column } }
 
-abbrev pub level_by : Nodes → List ℕ → Option Place → ℕ → LevelView
+abbrev pub level_by : Nodes → List ℕ → Option Position → ℕ → LevelView
 level_by n r p c = record { nodes = n; run = r; first = p; count = c }
 
-pub kept_run : (cs ds : List Content) (t bytes run : List ℕ) (count : ℕ) (first : Option Place) (p : Place) → ds ≡ cs ++ (v.Chars t p.line p.column ∷ []) → t ≡ bytes → first ≡ Some p → run ≡ [] → count ≡ 0
+pub kept_run : (cs ds : List Content) (t bytes run : List ℕ) (count : ℕ) (first : Option Position) (p : Position) → ds ≡ cs ++ (v.Chars t p.line p.column ∷ []) → t ≡ bytes → first ≡ Some p → run ≡ [] → count ≡ 0
     → level_by (nodes_of ds) run None count ≡ level_behind (with_run first (nodes_of cs) bytes)
 kept_run cs ds t bytes run count first p e g h r k =
     let n : nodes_of ds ≡ with_run first (nodes_of cs) bytes = closed_push cs ds t bytes first p e g h in
     λ i. level_by (n i) (r i) None (k i)
 
-pub level_child : (cs ds : List Content) (e : Element) (run : List ℕ) (first : Option Place) (count : ℕ) (l : LevelView) (head : HeadView) → ds ≡ cs ++ (v.Child e ∷ []) → level_by (nodes_of cs) run first count ≡ level_behind (closed l) → element_head e ≡ head
+pub level_child : (cs ds : List Content) (e : Element) (run : List ℕ) (first : Option Position) (count : ℕ) (l : LevelView) (head : HeadView) → ds ≡ cs ++ (v.Child e ∷ []) → level_by (nodes_of cs) run first count ≡ level_behind (closed l) → element_head e ≡ head
     → level_by (nodes_of ds) run first count ≡ one_child l head (nodes_of (w.out-Element e).content.items)
 level_child cs ds e run first count l head h1 h2 h3 =
     let n : nodes_of ds ≡ Node (closed l) head (nodes_of (w.out-Element e).content.items) =
@@ -113,7 +111,7 @@ element_node e n = ap (λ (g : Onto). g n) (f.fold_out-Element Onto Onto content
 
 -- the end of a text
 
-abbrev pub level_at_end : Nodes → List ℕ → Option Place → ℕ → LevelView
+abbrev pub level_at_end : Nodes → List ℕ → Option Position → ℕ → LevelView
 level_at_end n r p c = record { nodes = n; run = r; first = p; count = c }
 
 abbrev pub end_state : List (List ℕ) → Stack → LevelView → State

@@ -4,15 +4,13 @@ use Rattle.std.proofs.Common.{◌≡◌, ℕ, ◌+◌, ◌/◌, ◌%◌, ◌≤�
 use Rattle.std.specs.Str.{IsUtf8}
 use lib.Utf8.{encode, encodes, scalars, scalar}
 use lib.Dec.{ltb}
-use Rattle.fx_doc_grammar.specs.Characters.{is_white}
-use Rattle.fx_doc_grammar.specs.Grammar.{trim_front, trim_back, trim_last}
+use Rattle.fx_text.specs.Classes.{is_white}
+use Rattle.fx_text.specs.Trimming.{trim_front, trim_back, trim_last}
 
 white_low : (c : ℕ) → is_white c ≡ true → ltb c 128 ≡ true
-unfolding is_white
 white_low c e = grind (arith, e)
 
 high_shown : (c : ℕ) → 128 ≤ c → is_white c ≡ false
-unfolding is_white
 high_shown c h = grind arith
 
 ascii_encode : (c : ℕ) → ltb c 128 ≡ true → encode c ≡ c ∷ []

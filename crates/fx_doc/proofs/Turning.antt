@@ -5,11 +5,11 @@ use Rattle.std.specs.List.{list_all}
 use Rattle.std.specs.Result.{IsErrAnd}
 use Rattle.std.specs.Str.{chars, IsUtf8}
 use Rattle.std.proofs.lemmas.Str.{chars-nil, IsUtf8-had}
-use Rattle.fx_doc_grammar.specs.Characters.{start, after, after_all}
+use Rattle.fx_base.specs.Positions.{start, after, after_all}
 use Rattle.fx_doc_grammar.specs.Grammar.{Reading as ReadingView, IsRoot}
 use Rattle.fx_doc_grammar.specs.Machine.{State, initial, answer}
 use Rattle.fx_doc_grammar.specs.Beginnings.{IsStopped}
-use Rattle.fx_doc_grammar.specs.declared.Place.{Place}
+use Rattle.fx_base.specs.declared.positions.Position.{Position}
 use Rattle.fx_doc_grammar.proofs.Bounds.{within_start}
 use Rattle.fx_doc_grammar.proofs.Roots.{line_bound, column_bound, answered_root}
 use Rattle.fx_doc.specs.Reads.{IsNext, IsRead}
@@ -35,22 +35,22 @@ begins text r u e = record {
     same : (n : ℕ) → 0 + n ≤ n
     same n = omega arith
 
-pub line_fits : (text rest : List ℕ) (p : Place) (s : State) → IsReached text rest p s → length text ≤ 4194304 → p.line + length rest ≤ 4194306
+pub line_fits : (text rest : List ℕ) (p : Position) (s : State) → IsReached text rest p s → length text ≤ 4194304 → p.line + length rest ≤ 4194306
 line_fits text rest p s h k =
     let b : (after_all start h.said).line ≤ 1 + length h.said = line_bound start h.said in
-    let e : p.line ≡ (after_all start h.said).line = ap (λ (y : Place). y.line) h.reached.place in
+    let e : p.line ≡ (after_all start h.said).line = ap (λ (y : Position). y.line) h.reached.place in
     let f : length h.said + length rest ≤ length text = h.fewer in
     omega arith
 
-pub column_fits : (text rest : List ℕ) (p : Place) (s : State) → IsReached text rest p s → length text ≤ 4194304 → p.column + length rest ≤ 4194306
+pub column_fits : (text rest : List ℕ) (p : Position) (s : State) → IsReached text rest p s → length text ≤ 4194304 → p.column + length rest ≤ 4194306
 column_fits text rest p s h k =
     let b : (after_all start h.said).column ≤ 1 + length h.said = column_bound start h.said in
-    let e : p.column ≡ (after_all start h.said).column = ap (λ (y : Place). y.column) h.reached.place in
+    let e : p.column ≡ (after_all start h.said).column = ap (λ (y : Position). y.column) h.reached.place in
     let f : length h.said + length rest ≤ length text = h.fewer in
     omega arith
 
 -- behind one character
-pub one_reached : (text rest behind : List ℕ) (p q : Place) (r r' : Reader) (c : ℕ) → IsReached text rest p (view r) → chars rest ≡ c ∷ chars behind → length behind < length rest → IsUtf8 behind → IsNext (view r) p c r' (Ok tt) → q ≡ after p c → IsReached text behind q (view r')
+pub one_reached : (text rest behind : List ℕ) (p q : Position) (r r' : Reader) (c : ℕ) → IsReached text rest p (view r) → chars rest ≡ c ∷ chars behind → length behind < length rest → IsUtf8 behind → IsNext (view r) p c r' (Ok tt) → q ≡ after p c → IsReached text behind q (view r')
 one_reached text rest behind p q r r' c h e k u n w =
     let l : length (h.said ++ (c ∷ [])) ≡ length h.said + 1 = length-append h.said (c ∷ []) in
     let f : length h.said + length rest ≤ length text = h.fewer in
@@ -67,7 +67,7 @@ one_reached text rest behind p q r r' c h e k u n w =
     }
 
 -- behind a part of plain ASCII
-pub flat_reached : (text rest left : List ℕ) (p q : Place) (r r' : Reader) → IsReached text rest p (view r) → TookFlat rest p (view r) left (view r') → q.line ≡ p.line → q.column ≡ p.column + (length rest - length left) → IsReached text left q (view r')
+pub flat_reached : (text rest left : List ℕ) (p q : Position) (r r' : Reader) → IsReached text rest p (view r) → TookFlat rest p (view r) left (view r') → q.line ≡ p.line → q.column ≡ p.column + (length rest - length left) → IsReached text left q (view r')
 flat_reached text rest left p q r r' h t e f =
     let l : length rest ≡ length t.part + length left = ap length t.split ∙ length-append t.part left in
     let m : length (h.said ++ t.part) ≡ length h.said + length t.part = length-append h.said t.part in
@@ -79,25 +79,25 @@ flat_reached text rest left p q r r' h t e f =
       split = h.split ∙ (ap (λ y. h.said ++ y) (ap chars t.split ∙ flat_chars t.part left t.flat) ∙ sym (append_assoc h.said t.part (chars left)));
       fewer = omega arith;
       utf8 = utf8_behind t.part left t.flat (subst IsUtf8 t.split h.utf8);
-      reached = subst (λ (y : Place). Said (h.said ++ t.part) y (view r')) (sym w) (said_more h.said p (view r) t.part (view r') h.reached t.calm);
+      reached = subst (λ (y : Position). Said (h.said ++ t.part) y (view r')) (sym w) (said_more h.said p (view r) t.part (view r') h.reached t.calm);
     }
 
 -- a step that stops
-pub stops_reached : (text rest behind : List ℕ) (p : Place) (r r' : Reader) (c : ℕ) (e : DocError) → IsReached text rest p (view r) → chars rest ≡ c ∷ chars behind → IsNext (view r) p c r' (Err e) → IsRead (chars text) (Err e)
+pub stops_reached : (text rest behind : List ℕ) (p : Position) (r r' : Reader) (c : ℕ) (e : DocError) → IsReached text rest p (view r) → chars rest ≡ c ∷ chars behind → IsNext (view r) p c r' (Err e) → IsRead (chars text) (Err e)
 stops_reached text rest behind p r r' c e h k n = stops (chars text) h.said c p r r' e (record { more = chars behind; split = h.split ∙ ap (λ y. h.said ++ y) k }) h.reached.state h.reached.place h.reached.within n
 
 pub memory_read : (all : List ℕ) (r : Result Document DocError) (e m : DocError) → IsRead all (Err m) → e ≡ m → IsErrAnd r (λ y. y ≡ e) → IsRead all r
 memory_read all r e m h g i = passed all r e i (subst (λ (z : DocError). IsRead all (Err z)) (sym g) h)
 
 -- the end of the text
-whole : (text rest : List ℕ) (p : Place) (s : State) (h : IsReached text rest p s) → rest ≡ [] → h.said ≡ chars text
+whole : (text rest : List ℕ) (p : Position) (s : State) (h : IsReached text rest p s) → rest ≡ [] → h.said ≡ chars text
 whole text rest p s h e = sym (h.split ∙ (ap (λ y. h.said ++ chars y) e ∙ (ap (λ y. h.said ++ y) chars-nil ∙ append-nil h.said)))
 
-pub ends_reached : (text rest : List ℕ) (p : Place) (r : Reader) (d : Document) → IsReached text rest p (view r) → rest ≡ [] → answer (view r) ≡ Some (reading d) → IsRead (chars text) (Ok d)
+pub ends_reached : (text rest : List ℕ) (p : Position) (r : Reader) (d : Document) → IsReached text rest p (view r) → rest ≡ [] → answer (view r) ≡ Some (reading d) → IsRead (chars text) (Ok d)
 ends_reached text rest p r d h e a = ends_read (chars text) h.said r d (whole text rest p (view r) h e) h.reached.state h.reached.within a
 
-pub stopped_reached : (text rest : List ℕ) (p : Place) (r : Reader) → IsReached text rest p (view r) → rest ≡ [] → answer (view r) ≡ None → IsStopped (chars text) p
+pub stopped_reached : (text rest : List ℕ) (p : Position) (r : Reader) → IsReached text rest p (view r) → rest ≡ [] → answer (view r) ≡ None → IsStopped (chars text) p
 stopped_reached text rest p r h e a = ends_stopped (chars text) h.said p r (whole text rest p (view r) h e) h.reached.state h.reached.place h.reached.within a
 
-pub root_reached : (text rest : List ℕ) (p : Place) (r : Reader) → IsReached text rest p (view r) → (n : ReadingView) → answer (view r) ≡ Some n → IsRoot n.root
+pub root_reached : (text rest : List ℕ) (p : Position) (r : Reader) → IsReached text rest p (view r) → (n : ReadingView) → answer (view r) ≡ Some n → IsRoot n.root
 root_reached text rest p r h n e = answered_root h.said (view r) n h.reached.state e

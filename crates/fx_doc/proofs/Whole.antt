@@ -3,10 +3,11 @@
 use Rattle.std.proofs.Common.{◌≡◌, ℕ, ◌+◌, ◌<◌, ◌≤◌, Bool, true, false, ◌&&◌, not, List, [], ◌∷◌, ◌++◌, length, refl, sym, ◌∙◌, ap, subst, append_assoc, arith}
 use Rattle.std.specs.List.{list_all}
 use lib.Dec.{eqb, ltb}
-use Rattle.fx_doc_grammar.specs.Characters.{class_of, is_white, is_letter, is_later, in_name}
+use Rattle.fx_doc_grammar.specs.Characters.{class_of, is_later, in_name}
+use Rattle.fx_text.specs.Classes.{is_white, is_letter}
 use Rattle.fx_doc_grammar.specs.Grammar.{Head as HeadView}
 use Rattle.fx_doc_grammar.specs.Machine.{State, Mode, Spaced, Tight, is_fresh, with_attribute}
-use Rattle.fx_doc_grammar.specs.declared.Place.{Place}
+use Rattle.fx_base.specs.declared.positions.Position.{Position}
 use Rattle.fx_doc_grammar.proofs.Marks.{as_state}
 use Rattle.fx_doc_drafts.specs.Ahead.{IsAhead, is_named, is_plain}
 use Rattle.fx_doc.specs.Reached.{Calm, TookFlat, is_flat}
@@ -23,7 +24,7 @@ both true b e = (refl, e)
 both false b e = Prim.cc
 
 lf_named : in_name (class_of 10) ≡ false
-unfolding class_of is_white is_letter is_later
+unfolding class_of
 lf_named = refl
 
 named_off : (c : ℕ) → in_name (class_of c) ≡ true → c ≡ 10 → ⊥
@@ -62,7 +63,7 @@ text_split : (name value behind : List ℕ) → name ++ (61 ∷ (34 ∷ (value +
 text_split name value behind =
     ap (λ y. name ++ (61 ∷ (34 ∷ y))) (sym (append_assoc value (34 ∷ []) behind)) ∙ sym (append_assoc name (61 ∷ (34 ∷ (value ++ (34 ∷ [])))) behind)
 
-pub took_attribute : (r : Reader) (m : ModeHere) (a b d : Head) (rest name value behind key val : List ℕ) (p : Place) → r.mode ≡ v.Spaced a → m ≡ r.mode → m ≡ v.Spaced b → IsAhead rest name value behind → key ≡ name → val ≡ value
+pub took_attribute : (r : Reader) (m : ModeHere) (a b d : Head) (rest name value behind key val : List ℕ) (p : Position) → r.mode ≡ v.Spaced a → m ≡ r.mode → m ≡ v.Spaced b → IsAhead rest name value behind → key ≡ name → val ≡ value
     → is_fresh key (head_view a) ≡ true → head_view d ≡ with_attribute (head_view b) p key val → TookFlat rest p (view r) behind (as_state (held_view r.held) (Tight (head_view d)))
 took_attribute r m a b d rest name value behind key val p e f g h j k n w =
     let fresh : is_fresh name (head_view b) ≡ true = ap (λ y. is_fresh y (head_view b)) (sym j) ∙ (same_fresh r key r.mode a b e (sym f ∙ g) ∙ n) in

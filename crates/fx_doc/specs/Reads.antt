@@ -3,7 +3,7 @@
 use Rattle.std.specs.Prelude.{◌≡◌, ℕ, true, false, cond, List, [], ◌∷◌, Option, Some, None, Result, Ok, Err}
 use lib.Dec.{eqb}
 use Rattle.std.specs.Str.{chars, IsUtf8, IsValidUpTo}
-use Rattle.fx_doc_grammar.specs.declared.Place.{Place}
+use Rattle.fx_base.specs.declared.positions.Position.{Position}
 use Rattle.fx_doc_grammar.specs.Grammar.{Spells}
 use Rattle.fx_doc_grammar.specs.Machine.{State, step, is_deep, is_long, sign_place}
 use Rattle.fx_doc_grammar.specs.Beginnings.{IsWithinLimits, IsTooDeep, IsTooLong, IsStopped}
@@ -14,11 +14,11 @@ use Rattle.fx_doc.specs.declared.document.DocError.{DocError}
 use Rattle.fx_doc.specs.declared.document.DocError.TheVariants.{NotUtf8, Markup, Depth, Long, Memory}
 use Rattle.fx_doc.specs.declared.modes.Reader.{Reader}
 
-abbrev pub place_of : ℕ → ℕ → Place
+abbrev pub place_of : ℕ → ℕ → Position
 place_of line column = record { line = line; column = column }
 
 -- one character further, where the machine goes to o and the reader is r: its next state, or why there is none; the character stands at p, and its sign begins at sign
-abbrev pub IsStep : Option State → Place → Place → Reader → Result (Unit {0}) DocError → Type 0
+abbrev pub IsStep : Option State → Position → Position → Reader → Result (Unit {0}) DocError → Type 0
 IsStep o p sign r (Ok _) = (o ≡ Some (view r)) × (is_deep (view r) ≡ false)
 IsStep o p sign r (Err (Markup line column)) = (o ≡ None) × (place_of line column ≡ p)
 IsStep o p sign r (Err (Long line column)) = (s : State) × (o ≡ Some s) × (is_long s ≡ true) × (place_of line column ≡ sign)
@@ -26,7 +26,7 @@ IsStep o p sign r (Err (Depth line column)) = (s : State) × (o ≡ Some s) × I
 IsStep o p sign r (Err (NotUtf8 n)) = ⊥
 IsStep o p sign r (Err Memory) = Unit {0}
 
-abbrev pub IsNext : State → Place → ℕ → Reader → Result (Unit {0}) DocError → Type 0
+abbrev pub IsNext : State → Position → ℕ → Reader → Result (Unit {0}) DocError → Type 0
 IsNext s p c r answer = IsStep (step p s c) p (sign_place p s.mode) r answer
 
 -- what is read of characters, and where they are no document that can be read

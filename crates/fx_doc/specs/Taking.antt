@@ -7,7 +7,7 @@ use Rattle.fx_doc_grammar.specs.Grammar.{is_quote, value_byte, one_sign}
 use Rattle.fx_doc_grammar.specs.Machine.{is_open}
 use Rattle.fx_doc_grammar.specs.declared.Class.{Class}
 use Rattle.fx_doc_grammar.specs.declared.Class.TheVariants.{Less, Ampersand}
-use Rattle.fx_doc_grammar.specs.declared.Place.{Place}
+use Rattle.fx_base.specs.declared.positions.Position.{Position}
 use Rattle.fx_doc.specs.Views.{level_view, stack_view}
 use Rattle.fx_doc_drafts.specs.declared.drafts.Halt.{Halt}
 use Rattle.fx_doc_drafts.specs.declared.drafts.Halt.TheVariants.{Long, Memory}
@@ -38,7 +38,7 @@ TakesValue c k v v' (Err Memory) = Unit {0}
 abbrev pub IsSign : Held → Class → Type 0
 IsSign h k = (k ≢ Less) × (k ≢ Ampersand) × (is_open (stack_view h.stack.items) ≡ true)
 
-abbrev pub TakesSign : Place → ℕ → Class → Held → Held → Result Bool Halt → Type 0
+abbrev pub TakesSign : Position → ℕ → Class → Held → Held → Result Bool Halt → Type 0
 TakesSign p c k h h' (Ok true) = IsSign h k × (h'.imports ≡ h.imports) × (h'.stack ≡ h.stack) × (level_view h'.level ≡ one_sign p c (level_view h.level))
 TakesSign p c k h h' (Ok false) = h' ≡ h
 TakesSign p c k h h' (Err Long) = IsSign h k × (h.level.run.count ≡ 4096)

@@ -2,7 +2,7 @@
 -- The tree is seen by a fold, since its values hold capacities and pointers.
 use Rattle.std.specs.Prelude.{◌≡◌, ◌≤◌, ℕ, Bool, true, false, List, [], ◌∷◌, map, drop, Option, Some, None, Result, Ok, Err}
 use Rattle.std.specs.String.{string_bytes}
-use Rattle.fx_doc_grammar.specs.declared.Place.{Place}
+use Rattle.fx_base.specs.declared.positions.Position.{Position}
 use Rattle.fx_doc_grammar.specs.declared.Entity.TheVariants.{Begun}
 use Rattle.fx_doc_grammar.specs.declared.Quote.{Quote}
 use Rattle.fx_doc_grammar.specs.Grammar.{IsRoot, Nodes, Nothing, Letters, Node, Attr, Reading, Level as LevelView, Head as HeadView}
@@ -139,40 +139,40 @@ Takes o r r' (Err Memory) = Unit {0}
 abbrev pub inside_state : m.Held → Option m.State
 inside_state h = m.at h m.Inside
 
-abbrev pub referring_state : m.Held → Place → Option m.State
+abbrev pub referring_state : m.Held → Position → Option m.State
 referring_state h p = m.at h (m.Referring p Begun)
 
-abbrev pub naming_state : m.Held → Place → List ℕ → Option m.State
+abbrev pub naming_state : m.Held → Position → List ℕ → Option m.State
 naming_state h p n = m.at h (m.Naming p n)
 
 abbrev pub instructing_state : m.Held → List ℕ → Option m.State
 instructing_state h n = m.at h (m.Instructing n)
 
-abbrev pub keyed_state : m.Held → HeadView → Place → List ℕ → Option m.State
+abbrev pub keyed_state : m.Held → HeadView → Position → List ℕ → Option m.State
 keyed_state h head p n = m.at h (m.Keyed head p n)
 
-abbrev pub key_spaced_state : m.Held → HeadView → Place → List ℕ → Option m.State
+abbrev pub key_spaced_state : m.Held → HeadView → Position → List ℕ → Option m.State
 key_spaced_state h head p n = m.at h (m.KeySpaced head p n)
 
-abbrev pub signed_state : m.Held → HeadView → Place → List ℕ → Option m.State
+abbrev pub signed_state : m.Held → HeadView → Position → List ℕ → Option m.State
 signed_state h head p n = m.at h (m.Signed head p n)
 
 -- the tag of a name alone
-abbrev pub bare_head : Place → List ℕ → HeadView
+abbrev pub bare_head : Position → List ℕ → HeadView
 bare_head p n = record { name = n; attributes = []; place = p }
 
 abbrev pub tight_state : m.Held → HeadView → Option m.State
 tight_state h head = m.at h (m.Tight head)
 
-abbrev pub quoted_state : m.Held → HeadView → Place → List ℕ → Quote → List ℕ → ℕ → Option m.State
+abbrev pub quoted_state : m.Held → HeadView → Position → List ℕ → Quote → List ℕ → ℕ → Option m.State
 quoted_state h head p k u b n = m.at h (m.Quoted head p k u b n)
 
 -- an element begins at p within 128 open ones
-abbrev pub IsDeepMode : m.Mode → Place → Type 0
+abbrev pub IsDeepMode : m.Mode → Position → Type 0
 IsDeepMode (m.Naming q n) p = q ≡ p
 IsDeepMode _ p = ⊥
 
-abbrev pub IsDeepAt : m.State → Place → Type 0
+abbrev pub IsDeepAt : m.State → Position → Type 0
 IsDeepAt s p = IsDeepMode s.mode p × (128 ≤ m.stack_depth s.held.stack)
 
 abbrev pub onto_element : Element → Onto

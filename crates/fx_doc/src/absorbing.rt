@@ -10,7 +10,7 @@ ghost use Rattle.fx_doc.specs.Taking.{TakesName, TakesValue, TakesSign};
 use crate::modes::{Held, Mode, Reader, Valued};
 use crate::values::shown;
 use fx_doc_drafts::{Halt, Word};
-use fx_doc_grammar::{Class, Place};
+use fx_doc_grammar::{Class, Position};
 
 /// Appends a character of a name; false at any other.
 fn absorb_name(name: &mut Word, c: char) -> Result<bool, Halt>
@@ -51,7 +51,7 @@ impl Valued {
 
 impl Held {
     /// Appends a character to the run of an open element; false at `<` and `&`, and outside the elements.
-    fn absorb(&mut self, place: Place, c: char) -> Result<bool, Halt>
+    fn absorb(&mut self, place: Position, c: char) -> Result<bool, Halt>
         ensures { TakesSign place c (class_of c) self.old self.new result }
     {
         if !self.is_within() {
@@ -70,7 +70,7 @@ impl Held {
 
 impl Reader {
     /// Takes a character that only makes the text at hand longer; false where it does more.
-    pub fn absorb(&mut self, place: Place, c: char) -> Result<bool, Halt>
+    pub fn absorb(&mut self, place: Position, c: char) -> Result<bool, Halt>
         ensures { Takes (step place (view self.old) c) self.old self.new result }
     {
         match &mut self.mode {

@@ -2,10 +2,10 @@
 //! What is not UTF-8 is refused before anything is read.
 ghost use Rattle.std.specs.Prelude.{◌≡◌, ◌≤◌, length, IfOk, IfErr};
 ghost use Rattle.std.specs.Str.{chars, IsUtf8, IsValidUpTo};
-ghost use Rattle.fx_doc_grammar.specs.Characters.{after_all, start};
+ghost use Rattle.fx_base.specs.Positions.{after_all, start};
 ghost use Rattle.fx_doc.specs.Reads.{unmarked, document_text};
 
-use fx_doc_grammar::Place;
+use fx_doc_grammar::Position;
 use std::str;
 
 /// The byte order mark.
@@ -36,22 +36,22 @@ pub fn text_in(bytes: &[u8]) -> Result<&str, usize>
 }
 
 /// The place behind the text of these bytes.
-pub fn place_behind(bytes: &[u8]) -> Place
+pub fn place_behind(bytes: &[u8]) -> Position
     requires text { IsUtf8 bytes.now }
     requires size { length bytes.now ≤ 4194304 }
     ensures { result ≡ after_all start (document_text bytes.now) }
 {
     match text_in(bytes) {
         Ok(text) => behind(text),
-        Err(_) => Place::START,
+        Err(_) => Position::START,
     }
 }
 
-fn behind(text: &str) -> Place
+fn behind(text: &str) -> Position
     requires { length text.now ≤ 4194304 }
     ensures { result ≡ after_all start (chars text.now) }
 {
-    let mut place = Place::START;
+    let mut place = Position::START;
     for c in text.chars() {
         place = place.after(c);
     }

@@ -13,7 +13,7 @@ use crate::document::Attribute;
 use crate::modes::Head;
 use fx_base::Text;
 use fx_doc_drafts::{Names, Word};
-use fx_doc_grammar::Place;
+use fx_doc_grammar::Position;
 use std::alloc::{AllocError, Global};
 
 /// How many names are looked through.
@@ -21,7 +21,7 @@ const NEAR: usize = 8;
 
 impl Head {
     /// The tag of this name alone.
-    pub fn bare(alloc: Global, place: Place, name: Word) -> Head
+    pub fn bare(alloc: Global, place: Position, name: Word) -> Head
         ensures { head_view result ≡ bare_head place (string_bytes name.text) }
     {
         Head {
@@ -46,7 +46,7 @@ impl Head {
     pub fn with_attribute(
         self,
         alloc: Global,
-        place: Place,
+        place: Position,
         key: Word,
         value: Text,
     ) -> Result<Head, AllocError>

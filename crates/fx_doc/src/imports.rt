@@ -4,8 +4,10 @@ ghost use Rattle.std.specs.Prelude.{◌≡◌, ◌∷◌, [], cond, not, ◌&&�
 ghost use Rattle.std.specs.Str.{chars};
 ghost use Rattle.std.specs.String.{string_bytes};
 ghost use lib.Dec.{leb};
-ghost use Rattle.fx_doc_grammar.specs.Characters.{is_white};
-ghost use Rattle.fx_doc_grammar.specs.Grammar.{trim_front, trim_back, trimmed, same_name, import_name};
+ghost use Rattle.fx_text.specs.Classes.{is_white};
+ghost use Rattle.fx_doc_grammar.specs.Grammar.{import_name};
+ghost use Rattle.fx_text.specs.Trimming.{trim_front, trim_back, trimmed};
+ghost use Rattle.std.specs.Str.{bytes_eq};
 ghost use Rattle.fx_doc_grammar.specs.Machine.{with_instruction, may_begin, is_open};
 ghost use Rattle.fx_doc.specs.Views.{held_view, stack_view};
 
@@ -69,7 +71,7 @@ fn import_text(alloc: Global, text: &str) -> Result<Option<Text>, AllocError>
 }
 
 fn is_import(name: &Word) -> bool
-    ensures { result ≡ same_name (string_bytes name.now.text) import_name }
+    ensures { result ≡ bytes_eq (string_bytes name.now.text) import_name }
 {
     name.text.as_str() == "import"
 }

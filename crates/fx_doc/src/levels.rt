@@ -10,7 +10,7 @@ use crate::document::{Content, Element};
 use crate::modes::{Head, Held, Level, Mode, Open};
 use fx_base::List;
 use fx_doc_drafts::{Draft, Halt};
-use fx_doc_grammar::{Class, Place};
+use fx_doc_grammar::{Class, Position};
 use std::alloc::{AllocError, Global};
 use std::mem;
 
@@ -34,7 +34,7 @@ impl Level {
     }
 
     /// Appends a character, which is written at that place, to the run.
-    pub fn add_sign(&mut self, place: Place, c: char) -> Result<(), Halt>
+    pub fn add_sign(&mut self, place: Position, c: char) -> Result<(), Halt>
         ensures sign { OnOk result (level_view self.new ≡ one_sign place c (level_view self.old)) }
         ensures refused { IsErrOf result Halt.Long → self.old.run.count ≡ 4096 }
     {
@@ -56,7 +56,7 @@ impl Level {
         }
     }
 
-    fn keep_run(&mut self, alloc: Global, place: Place) -> Result<(), AllocError>
+    fn keep_run(&mut self, alloc: Global, place: Position) -> Result<(), AllocError>
         requires { self.old.first ≡ Some place }
         ensures { OnOk result (level_view self.new ≡ level_behind (closed (level_view self.old))) }
     {
@@ -95,7 +95,7 @@ impl Level {
     }
 }
 
-fn shown_first(first: Option<Place>, place: Place, c: char) -> Option<Place>
+fn shown_first(first: Option<Position>, place: Position, c: char) -> Option<Position>
     ensures { result ≡ first_shown first place (class_of c) }
 {
     match (first, Class::of(c)) {
@@ -121,7 +121,7 @@ impl Held {
     }
 
     /// Appends a character to the run at hand; white outside the elements is not kept.
-    pub fn add_sign(&mut self, place: Place, c: char) -> Result<(), Halt>
+    pub fn add_sign(&mut self, place: Position, c: char) -> Result<(), Halt>
         ensures sign { OnOk result (held_view self.new ≡ with_sign place c (held_view self.old)) }
         ensures refused { IsErrOf result Halt.Long → level_long (with_sign place c (held_view self.old)) ≡ true }
     {

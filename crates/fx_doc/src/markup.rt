@@ -9,11 +9,11 @@ ghost use Rattle.fx_doc.specs.Views.{stack_view, held_view, Moves, inside_state,
 use crate::levels::goes;
 use crate::modes::{Held, Mode};
 use fx_doc_drafts::{Halt, Word};
-use fx_doc_grammar::{Class, Entity, Place, Turn};
+use fx_doc_grammar::{Class, Entity, Position, Turn};
 use std::alloc::Global;
 
 #[tactic(auto, using(crate::proofs::Defaults::inside_rest))]
-pub fn inside(held: &mut Held, place: Place, c: char) -> Result<Option<Mode>, Halt>
+pub fn inside(held: &mut Held, place: Position, c: char) -> Result<Option<Mode>, Halt>
     ensures { Moves (in_inside place (held_view held.old) c (class_of c)) held.new result }
 {
     match Class::of(c) {
@@ -25,7 +25,7 @@ pub fn inside(held: &mut Held, place: Place, c: char) -> Result<Option<Mode>, Ha
 }
 
 /// A reference begins, within an element alone.
-fn refers(held: &Held, place: Place) -> Result<Option<Mode>, Halt>
+fn refers(held: &Held, place: Position) -> Result<Option<Mode>, Halt>
     ensures { Moves (some_if (is_open (stack_view held.now.stack.items)) (referring_state (held_view held.now) place)) held.now result }
 {
     if !held.is_within() {
@@ -35,7 +35,7 @@ fn refers(held: &Held, place: Place) -> Result<Option<Mode>, Halt>
 }
 
 /// A character stands within an element alone.
-fn shown(held: &mut Held, place: Place, c: char) -> Result<Option<Mode>, Halt>
+fn shown(held: &mut Held, place: Position, c: char) -> Result<Option<Mode>, Halt>
     ensures { Moves (some_if (is_open (stack_view held.old.stack.items)) (inside_state (with_sign place c (held_view held.old)))) held.new result }
 {
     if !held.is_within() {
@@ -44,7 +44,7 @@ fn shown(held: &mut Held, place: Place, c: char) -> Result<Option<Mode>, Halt>
     with_character(held, place, c)
 }
 
-fn with_character(held: &mut Held, place: Place, c: char) -> Result<Option<Mode>, Halt>
+fn with_character(held: &mut Held, place: Position, c: char) -> Result<Option<Mode>, Halt>
     ensures { Moves (inside_state (with_sign place c (held_view held.old))) held.new result }
 {
     held.add_sign(place, c)?;
@@ -53,7 +53,7 @@ fn with_character(held: &mut Held, place: Place, c: char) -> Result<Option<Mode>
 
 pub fn referring(
     held: &mut Held,
-    place: Place,
+    place: Position,
     entity: Entity,
     c: char,
 ) -> Result<Option<Mode>, Halt>
@@ -67,7 +67,7 @@ pub fn referring(
 }
 
 /// Behind a `<`, which stands at that place.
-pub fn opening(alloc: Global, held: &Held, place: Place, c: char) -> Result<Option<Mode>, Halt>
+pub fn opening(alloc: Global, held: &Held, place: Position, c: char) -> Result<Option<Mode>, Halt>
     ensures { Moves (in_opening place (held_view held.now) c (class_of c)) held.now result }
 {
     match Class::of(c) {
@@ -80,7 +80,7 @@ pub fn opening(alloc: Global, held: &Held, place: Place, c: char) -> Result<Opti
 }
 
 /// An element begins: within another, or as the first.
-fn begins(alloc: Global, held: &Held, place: Place, c: char) -> Result<Option<Mode>, Halt>
+fn begins(alloc: Global, held: &Held, place: Position, c: char) -> Result<Option<Mode>, Halt>
     requires { in_name (class_of c) ≡ true }
     ensures { Moves (some_if (may_begin (held_view held.now)) (naming_state (held_view held.now) place (c ∷ []))) held.now result }
 {

@@ -6,14 +6,14 @@ ghost use Rattle.fx_doc.specs.Attributes.{later_names};
 use crate::document::{Attribute, Content};
 use fx_base::Text;
 use fx_doc_drafts::{Draft, Names, Word};
-use fx_doc_grammar::{Entity, Place, Quote};
+use fx_doc_grammar::{Entity, Position, Quote};
 
 /// What stands before a tag's end.
 #[derive(Drop)]
 pub struct Head {
     pub name: Text,
     pub attributes: Vec<Attribute>,
-    pub place: Place,
+    pub place: Position,
     /// The names of the attributes behind the first eight.
     pub later: Names,
     ghost kept: { HasNames later (later_names attributes.items) },
@@ -25,7 +25,7 @@ pub struct Level {
     pub content: Vec<Content>,
     pub run: Draft,
     /// The place of the first character of the run that isn't white.
-    pub first: Option<Place>,
+    pub first: Option<Position>,
 }
 
 /// An open element, with what stands before it.
@@ -47,7 +47,7 @@ pub struct Held {
 #[derive(Drop)]
 pub struct Valued {
     pub head: Head,
-    pub place: Place,
+    pub place: Position,
     pub key: Word,
     pub quote: Quote,
     pub value: Draft,
@@ -58,9 +58,9 @@ pub struct Valued {
 pub enum Mode {
     Inside,
     /// In a reference, whose `&` stands there.
-    Referring(Place, Entity),
+    Referring(Position, Entity),
     /// Behind a `<`, which stands there.
-    Opening(Place),
+    Opening(Position),
     Banged,
     BangDashed,
     Commented,
@@ -71,14 +71,14 @@ pub enum Mode {
     NameAsked(Word),
     Instructed(Word, String),
     EndAsked(Word, String),
-    Naming(Place, Word),
+    Naming(Position, Word),
     Spaced(Head),
     Tight(Head),
-    Keyed(Head, Place, Word),
-    KeySpaced(Head, Place, Word),
-    Signed(Head, Place, Word),
+    Keyed(Head, Position, Word),
+    KeySpaced(Head, Position, Word),
+    Signed(Head, Position, Word),
     Quoted(Valued),
-    ValueReferring(Valued, Place, Entity),
+    ValueReferring(Valued, Position, Entity),
     Slashed(Head),
     /// In an end tag, behind so many characters of the name.
     Ending(usize),

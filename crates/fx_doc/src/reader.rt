@@ -7,7 +7,7 @@ ghost use Rattle.fx_doc_grammar.specs.Verdicts.{Verdict, IsVerdict};
 ghost use Rattle.fx_doc_grammar.specs.Beginnings.{IsWithinLimits};
 ghost use Rattle.fx_doc_grammar.specs.Characters.{class_of};
 ghost use Rattle.fx_doc_grammar.specs.Machine.{initial, step, move, sign_place, answer, is_deep};
-ghost use Rattle.fx_doc_grammar.specs.declared.Place.{Place};
+ghost use Rattle.fx_base.specs.declared.positions.Position.{Position};
 ghost use Rattle.fx_doc.specs.Judgements.{Tells, judgement};
 ghost use Rattle.fx_doc.specs.Reads.{IsNext, IsStep, IsRead, HasFault, IsGiven, IsRefused, document_text};
 ghost use Rattle.fx_doc.specs.Views.{view, held_view, mode_view, stack_view, Moves, Steps, IsDeepAt, reading, inside_view, AnswersRoot, onto, onto_element, IsRun};
@@ -24,7 +24,7 @@ use crate::tags::{ended, key_spaced, keyed, naming, signed, slashed, spaced, tig
 use crate::values::{ending, quoted, value_referring};
 use fx_base::List;
 use fx_doc_drafts::Halt;
-use fx_doc_grammar::Place;
+use fx_doc_grammar::Position;
 use std::alloc::Global;
 use std::mem;
 
@@ -47,7 +47,7 @@ impl Reader {
     }
 
     /// Reads this character, which stands at that place; false where no document goes on so.
-    fn step(&mut self, alloc: Global, place: Place, c: char) -> Result<bool, Halt>
+    fn step(&mut self, alloc: Global, place: Position, c: char) -> Result<bool, Halt>
         ensures { Steps (step place (view self.old) c) self.new result }
     {
         if self.absorb(place, c)? {
@@ -64,7 +64,7 @@ impl Reader {
     }
 
     /// Where the sign begins whose last character stands at that place: a reference at its `&`.
-    fn sign_place(&self, place: Place) -> Place
+    fn sign_place(&self, place: Position) -> Position
         ensures { result ≡ sign_place place (view self.now).mode }
     {
         match &self.mode {
@@ -75,7 +75,7 @@ impl Reader {
     }
 
     /// The place of the element that begins within 128 others.
-    fn deep_place(&self) -> Option<Place>
+    fn deep_place(&self) -> Option<Position>
         ensures { MatchOption result (is_deep (view self.now) ≡ false) (λ p. IsDeepAt (view self.now) p) }
     {
         match &self.mode {
@@ -91,7 +91,7 @@ impl Reader {
     }
 
     /// One character further, within the limits on depth and length.
-    pub fn next(&mut self, alloc: Global, place: Place, c: char) -> Result<(), DocError>
+    pub fn next(&mut self, alloc: Global, place: Position, c: char) -> Result<(), DocError>
         ensures { IsNext (view self.old) place c self.new result }
     {
         let sign = self.sign_place(place);
@@ -105,7 +105,7 @@ impl Reader {
 
     /// Refuses an element that begins too deep.
     fn within_depth(&self) -> Result<(), DocError>
-        ensures { (p sign : Place) → IsStep (Some (view self.now)) p sign self.now result }
+        ensures { (p sign : Position) → IsStep (Some (view self.now)) p sign self.now result }
     {
         match self.deep_place() {
             None => Ok(()),
@@ -160,7 +160,7 @@ fn moved(
     alloc: Global,
     held: &mut Held,
     mode: Mode,
-    place: Place,
+    place: Position,
     c: char,
 ) -> Result<Option<Mode>, Halt>
     ensures { Moves (move place (held_view held.old) (mode_view (stack_view held.old.stack.items) mode) c (class_of c)) held.new result }

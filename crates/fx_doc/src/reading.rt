@@ -11,7 +11,7 @@ use crate::document::{DocError, Document};
 use crate::modes::{Mode, Reader};
 use fx_base::Text;
 use fx_doc_drafts::{Word, attribute_ahead};
-use fx_doc_grammar::Place;
+use fx_doc_grammar::Position;
 use std::alloc::Global;
 use std::mem;
 
@@ -27,12 +27,12 @@ fn first_character(text: &str) -> Option<(char, &str)>
 }
 
 /// The place behind so many characters of one line.
-fn along(place: Place, count: usize) -> Place
+fn along(place: Position, count: usize) -> Position
     requires { place.column + count < 2 ^ 32 }
     ensures line { result.line ≡ place.line }
     ensures column { result.column ≡ place.column + count }
 {
-    Place {
+    Position {
         line: place.line,
         column: place.column + count as u32,
     }
@@ -43,7 +43,7 @@ impl Reader {
     fn take_attribute<'a>(
         &mut self,
         alloc: Global,
-        place: Place,
+        place: Position,
         rest: &'a str,
     ) -> Result<&'a str, DocError>
         ensures took { IfOk result (λ left. TookFlat rest.now place (view self.old) left.now (view self.new)) }
@@ -82,7 +82,7 @@ pub fn read_text(alloc: Global, text: &str) -> Result<Document, DocError>
     ensures { IsRead (chars text.now) result }
 {
     let mut reader = Reader::new(alloc);
-    let mut place = Place::START;
+    let mut place = Position::START;
     let mut rest = text;
     while let Some((c, behind)) = first_character(rest) {
         reader.next(alloc, place, c)?;

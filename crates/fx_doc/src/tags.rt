@@ -9,7 +9,7 @@ ghost use Rattle.fx_doc.specs.Views.{bare_head, head_view, stack_view, held_view
 use crate::levels::goes;
 use crate::modes::{Head, Held, Mode, Valued};
 use fx_doc_drafts::{Draft, Halt, Word};
-use fx_doc_grammar::{Class, Place, Quote};
+use fx_doc_grammar::{Class, Position, Quote};
 use std::alloc::Global;
 
 /// An element begins with this tag.
@@ -24,7 +24,7 @@ fn opens(alloc: Global, held: &mut Held, head: Head) -> Result<Option<Mode>, Hal
 pub fn naming(
     alloc: Global,
     held: &mut Held,
-    place: Place,
+    place: Position,
     name: Word,
     c: char,
 ) -> Result<Option<Mode>, Halt>
@@ -41,7 +41,7 @@ pub fn naming(
 #[tactic(auto, using(crate::proofs::Defaults::long_name))]
 fn longer_name(
     held: &Held,
-    place: Place,
+    place: Position,
     mut name: Word,
     c: char,
     class: Class,
@@ -60,7 +60,7 @@ pub fn spaced(
     alloc: Global,
     held: &mut Held,
     head: Head,
-    place: Place,
+    place: Position,
     c: char,
 ) -> Result<Option<Mode>, Halt>
     ensures { Moves (in_spaced place (head_view head) (held_view held.old) c (class_of c)) held.new result }
@@ -90,7 +90,7 @@ pub fn tight(alloc: Global, held: &mut Held, head: Head, c: char) -> Result<Opti
 pub fn keyed(
     held: &Held,
     head: Head,
-    place: Place,
+    place: Position,
     key: Word,
     c: char,
 ) -> Result<Option<Mode>, Halt>
@@ -103,7 +103,7 @@ pub fn keyed(
     }
 }
 
-fn behind_key(held: &Held, head: Head, place: Place, key: Word) -> Result<Option<Mode>, Halt>
+fn behind_key(held: &Held, head: Head, place: Position, key: Word) -> Result<Option<Mode>, Halt>
     ensures { Moves (some_if (is_fresh (string_bytes key.text) (head_view head)) (key_spaced_state (held_view held.now) (head_view head) place (string_bytes key.text))) held.now result }
 {
     if !head.is_fresh(&key) {
@@ -112,7 +112,7 @@ fn behind_key(held: &Held, head: Head, place: Place, key: Word) -> Result<Option
     goes(held, Mode::KeySpaced(head, place, key))
 }
 
-fn behind_sign(held: &Held, head: Head, place: Place, key: Word) -> Result<Option<Mode>, Halt>
+fn behind_sign(held: &Held, head: Head, place: Position, key: Word) -> Result<Option<Mode>, Halt>
     ensures { Moves (some_if (is_fresh (string_bytes key.text) (head_view head)) (signed_state (held_view held.now) (head_view head) place (string_bytes key.text))) held.now result }
 {
     if !head.is_fresh(&key) {
@@ -125,7 +125,7 @@ fn behind_sign(held: &Held, head: Head, place: Place, key: Word) -> Result<Optio
 fn longer_key(
     held: &Held,
     head: Head,
-    place: Place,
+    place: Position,
     mut key: Word,
     c: char,
     class: Class,
@@ -143,7 +143,7 @@ fn longer_key(
 pub fn key_spaced(
     held: &Held,
     head: Head,
-    place: Place,
+    place: Position,
     key: Word,
     c: char,
 ) -> Result<Option<Mode>, Halt>
@@ -160,7 +160,7 @@ pub fn signed(
     alloc: Global,
     held: &Held,
     head: Head,
-    place: Place,
+    place: Position,
     key: Word,
     c: char,
 ) -> Result<Option<Mode>, Halt>

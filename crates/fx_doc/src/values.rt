@@ -12,7 +12,7 @@ use crate::levels::goes;
 use crate::modes::{Head, Held, Mode, Valued};
 use crate::tags::ended;
 use fx_doc_drafts::{Halt, Word};
-use fx_doc_grammar::{Class, Entity, Place, Turn};
+use fx_doc_grammar::{Class, Entity, Position, Turn};
 use std::alloc::Global;
 
 #[tactic(auto, using(crate::proofs::Defaults::quoted_rest))]
@@ -20,7 +20,7 @@ pub fn quoted(
     alloc: Global,
     held: &Held,
     valued: Valued,
-    place: Place,
+    place: Position,
     c: char,
 ) -> Result<Option<Mode>, Halt>
     ensures { Moves (in_quoted place (head_view valued.head) valued.place (string_bytes valued.key.text) valued.quote (string_bytes valued.value.text) valued.value.count (held_view held.now) c (class_of c)) held.now result }
@@ -83,7 +83,7 @@ fn longer(held: &Held, mut valued: Valued, c: char) -> Result<Option<Mode>, Halt
 pub fn value_referring(
     held: &Held,
     valued: Valued,
-    place: Place,
+    place: Position,
     entity: Entity,
     c: char,
 ) -> Result<Option<Mode>, Halt>

@@ -1,32 +1,96 @@
 -- What stands ahead as an attribute: the slices that code cuts are its parts, and each character is what it seems.
-use Rattle.std.proofs.Common.{◌≡◌, ℕ, ◌+◌, ◌≤◌, Bool, true, false, cond, ◌&&◌, List, [], ◌∷◌, ◌++◌, suc, length, take, drop, refl, sym, ◌∙◌, ap, arith}
+use Rattle.std.proofs.Common.{◌≡◌, ℕ, Bool, Option, Some, None, ◌<◌, ◌≤◌, true, false, not, List, [], ◌∷◌, ◌++◌, length, take, drop, refl, sym, ◌∙◌, ap, subst, length-append, arith}
+use Rattle.std.proofs.Math.Seq.{get_or-append_seam, drop-append_seam, take-append_seam}
+use Rattle.std.proofs.lemmas.Bool.{lt-ltb}
+use Rattle.std.specs.Prelude.{IfNone}
 use Rattle.std.proofs.lemmas.List.{take-append-drop}
+use Rattle.std.proofs.lemmas.Str.{IsCharBoundary-before_ascii, IsCharBoundary-at_seam, IsUtf8-past_char}
 use Rattle.std.specs.List.{list_all, prefix_len}
-use Rattle.fx_doc_drafts.specs.Ahead.{IsAhead, is_named, is_plain, begins_name}
+use Rattle.std.specs.Str.{IsUtf8, IsCharBoundary}
+use lib.Utf8.{encode}
+use Rattle.fx_doc_grammar.specs.Characters.{class_of}
+use Rattle.fx_text.proofs.FrontLemmas.{prefix_len-stop, front-passes}
+use Rattle.fx_doc_drafts.specs.Ahead.{IsAhead, IsCut, is_named, is_plain, begins_name}
 
-one_more : (n : ℕ) → 1 + n ≡ suc n
-one_more n = omega arith
+-- behind a byte of ASCII a text may be cut, and before one
 
-front_by : (p : ℕ → Bool) (x : ℕ) (xs : List ℕ) (b : Bool) → p x ≡ b → list_all p (take (prefix_len p xs) xs) ≡ true → list_all p (take (prefix_len p (x ∷ xs)) (x ∷ xs)) ≡ true
-front_by p x xs true e h = ap (λ n. list_all p (take n (x ∷ xs))) (ap (λ b. cond b (1 + prefix_len p xs) 0) e ∙ one_more (prefix_len p xs)) ∙ (ap (λ b. b && list_all p (take (prefix_len p xs) xs)) e ∙ h)
-front_by p x xs false e h = ap (λ n. list_all p (take n (x ∷ xs))) (ap (λ b. cond b (1 + prefix_len p xs) 0) e)
+ascii_encode : (c : ℕ) → c < 128 → encode c ≡ c ∷ []
+unfolding encode
+ascii_encode c h = rw (lt-ltb c 128 h) refl
 
-pub front_all : (p : ℕ → Bool) (xs : List ℕ) → list_all p (take (prefix_len p xs) xs) ≡ true
-front_all p [] = refl
-front_all p (x ∷ xs) = front_by p x xs (p x) refl (front_all p xs)
+pub cut_behind : (text behind : List ℕ) (byte : ℕ) → byte < 128 → IsUtf8 text → text ≡ byte ∷ behind → IsCharBoundary text 1
+cut_behind text behind byte h u e =
+    IsCharBoundary-at_seam text (byte ∷ []) behind e (IsUtf8-past_char text behind byte u (e ∙ ap (λ y. y ++ behind) (sym (ascii_encode byte h))))
 
-pub ahead_is : (text bs name r0 r1 r2 vs value r3 behind : List ℕ) → bs ≡ text → name ≡ take (prefix_len is_named bs) text → r0 ≡ drop (prefix_len is_named bs) text → r0 ≡ 61 ∷ r1 → r1 ≡ 34 ∷ r2
-    → vs ≡ r2 → value ≡ take (prefix_len is_plain vs) r2 → r3 ≡ drop (prefix_len is_plain vs) r2 → r3 ≡ 34 ∷ behind → begins_name name ≡ true → length name ≤ 4096 → length value ≤ 4096 → IsAhead text name value behind
-ahead_is text bs name r0 r1 r2 vs value r3 behind e n0 d0 k1 k2 v n1 d1 k3 b s t =
-    let back : r2 ≡ value ++ (34 ∷ behind) = sym (take-append-drop (prefix_len is_plain vs) r2) ∙ (ap (λ y. y ++ drop (prefix_len is_plain vs) r2) (sym n1) ∙ ap (λ y. value ++ y) (sym d1 ∙ k3)) in
-    record {
-      written = sym (take-append-drop (prefix_len is_named bs) text) ∙ (ap (λ y. y ++ drop (prefix_len is_named bs) text) (sym n0) ∙ ap (λ y. name ++ y) (sym d0 ∙ (k1 ∙ (ap (λ y. 61 ∷ y) k2 ∙ ap (λ y. 61 ∷ (34 ∷ y)) back))));
-      begins = b;
-      named = ap (list_all is_named) (n0 ∙ ap (take (prefix_len is_named bs)) (sym e)) ∙ front_all is_named bs;
-      plain = ap (list_all is_plain) (n1 ∙ ap (take (prefix_len is_plain vs)) (sym v)) ∙ front_all is_plain vs;
-      name_short = s;
-      value_short = t;
-    }
+shorter : (piece rest : List ℕ) (stop : ℕ) → length piece < length (piece ++ (stop ∷ rest))
+shorter piece rest stop = let h = length-append piece (stop ∷ rest) in omega arith
 
-pub not_more : (n : ℕ) → n ≤ 4096 → n ≤ 4096
-not_more n h = h
+cut_before : (piece rest : List ℕ) (stop : ℕ) → stop < 128 → IsCharBoundary (piece ++ (stop ∷ rest)) (length piece)
+cut_before piece rest stop h =
+    IsCharBoundary-before_ascii (piece ++ (stop ∷ rest)) (length piece) (shorter piece rest stop) (subst (λ y. y < 128) (sym (get_or-append_seam piece stop rest 0)) h)
+
+pub cut_here : (text piece rest : List ℕ) (count stop : ℕ) → stop < 128 → IsCut text count stop piece rest → IsCharBoundary text count
+cut_here text piece rest count stop h k = rw (k.parts, sym k.size) (cut_before piece rest stop h)
+
+pub front_of : (text piece rest : List ℕ) (count stop : ℕ) → IsCut text count stop piece rest → take count text ≡ piece
+front_of text piece rest count stop k = rw (k.parts, sym k.size) (take-append_seam piece (stop ∷ rest))
+
+pub back_of : (text piece rest : List ℕ) (count stop : ℕ) → IsCut text count stop piece rest → drop count text ≡ stop ∷ rest
+back_of text piece rest count stop k = rw (k.parts, sym k.size) (drop-append_seam piece (stop ∷ rest))
+
+pub is_cut : (text piece rest behind : List ℕ) (count stop : ℕ) → piece ≡ take count text → rest ≡ drop count text → length piece ≡ count → rest ≡ stop ∷ behind → count ≤ 4096
+    → IsCut text count stop piece behind
+is_cut text piece rest behind count stop f b l e s = record {
+  parts = sym (take-append-drop count text) ∙ (ap (λ y. y ++ drop count text) (sym f) ∙ ap (λ y. piece ++ y) (sym b ∙ e));
+  size = l;
+  short = s;
+}
+
+-- the parts that code cuts, and those of any attribute that stands ahead
+
+pub ahead_is : (text name r1 r2 value behind : List ℕ) (n m : ℕ) → n ≡ prefix_len is_named text → IsCut text n 61 name r1 → begins_name name ≡ true → r1 ≡ 34 ∷ r2
+    → m ≡ prefix_len is_plain r2 → IsCut r2 m 34 value behind → IsAhead text name value behind
+ahead_is text name r1 r2 value behind n m en k b q em v = record {
+  written = k.parts ∙ ap (λ y. name ++ (61 ∷ y)) (q ∙ ap (λ y. 34 ∷ y) v.parts);
+  begins = b;
+  named = ap (list_all is_named) (sym (front_of text name r1 n 61 k) ∙ ap (λ y. take y text) en) ∙ front-passes is_named text;
+  plain = ap (list_all is_plain) (sym (front_of r2 value behind m 34 v) ∙ ap (λ y. take y r2) em) ∙ front-passes is_plain r2;
+  name_short = let s = k.short in let l = k.size in omega arith;
+  value_short = let s = v.short in let l = v.size in omega arith;
+}
+
+cut_of : (test : ℕ → Bool) (text piece rest : List ℕ) (n stop : ℕ) → n ≡ prefix_len test text → text ≡ piece ++ (stop ∷ rest) → list_all test piece ≡ true → test stop ≡ false → length piece ≤ 4096
+    → IsCut text n stop piece rest
+cut_of test text piece rest n stop e w p s l =
+    let size : length piece ≡ n = sym (e ∙ (ap (prefix_len test) w ∙ prefix_len-stop test piece (stop ∷ rest) p (ap not s))) in
+    record { parts = w; size = size; short = omega arith }
+
+pub name_cut : (text name value behind : List ℕ) (n : ℕ) → n ≡ prefix_len is_named text → IsAhead text name value behind → IsCut text n 61 name (34 ∷ (value ++ (34 ∷ behind)))
+unfolding class_of
+name_cut text name value behind n e h = cut_of is_named text name (34 ∷ (value ++ (34 ∷ behind))) n 61 e h.written h.named refl h.name_short
+
+pub value_cut : (text name value behind rest : List ℕ) (m : ℕ) → m ≡ prefix_len is_plain rest → IsAhead text name value behind → rest ≡ value ++ (34 ∷ behind) → IsCut rest m 34 value behind
+value_cut text name value behind rest m e h w = cut_of is_plain rest value behind m 34 e w h.plain refl h.value_short
+
+-- a text is cut there in one way
+pub one_piece : (text a b r q : List ℕ) (n stop : ℕ) → IsCut text n stop a r → IsCut text n stop b q → a ≡ b
+one_piece text a b r q n stop k l = sym (front_of text a r n stop k) ∙ front_of text b q n stop l
+
+pub one_rest : (text a b r q : List ℕ) (n stop : ℕ) → IsCut text n stop a r → IsCut text n stop b q → r ≡ q
+one_rest text a b r q n stop k l =
+    let same : stop ∷ r ≡ stop ∷ q = sym (back_of text a r n stop k) ∙ back_of text b q n stop l in
+    cc
+
+pub if_none : {X : Type 0} (o : Option X) (P : Type 0) → P → IfNone o P
+if_none None P p = p
+if_none (Some x) P p = tt
+
+-- where an attribute stands ahead, what was cut are its parts
+pub record Parts (cut_name cut_rest n v b : List ℕ) : Type 0 where
+  pub name : cut_name ≡ n
+  pub rest : cut_rest ≡ 34 ∷ (v ++ (34 ∷ b))
+
+pub parts_of : (text name rest n v b : List ℕ) (k : ℕ) → k ≡ prefix_len is_named text → IsCut text k 61 name rest → IsAhead text n v b → Parts name rest n v b
+parts_of text name rest n v b k e cut h =
+    let own = name_cut text n v b k e h in
+    record { name = one_piece text name n rest (34 ∷ (v ++ (34 ∷ b))) k 61 cut own; rest = one_rest text name n rest (34 ∷ (v ++ (34 ∷ b))) k 61 cut own }

@@ -1,24 +1,31 @@
 -- An attribute as most are written: its name, `="`, plain ASCII, and `"`.
 -- The reader takes such a one whole; no public clause cites this.
-use Rattle.std.specs.Prelude.{◌≡◌, ◌≤◌, ℕ, Bool, true, false, not, ◌&&◌, List, [], ◌∷◌, ◌++◌, length}
+use Rattle.std.specs.Prelude.{◌≡◌, ◌≤◌, ℕ, Bool, true, false, not, ◌==◌, ◌&&◌, List, [], ◌∷◌, ◌++◌, length, codes, nat_lt, nat_le}
 use Rattle.std.specs.List.{list_all}
-use lib.Dec.{eqb, ltb, leb}
+use Rattle.fx_text.specs.Characters as ascii
 use Rattle.fx_doc_grammar.specs.Characters.{class_of, in_name, starts_name}
 
 -- a character of a name, in ASCII
 abbrev pub is_named : ℕ → Bool
-is_named c = ltb c 128 && in_name (class_of c)
+is_named c = nat_lt c 128 && in_name (class_of c)
 
 -- a character of a value that stands for itself: no control character, quote, `&` or `<`
 abbrev pub is_plain : ℕ → Bool
-is_plain c = leb 32 c && (ltb c 127 && (not (eqb c 34) && (not (eqb c 38) && not (eqb c 60))))
+is_plain c = nat_le ascii.space c && (nat_lt c 127
+    && (not (c == ascii.quotation_mark) && (not (c == ascii.ampersand) && not (c == ascii.less_than_sign))))
 
 abbrev pub begins_name : List ℕ → Bool
 begins_name [] = false
 begins_name (c ∷ cs) = starts_name (class_of c)
 
+-- the text begins with a piece of so many bytes, and this byte stands behind it
+pub record IsCut (text : List ℕ) (count stop : ℕ) (piece rest : List ℕ) : Type 0 where
+  pub parts : text ≡ piece ++ (stop ∷ rest)
+  pub size : length piece ≡ count
+  pub short : count ≤ 4096
+
 pub record IsAhead (text name value behind : List ℕ) : Type 0 where
-  pub written : text ≡ name ++ (61 ∷ (34 ∷ (value ++ (34 ∷ behind))))
+  pub written : text ≡ name ++ (codes "=\"" ++ (value ++ (codes "\"" ++ behind)))
   pub begins : begins_name name ≡ true
   pub named : list_all is_named name ≡ true
   pub plain : list_all is_plain value ≡ true

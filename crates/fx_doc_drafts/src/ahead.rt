@@ -1,9 +1,9 @@
 //! Attributes as most are written, `name="value"` with nothing but plain ASCII between the quotes: found ahead as slices.
 //! Every other attribute, and every fault, is left to the reader's steps.
-ghost use Rattle.std.specs.Prelude.{◌≡◌, ◌∷◌, ◌<◌, ◌≤◌, length, IfSome};
+ghost use Rattle.std.specs.Prelude.{◌≡◌, ◌∷◌, ◌<◌, ◌≤◌, ℕ, List, length, IfSome, IfNone};
 ghost use Rattle.std.specs.List.{prefix_len};
 ghost use Rattle.fx_doc_grammar.specs.Characters.{class_of, starts_name};
-ghost use Rattle.fx_doc_drafts.specs.Ahead.{IsAhead, is_named, is_plain, begins_name};
+ghost use Rattle.fx_doc_drafts.specs.Ahead.{IsAhead, IsCut, is_named, is_plain, begins_name};
 
 use fx_doc_grammar::Class;
 
@@ -64,7 +64,9 @@ fn begins_name(name: &str) -> bool
 
 /// The text behind this byte, if it begins with it.
 fn behind_byte(text: &str, byte: u8) -> Option<&str>
-    ensures { IfSome result (λ behind. text.now ≡ byte ∷ behind.now) }
+    requires { byte < 128 }
+    ensures some { IfSome result (λ behind. text.now ≡ byte ∷ behind.now) }
+    ensures none { IfNone result ((behind : List ℕ) → text.now ≡ byte ∷ behind → ⊥) }
 {
     let first = *text.as_bytes().first()?;
     if first != byte {
@@ -74,24 +76,31 @@ fn behind_byte(text: &str, byte: u8) -> Option<&str>
     Some(behind)
 }
 
-/// The attribute that the text begins with, where it is written so.
-pub fn attribute_ahead(text: &str) -> Option<Ahead<'_>>
-    ensures { IfSome result (λ a. IsAhead text.now a.name.now a.value.now a.behind.now) }
+/// The first bytes of the text, as many as that, and the text behind the byte that stands there, if it is this one.
+fn cut_at(text: &str, count: usize, stop: u8) -> Option<(&str, &str)>
+    requires { stop < 128 }
+    ensures some { IfSome result (λ x. IsCut text.now count stop x.0.now x.1.now) }
+    ensures none { IfNone result ((piece rest : List ℕ) → IsCut text.now count stop piece rest → ⊥) }
 {
-    let (name, rest) = text.split_at_checked(name_length(text.as_bytes()))?;
-    if name.len() > MOST {
+    if count > MOST {
         return None;
     }
+    let (piece, rest) = text.split_at_checked(count)?;
+    let behind = behind_byte(rest, stop)?;
+    Some((piece, behind))
+}
+
+/// The attribute that the text begins with, exactly where it is written so.
+pub fn attribute_ahead(text: &str) -> Option<Ahead<'_>>
+    ensures some { IfSome result (λ a. IsAhead text.now a.name.now a.value.now a.behind.now) }
+    ensures none { IfNone result ((name value behind : List ℕ) → IsAhead text.now name value behind → ⊥) }
+{
+    let (name, rest) = cut_at(text, name_length(text.as_bytes()), b'=')?;
     if !begins_name(name) {
         return None;
     }
-    let rest = behind_byte(rest, b'=')?;
     let rest = behind_byte(rest, b'"')?;
-    let (value, rest) = rest.split_at_checked(value_length(rest.as_bytes()))?;
-    if value.len() > MOST {
-        return None;
-    }
-    let behind = behind_byte(rest, b'"')?;
+    let (value, behind) = cut_at(rest, value_length(rest.as_bytes()), b'"')?;
     Some(Ahead {
         name,
         value,

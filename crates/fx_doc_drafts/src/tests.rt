@@ -1,7 +1,7 @@
 use super::*;
 use std::test::Fail;
 
-#[tactic(auto, unfolding(fx_doc_grammar::specs::Characters::class_of, fx_doc_grammar::specs::Characters::is_white, fx_doc_grammar::specs::Characters::is_letter))]
+#[tactic(auto, unfolding(fx_doc_grammar::specs::Characters::class_of))]
 #[test]
 fn finds_names_again(rt: HostRuntime) -> Result<(), Fail> {
     let alloc = rt.alloc();
@@ -42,4 +42,5 @@ fn finds_an_attribute_ahead(rt: HostRuntime) {
     assert!(rt; attribute_ahead("a=\"&lt;\"").is_none());
     assert!(rt; attribute_ahead("1=\"\"").is_none());
     assert!(rt; attribute_ahead("a=\"").is_none());
+    assert!(rt; attribute_ahead("a =\"\"").is_none());
 }

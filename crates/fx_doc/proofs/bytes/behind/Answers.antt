@@ -3,7 +3,7 @@ use Rattle.std.proofs.lemmas.List.{map-id}
 use Rattle.std.proofs.lemmas.Iterator.{YieldsList-from_chars}
 use Rattle.std.proofs.lemmas.Iterator.Consumers.{YieldsList-turn, YieldsList-end}
 use Rattle.std.specs.Str.{chars}
-use Rattle.fx_doc_grammar.specs.Characters.{start, after_all}
+use Rattle.fx_base.specs.Positions.{start, after_all}
 use Rattle.fx_doc_grammar.proofs.Turns.{place_more}
 use Rattle.fx_doc_drafts.proofs.Texts.{chars_fewer}
 use Rattle.fx_doc.proofs.Loops.{line_small, column_small}

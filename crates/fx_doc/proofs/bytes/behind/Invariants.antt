@@ -1,5 +1,5 @@
 use Rattle.std.proofs.Common.{◌≡◌}
-use Rattle.fx_doc_grammar.specs.Characters.{start, after_all}
+use Rattle.fx_base.specs.Positions.{start, after_all}
 use Rattle.fx_doc.proofs.bytes.behind.Given as goal
 
 abbrev pub invariant-loop-c : goal.invariant-loop-c

@@ -1,6 +1,6 @@
 use Rattle.std.proofs.Common.{sym, ◌∙◌, ap, subst}
 use Rattle.std.specs.Str.{IsUtf8}
-use Rattle.fx_doc_grammar.specs.Grammar.{trim_front, trim_back}
+use Rattle.fx_text.specs.Trimming.{trim_front, trim_back}
 use Rattle.fx_doc.proofs.Trims.{front_text, back_text}
 use Rattle.fx_doc.proofs.imports.trim_white.Goals as goal
 

@@ -1,5 +1,5 @@
 use Rattle.std.proofs.Common.{◌≡◌, length}
-use Rattle.fx_doc_grammar.specs.Grammar.{trim_back}
+use Rattle.fx_text.specs.Trimming.{trim_back}
 use Rattle.fx_doc.proofs.imports.without_back.Given as goal
 
 abbrev pub invariant-loop-last : goal.invariant-loop-last

@@ -1,5 +1,5 @@
 use Rattle.std.proofs.Common.{◌≡◌, length}
-use Rattle.fx_doc_grammar.specs.Grammar.{trim_front}
+use Rattle.fx_text.specs.Trimming.{trim_front}
 use Rattle.fx_doc.proofs.imports.without_front.Given as goal
 
 abbrev pub invariant-loop-first : goal.invariant-loop-first

@@ -10,7 +10,10 @@ use Rattle.fx_doc_grammar.specs.Beginnings.{IsWithinLimits}
 use Rattle.fx_doc_grammar.specs.Verdicts.{Verdict, Reads, Stops, Deep, Long as TooLong, IsVerdict}
 use Rattle.fx_doc_grammar.proofs.Verdicts.{one_verdict}
 use Rattle.fx_doc.specs.Views.{reading}
-use Rattle.fx_doc.specs.Reads.{IsRead, HasFault, IsGiven, IsRefused, IsAnswer, place_of, unmarked, document_text}
+use Rattle.fx_doc.specs.Reads.{IsRead, HasFault, IsGiven, IsRefused, IsAnswer}
+use Rattle.fx_doc.specs.Judgements.{Tells}
+use Rattle.fx_doc_grammar.specs.Judgements.{NoText, Judged, judgement, unmarked, document_text}
+use Rattle.fx_doc_grammar.proofs.JudgementLemmas.{one_judgement}
 use Rattle.fx_doc.specs.declared.document.Document.{Document}
 use Rattle.fx_doc.specs.declared.document.DocError.{DocError}
 use Rattle.fx_doc.specs.declared.document.DocError.TheVariants.{NotUtf8, Markup, Depth, Long, Memory}
@@ -43,9 +46,9 @@ rest_shorter c text rest e =
 -- from an answer on the characters to one on the bytes
 pub on_bytes : (bytes cs : List ℕ) (r : Result Document DocError) → cs ≡ document_text bytes → IsUtf8 bytes → IsRead cs r → IsAnswer bytes r
 on_bytes bytes cs (Ok d) e u x = (u, subst (λ y. Spells y (reading d)) e x.0, subst IsWithinLimits e x.1)
-on_bytes bytes cs (Err (Markup line column)) e u x = (u, subst (λ y. IsRead y (Err (Markup line column))) e x)
-on_bytes bytes cs (Err (Depth line column)) e u x = (u, subst (λ y. IsRead y (Err (Depth line column))) e x)
-on_bytes bytes cs (Err (Long line column)) e u x = (u, subst (λ y. IsRead y (Err (Long line column))) e x)
+on_bytes bytes cs (Err (Markup position)) e u x = (u, subst (λ y. IsRead y (Err (Markup position))) e x)
+on_bytes bytes cs (Err (Depth position)) e u x = (u, subst (λ y. IsRead y (Err (Depth position))) e x)
+on_bytes bytes cs (Err (Long position)) e u x = (u, subst (λ y. IsRead y (Err (Long position))) e x)
 on_bytes bytes cs (Err (NotUtf8 n)) e u x = absurd x
 on_bytes bytes cs (Err Memory) e u x = tt
 
@@ -64,19 +67,28 @@ fault_by bytes (Err e) x = x
 pub exact_by : (bytes : List ℕ) (r : Result Document DocError) → IsAnswer bytes r → (v : Verdict) → IsUtf8 bytes → IsVerdict (document_text bytes) v → IsGiven v r
 exact_by bytes (Ok d) x v u y = one_verdict (document_text bytes) v (Reads (reading d)) y (x.1, x.2)
 exact_by bytes (Err (NotUtf8 k)) x v u y = x.0 u
-exact_by bytes (Err (Markup line column)) x v u y = one_verdict (document_text bytes) v (Stops (place_of line column)) y x.1
-exact_by bytes (Err (Depth line column)) x v u y = one_verdict (document_text bytes) v (Deep (place_of line column)) y x.1
-exact_by bytes (Err (Long line column)) x v u y = one_verdict (document_text bytes) v (TooLong (place_of line column)) y x.1
+exact_by bytes (Err (Markup position)) x v u y = one_verdict (document_text bytes) v (Stops position) y x.1
+exact_by bytes (Err (Depth position)) x v u y = one_verdict (document_text bytes) v (Deep position) y x.1
+exact_by bytes (Err (Long position)) x v u y = one_verdict (document_text bytes) v (TooLong position) y x.1
 exact_by bytes (Err Memory) x v u y = tt
 
 pub refused_by : (bytes : List ℕ) (r : Result Document DocError) → IsAnswer bytes r → (IsUtf8 bytes → ⊥) → IsRefused r
 refused_by bytes (Ok d) x n = n x.0
 refused_by bytes (Err (NotUtf8 k)) x n = tt
-refused_by bytes (Err (Markup line column)) x n = n x.0
-refused_by bytes (Err (Depth line column)) x n = n x.0
-refused_by bytes (Err (Long line column)) x n = n x.0
+refused_by bytes (Err (Markup position)) x n = n x.0
+refused_by bytes (Err (Depth position)) x n = n x.0
+refused_by bytes (Err (Long position)) x n = n x.0
 refused_by bytes (Err Memory) x n = tt
 
 pub mark_read : (c : ℕ) (text front rest behind : List ℕ) → c ≡ 65279 → front ≡ text → front ≡ encode c ++ rest → behind ≡ rest → chars behind ≡ unmarked (chars text)
 mark_read c text front rest behind m f e b =
     ap chars b ∙ marked 65279 text rest refl (sym f ∙ (e ∙ ap (λ y. encode y ++ rest) m)) refl
+
+-- the judgement is the answer
+pub judged_by : (bytes : List ℕ) (r : Result Document DocError) → IsAnswer bytes r → Tells r (judgement bytes)
+judged_by bytes (Ok d) x = one_judgement bytes (Judged (Reads (reading d))) (x.0, (x.1, x.2))
+judged_by bytes (Err (NotUtf8 n)) x = one_judgement bytes (NoText n) x
+judged_by bytes (Err (Markup position)) x = one_judgement bytes (Judged (Stops position)) x
+judged_by bytes (Err (Depth position)) x = one_judgement bytes (Judged (Deep position)) x
+judged_by bytes (Err (Long position)) x = one_judgement bytes (Judged (TooLong position)) x
+judged_by bytes (Err Memory) x = tt

@@ -1,25 +1,23 @@
 -- Characters over which the machine goes on within the limits; an attribute as most are written is such.
 -- The reader takes one whole; its answers cite these.
-use Rattle.std.proofs.Common.{◌≡◌, ℕ, ◌+◌, ◌≤◌, ◌<◌, Bool, true, false, cond, ◌&&◌, ◌||◌, not, List, [], ◌∷◌, ◌++◌, suc, Option, Some, None, length, refl, sym, ◌∙◌, ap, subst, append_assoc, append-nil, length-append, add-one, arith}
+use Rattle.std.proofs.Common.{◌≡◌, ℕ, ◌+◌, ◌≤◌, ◌<◌, Bool, true, false, cond, ◌&&◌, ◌||◌, not, List, [], ◌∷◌, ◌++◌, Option, Some, length, refl, sym, ◌∙◌, ap, subst, append_assoc, append-nil, length-append, arith}
 use Rattle.std.specs.List.{list_all}
-use lib.Dec.{eqb, ltb, leb}
+use lib.Dec.{eqb, ltb}
 use Rattle.std.proofs.lemmas.Str.{encode_ascii}
 use Rattle.fx_doc_grammar.specs.Characters.{class_of, is_later, in_name, starts_name}
 use Rattle.fx_text.specs.Classes.{is_white, is_letter}
-use Rattle.fx_base.specs.Positions.{start, after, after_all}
+use Rattle.fx_base.specs.Positions.{after, after_all}
 use Rattle.fx_doc_grammar.specs.Grammar.{Head, is_quote, value_byte}
-use Rattle.fx_doc_grammar.specs.Machine.{State, Held, Mode, Spaced, Tight, Keyed, Signed, Quoted, at, some_if, initial, step, next, run, is_fresh, with_attribute, is_deep, is_long, level_long, mode_long, in_spaced, in_keyed, in_quoted, in_value}
-use Rattle.fx_doc_grammar.specs.Beginnings.{IsWithinLimits}
+use Rattle.fx_doc_grammar.specs.Machine.{State, Held, Spaced, Tight, Keyed, Signed, Quoted, at, some_if, step, is_fresh, with_attribute, is_deep, is_long, level_long, in_spaced, in_value}
 use Rattle.fx_doc_grammar.specs.declared.Class.{Class}
 use Rattle.fx_doc_grammar.specs.declared.Class.TheVariants.{White, Less, Greater, Slash, Equals, Bang, Question, Dash, Quotation, Apostrophe, Ampersand, Letter, Digit, Other}
 use Rattle.fx_base.specs.declared.positions.Position.{Position}
-use Rattle.fx_doc_grammar.specs.declared.Quote.{Quote}
 use Rattle.fx_doc_grammar.specs.declared.Quote.TheVariants.{Double}
 use Rattle.fx_doc_grammar.proofs.Marks.{as_state}
 use Rattle.fx_doc_grammar.proofs.Runs.{fits_at}
 use Rattle.fx_doc_grammar.proofs.TagGoes.{keyed_on, quote_ends}
 use Rattle.fx_doc_grammar.proofs.Turns.{run_more, limits_more, place_more}
-use Rattle.fx_doc_drafts.specs.Ahead.{IsAhead, is_named, is_plain, begins_name}
+use Rattle.fx_doc_drafts.specs.Ahead.{is_named, is_plain, begins_name}
 use Rattle.fx_doc.specs.Reached.{Calm, Said}
 use Rattle.fx_doc.proofs.Defaults.{quoted_rest}
 
@@ -27,9 +25,9 @@ pub said_more : (said : List ℕ) (p : Position) (s : State) (cs : List ℕ) (s'
 said_more said p s [] s' h k = subst (λ (y : List ℕ). Said y p s') (sym (append-nil said)) (subst (λ (y : State). Said said p y) k h)
 said_more said p s (c ∷ cs) s' h k =
     let one : Said (said ++ (c ∷ [])) (after p c) k.0 = record {
-      state = run_more said c p s k.0 h.state h.place k.1;
-      place = place_more said c p h.place;
-      within = limits_more said c p s k.0 h.state h.place k.1 h.within k.2 k.3;
+      state = run_more said c p s k.0 h.state h.position k.1;
+      position = place_more said c p h.position;
+      within = limits_more said c p s k.0 h.state h.position k.1 h.within k.2 k.3;
     } in
     subst (λ (y : List ℕ). Said y (after_all (after p c) cs) s') (append_assoc said (c ∷ []) cs) (said_more (said ++ (c ∷ [])) (after p c) k.0 cs s' one k.4)
 

@@ -1,10 +1,10 @@
 -- The first character of a text, and a part of plain ASCII: their characters, and what is behind them.
 use Rattle.std.proofs.Common.{◌≡◌, ℕ, ◌+◌, ◌<◌, ◌≤◌, Bool, ◌&&◌, true, false, cond, not, List, [], ◌∷◌, ◌++◌, zero, suc, length, Some, slice_get, slice_index, refl, sym, ◌∙◌, ap, append-nil, length-append, arith}
 use Rattle.std.specs.List.{list_all}
-use Rattle.std.specs.Str.{chars, IsUtf8, IsAscii}
+use Rattle.std.specs.Str.{chars, IsUtf8}
 use Rattle.std.specs.Char.{IsScalar}
 use lib.Dec.{eqb, ltb}
-use lib.Utf8.{encode, encodes, scalar, scalars}
+use lib.Utf8.{encode, scalar, scalars}
 use Rattle.std.proofs.lemmas.Str.{chars-append, chars-encodes, length-le-encodes, IsUtf8-encode, IsUtf8-past_char, IsUtf8-from_ascii, chars-IsAscii, encode_ascii}
 use Rattle.fx_base.specs.Positions.{after_all}
 use Rattle.fx_base.specs.declared.positions.Position.{Position}

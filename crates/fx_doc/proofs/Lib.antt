@@ -1,6 +1,5 @@
 pub mod Trees
 pub mod Defaults
-pub mod Trims
 pub mod Names
 pub mod Stacks
 pub mod Calm
@@ -9,4 +8,3 @@ pub mod Firsts
 pub mod Whole
 pub mod Turning
 pub mod Answered
-pub mod JudgementLemmas

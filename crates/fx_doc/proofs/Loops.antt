@@ -13,7 +13,7 @@ use Rattle.fx_doc_grammar.proofs.Roots.{line_bound, column_bound}
 use Rattle.fx_doc_grammar.proofs.Turns.{run_more, limits_more, stopped_here, stopped_end, too_long, too_deep}
 use Rattle.fx_base.specs.declared.positions.Position.{Position}
 use Rattle.fx_doc.specs.Views.{view, reading, IsDeepMode, mode_view, stack_view}
-use Rattle.fx_doc.specs.Reads.{IsNext, IsRead, place_of}
+use Rattle.fx_doc.specs.Reads.{IsNext, IsRead}
 use Rattle.fx_doc.specs.declared.document.Document.{Document}
 use Rattle.fx_doc.specs.declared.document.DocError.{DocError}
 use Rattle.fx_doc.specs.declared.document.DocError.TheVariants.{NotUtf8, Markup, Depth, Long, Memory}
@@ -84,11 +84,11 @@ deep_leb : (n : ℕ) → 128 ≤ n → leb 128 n ≡ true
 deep_leb n h = grind arith
 
 pub stops : (all said : List ℕ) (c : ℕ) (p : Position) (r r' : Reader) (e : DocError) → IsTurn all said c → run start (Some initial) said ≡ Some (view r) → p ≡ after_all start said → IsWithinLimits said → IsNext (view r) p c r' (Err e) → IsRead all (Err e)
-stops all said c p r r' (Markup line column) t h q w x = stopped_here all said c t.more p (place_of line column) (view r) t.split h q w x.0 x.1
-stops all said c p r r' (Long line column) t h q w x = too_long all said c t.more p (place_of line column) (view r) x.0 t.split h q w x.1 (never_long r) x.2 x.3
-stops all said c p r r' (Depth line column) t h q w x =
-    let n = deep_naming x.0.mode (place_of line column) x.2.0 in
-    too_deep all said c t.more p (place_of line column) (view r) x.0 n.0 t.split h q w x.1 n.1 (deep_leb (stack_depth x.0.held.stack) x.2.1)
+stops all said c p r r' (Markup position) t h q w x = stopped_here all said c t.more p position (view r) t.split h q w x.0 x.1
+stops all said c p r r' (Long position) t h q w x = too_long all said c t.more p position (view r) x.0 t.split h q w x.1 (never_long r) x.2 x.3
+stops all said c p r r' (Depth position) t h q w x =
+    let n = deep_naming x.0.mode position x.2.0 in
+    too_deep all said c t.more p position (view r) x.0 n.0 t.split h q w x.1 n.1 (deep_leb (stack_depth x.0.held.stack) x.2.1)
 stops all said c p r r' (NotUtf8 n) t h q w x = absurd x
 stops all said c p r r' Memory t h q w x = tt
 

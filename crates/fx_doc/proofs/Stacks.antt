@@ -18,7 +18,7 @@ attrs_push [] a = refl
 attrs_push (x ∷ xs) a = ap (λ (y : List Attr). attr_view x ∷ y) (attrs_push xs a)
 
 abbrev pub head_by : List ℕ → List Attr → Position → HeadView
-head_by n ats p = record { name = n; attributes = ats; place = p }
+head_by n ats p = record { name = n; attributes = ats; position = p }
 
 pub head_push : (name : List ℕ) (xs ys : List Attribute) (a : Attribute) (p : Position) (b : Attr) → ys ≡ xs ++ (a ∷ []) → attr_view a ≡ b → head_by name (map attr_view ys) p ≡ head_by name (map attr_view xs ++ (b ∷ [])) p
 head_push name xs ys a p b e f = ap (λ (y : List Attr). head_by name y p) (ap (map attr_view) e ∙ (attrs_push xs a ∙ ap (λ (y : Attr). map attr_view xs ++ (y ∷ [])) f))

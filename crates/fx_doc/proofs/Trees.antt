@@ -25,11 +25,11 @@ map_push (d ∷ cs) c = ap (λ y. onto d ∷ y) (map_push cs c)
 pub nodes_of_push : (cs : List Content) (c : Content) → nodes_of (cs ++ (c ∷ [])) ≡ onto c (nodes_of cs)
 nodes_of_push cs c = ap (built Nothing) (map_push cs c) ∙ built_push Nothing (map onto cs) (onto c)
 
-pub onto_child : (e : Element) (n : Nodes) → onto (v.Child e) n ≡ Node n (record { name = (w.out-Element e).name; attributes = map attr_view (w.out-Element e).attributes; place = record { line = (w.out-Element e).line; column = (w.out-Element e).column } }) (nodes_of (w.out-Element e).content.items)
+pub onto_child : (e : Element) (n : Nodes) → onto (v.Child e) n ≡ Node n (record { name = (w.out-Element e).name; attributes = map attr_view (w.out-Element e).attributes; position = (w.out-Element e).position }) (nodes_of (w.out-Element e).content.items)
 onto_child e n = ap (λ c. onto c n) (sym (v.rolls-Child e)) ∙ (ap (λ (g : Onto). g n) (f.fold-roll-Content Onto Onto content_step element_step (o.Child e)) ∙ ap (λ (g : Onto). g n) (f.fold_out-Element Onto Onto content_step element_step e))
 
-pub onto_chars : (t : List ℕ) (line column : ℕ) (n : Nodes) → onto (v.Chars t line column) n ≡ Letters n t (record { line = line; column = column })
-onto_chars t line column n = ap (λ c. onto c n) (sym (v.rolls-Chars t line column)) ∙ ap (λ (g : Onto). g n) (f.fold-roll-Content Onto Onto content_step element_step (o.Chars t line column))
+pub onto_chars : (t : List ℕ) (p : Position) (n : Nodes) → onto (v.Chars t p) n ≡ Letters n t p
+onto_chars t p n = ap (λ c. onto c n) (sym (v.rolls-Chars t p)) ∙ ap (λ (g : Onto). g n) (f.fold-roll-Content Onto Onto content_step element_step (o.Chars t p))
 
 stack_from_push : (s : Stack) (os : List Open) (x : Open) → stack_from s (os ++ (x ∷ [])) ≡ Opened (stack_from s os) (level_view x.before) (head_view x.head)
 stack_from_push s [] x = refl
@@ -40,7 +40,7 @@ stack_push os x = stack_from_push Bottom os x
 
 something : (x : o.Content-F Content Element) (n : Nodes) → is_nothing (content_step (f.map-Content Content Element Onto Onto (f.fold-Content Onto Onto content_step element_step) (f.fold-Element Onto Onto content_step element_step) x) n) ≡ false
 something (o.Child e) n = ap (λ (g : Onto). is_nothing (g n)) (f.fold_out-Element Onto Onto content_step element_step e)
-something (o.Chars t line column) n = refl
+something (o.Chars t p) n = refl
 
 pub onto_something : (c : Content) (n : Nodes) → is_nothing (onto c n) ≡ false
 onto_something c n = ap (λ (g : Onto). is_nothing (g n)) (f.fold_out-Content Onto Onto content_step element_step c) ∙ something (w.out-Content c) n
@@ -71,18 +71,18 @@ held_by a s l = record { imports = a; stack = s; level = l }
 pub held_same : (a : List (List ℕ)) (s s' : Stack) (l l' : LevelView) → s ≡ s' → l ≡ l' → held_by a s l ≡ held_by a s' l'
 held_same a s s' l l' e g = λ i. record { imports = a; stack = e i; level = g i }
 
-pub closed_push : (cs ds : List Content) (t bytes : List ℕ) (first : Option Position) (p : Position) → ds ≡ cs ++ (v.Chars t p.line p.column ∷ []) → t ≡ bytes → first ≡ Some p → nodes_of ds ≡ with_run first (nodes_of cs) bytes
+pub closed_push : (cs ds : List Content) (t bytes : List ℕ) (first : Option Position) (p : Position) → ds ≡ cs ++ (v.Chars t p ∷ []) → t ≡ bytes → first ≡ Some p → nodes_of ds ≡ with_run first (nodes_of cs) bytes
 closed_push cs ds t bytes first p e g h =
-    ap nodes_of e ∙ (nodes_of_push cs (v.Chars t p.line p.column) ∙ (onto_chars t p.line p.column (nodes_of cs)
+    ap nodes_of e ∙ (nodes_of_push cs (v.Chars t p) ∙ (onto_chars t p (nodes_of cs)
     ∙ (ap (λ y. Letters (nodes_of cs) y p) g ∙ ap (λ y. with_run y (nodes_of cs) bytes) (sym h))))
 
 abbrev pub element_head : Element → HeadView
-element_head e = record { name = (w.out-Element e).name; attributes = map attr_view (w.out-Element e).attributes; place = record { line = (w.out-Element e).line; column = (w.out-Element e).column } }
+element_head e = record { name = (w.out-Element e).name; attributes = map attr_view (w.out-Element e).attributes; position = (w.out-Element e).position }
 
 abbrev pub level_by : Nodes → List ℕ → Option Position → ℕ → LevelView
 level_by n r p c = record { nodes = n; run = r; first = p; count = c }
 
-pub kept_run : (cs ds : List Content) (t bytes run : List ℕ) (count : ℕ) (first : Option Position) (p : Position) → ds ≡ cs ++ (v.Chars t p.line p.column ∷ []) → t ≡ bytes → first ≡ Some p → run ≡ [] → count ≡ 0
+pub kept_run : (cs ds : List Content) (t bytes run : List ℕ) (count : ℕ) (first : Option Position) (p : Position) → ds ≡ cs ++ (v.Chars t p ∷ []) → t ≡ bytes → first ≡ Some p → run ≡ [] → count ≡ 0
     → level_by (nodes_of ds) run None count ≡ level_behind (with_run first (nodes_of cs) bytes)
 kept_run cs ds t bytes run count first p e g h r k =
     let n : nodes_of ds ≡ with_run first (nodes_of cs) bytes = closed_push cs ds t bytes first p e g h in
@@ -103,8 +103,8 @@ close_is imports s s' b d l l' n e g h =
 pub child_onto : (e : Element) → onto (v.Child e) ≡ onto_element e
 child_onto e = ap onto (sym (v.rolls-Child e)) ∙ f.fold-roll-Content Onto Onto content_step element_step (o.Child e)
 
-pub chars_run : (t : List ℕ) (line column : ℕ) → IsRun (v.Chars t line column)
-chars_run t line column n r = subst IsRoot (onto_chars t line column n) r
+pub chars_run : (t : List ℕ) (p : Position) → IsRun (v.Chars t p)
+chars_run t p n r = subst IsRoot (onto_chars t p n) r
 
 pub element_node : (e : Element) (n : Nodes) → onto_element e n ≡ Node n (element_head e) (nodes_of (w.out-Element e).content.items)
 element_node e n = ap (λ (g : Onto). g n) (f.fold_out-Element Onto Onto content_step element_step e)

@@ -1,10 +1,9 @@
 -- One turn of the loop over a text, and its end.
 -- The answers on the loop cite these.
-use Rattle.std.proofs.Common.{◌≡◌, ℕ, ◌+◌, ◌-◌, ◌<◌, ◌≤◌, ◌^◌, true, List, [], ◌∷◌, ◌++◌, length, Ok, Err, Result, None, Some, refl, sym, ◌∙◌, ap, subst, append_assoc, append-nil, length-append, arith}
-use Rattle.std.specs.List.{list_all}
+use Rattle.std.proofs.Common.{◌≡◌, ℕ, ◌+◌, ◌-◌, ◌<◌, ◌≤◌, List, [], ◌∷◌, ◌++◌, length, Ok, Err, Result, None, Some, refl, sym, ◌∙◌, ap, subst, append_assoc, append-nil, length-append, arith}
 use Rattle.std.specs.Result.{IsErrAnd}
 use Rattle.std.specs.Str.{chars, IsUtf8}
-use Rattle.std.proofs.lemmas.Str.{chars-nil, IsUtf8-had}
+use Rattle.std.proofs.lemmas.Str.{chars-nil}
 use Rattle.fx_base.specs.Positions.{start, after, after_all}
 use Rattle.fx_doc_grammar.specs.Grammar.{Reading as ReadingView, IsRoot}
 use Rattle.fx_doc_grammar.specs.Machine.{State, initial, answer}
@@ -13,7 +12,7 @@ use Rattle.fx_base.specs.declared.positions.Position.{Position}
 use Rattle.fx_doc_grammar.proofs.Bounds.{within_start}
 use Rattle.fx_doc_grammar.proofs.Roots.{line_bound, column_bound, answered_root}
 use Rattle.fx_doc.specs.Reads.{IsNext, IsRead}
-use Rattle.fx_doc.specs.Reached.{Calm, Said, TookFlat, IsReached, is_flat}
+use Rattle.fx_doc.specs.Reached.{Said, TookFlat, IsReached}
 use Rattle.fx_doc.specs.Views.{view, reading}
 use Rattle.fx_doc.specs.declared.document.Document.{Document}
 use Rattle.fx_doc.specs.declared.document.DocError.{DocError}
@@ -29,7 +28,7 @@ begins text r u e = record {
   split = refl;
   fewer = same (length text);
   utf8 = u;
-  reached = record { state = ap Some (sym e); place = refl; within = within_start };
+  reached = record { state = ap Some (sym e); position = refl; within = within_start };
 }
   where
     same : (n : ℕ) → 0 + n ≤ n
@@ -38,14 +37,14 @@ begins text r u e = record {
 pub line_fits : (text rest : List ℕ) (p : Position) (s : State) → IsReached text rest p s → length text ≤ 4194304 → p.line + length rest ≤ 4194306
 line_fits text rest p s h k =
     let b : (after_all start h.said).line ≤ 1 + length h.said = line_bound start h.said in
-    let e : p.line ≡ (after_all start h.said).line = ap (λ (y : Position). y.line) h.reached.place in
+    let e : p.line ≡ (after_all start h.said).line = ap (λ (y : Position). y.line) h.reached.position in
     let f : length h.said + length rest ≤ length text = h.fewer in
     omega arith
 
 pub column_fits : (text rest : List ℕ) (p : Position) (s : State) → IsReached text rest p s → length text ≤ 4194304 → p.column + length rest ≤ 4194306
 column_fits text rest p s h k =
     let b : (after_all start h.said).column ≤ 1 + length h.said = column_bound start h.said in
-    let e : p.column ≡ (after_all start h.said).column = ap (λ (y : Position). y.column) h.reached.place in
+    let e : p.column ≡ (after_all start h.said).column = ap (λ (y : Position). y.column) h.reached.position in
     let f : length h.said + length rest ≤ length text = h.fewer in
     omega arith
 
@@ -60,9 +59,9 @@ one_reached text rest behind p q r r' c h e k u n w =
       fewer = omega arith;
       utf8 = u;
       reached = record {
-        state = goes_on h.said c p r r' h.reached.state h.reached.place n;
-        place = w ∙ place_more h.said c p h.reached.place;
-        within = within_on h.said c p r r' h.reached.state h.reached.place h.reached.within n;
+        state = goes_on h.said c p r r' h.reached.state h.reached.position n;
+        position = w ∙ place_more h.said c p h.reached.position;
+        within = within_on h.said c p r r' h.reached.state h.reached.position h.reached.within n;
       };
     }
 
@@ -84,7 +83,7 @@ flat_reached text rest left p q r r' h t e f =
 
 -- a step that stops
 pub stops_reached : (text rest behind : List ℕ) (p : Position) (r r' : Reader) (c : ℕ) (e : DocError) → IsReached text rest p (view r) → chars rest ≡ c ∷ chars behind → IsNext (view r) p c r' (Err e) → IsRead (chars text) (Err e)
-stops_reached text rest behind p r r' c e h k n = stops (chars text) h.said c p r r' e (record { more = chars behind; split = h.split ∙ ap (λ y. h.said ++ y) k }) h.reached.state h.reached.place h.reached.within n
+stops_reached text rest behind p r r' c e h k n = stops (chars text) h.said c p r r' e (record { more = chars behind; split = h.split ∙ ap (λ y. h.said ++ y) k }) h.reached.state h.reached.position h.reached.within n
 
 pub memory_read : (all : List ℕ) (r : Result Document DocError) (e m : DocError) → IsRead all (Err m) → e ≡ m → IsErrAnd r (λ y. y ≡ e) → IsRead all r
 memory_read all r e m h g i = passed all r e i (subst (λ (z : DocError). IsRead all (Err z)) (sym g) h)
@@ -97,7 +96,7 @@ pub ends_reached : (text rest : List ℕ) (p : Position) (r : Reader) (d : Docum
 ends_reached text rest p r d h e a = ends_read (chars text) h.said r d (whole text rest p (view r) h e) h.reached.state h.reached.within a
 
 pub stopped_reached : (text rest : List ℕ) (p : Position) (r : Reader) → IsReached text rest p (view r) → rest ≡ [] → answer (view r) ≡ None → IsStopped (chars text) p
-stopped_reached text rest p r h e a = ends_stopped (chars text) h.said p r (whole text rest p (view r) h e) h.reached.state h.reached.place h.reached.within a
+stopped_reached text rest p r h e a = ends_stopped (chars text) h.said p r (whole text rest p (view r) h e) h.reached.state h.reached.position h.reached.within a
 
 pub root_reached : (text rest : List ℕ) (p : Position) (r : Reader) → IsReached text rest p (view r) → (n : ReadingView) → answer (view r) ≡ Some n → IsRoot n.root
 root_reached text rest p r h n e = answered_root h.said (view r) n h.reached.state e

@@ -1,12 +1,11 @@
 -- An attribute that is taken whole: what the reader is behind it.
 -- Above the lemmas on calm characters; the answers on the loop cite these.
-use Rattle.std.proofs.Common.{◌≡◌, ℕ, ◌+◌, ◌<◌, ◌≤◌, Bool, true, false, ◌&&◌, not, List, [], ◌∷◌, ◌++◌, length, refl, sym, ◌∙◌, ap, subst, append_assoc, arith}
+use Rattle.std.proofs.Common.{◌≡◌, ℕ, Bool, true, false, ◌&&◌, not, List, [], ◌∷◌, ◌++◌, refl, sym, ◌∙◌, ap, subst, append_assoc, arith}
 use Rattle.std.specs.List.{list_all}
 use lib.Dec.{eqb, ltb}
-use Rattle.fx_doc_grammar.specs.Characters.{class_of, is_later, in_name}
-use Rattle.fx_text.specs.Classes.{is_white, is_letter}
+use Rattle.fx_doc_grammar.specs.Characters.{class_of, in_name}
 use Rattle.fx_doc_grammar.specs.Grammar.{Head as HeadView}
-use Rattle.fx_doc_grammar.specs.Machine.{State, Mode, Spaced, Tight, is_fresh, with_attribute}
+use Rattle.fx_doc_grammar.specs.Machine.{Mode, Spaced, Tight, is_fresh, with_attribute}
 use Rattle.fx_base.specs.declared.positions.Position.{Position}
 use Rattle.fx_doc_grammar.proofs.Marks.{as_state}
 use Rattle.fx_doc_drafts.specs.Ahead.{IsAhead, is_named, is_plain}

@@ -26,7 +26,7 @@ abbrev pub IsPlain : Valued → Class → Type 0
 IsPlain v k = (k ≢ Less) × (k ≢ Ampersand) × (is_quote v.quote k ≡ false)
 
 abbrev pub with_value : Valued → Valued → Valued
-with_value v v' = record { head = v.head; place = v.place; key = v.key; quote = v.quote; value = v'.value }
+with_value v v' = record { head = v.head; position = v.position; key = v.key; quote = v.quote; value = v'.value }
 
 abbrev pub TakesValue : ℕ → Class → Valued → Valued → Result Bool Halt → Type 0
 TakesValue c k v v' (Ok true) = IsPlain v k × (v' ≡ with_value v v') × (string_bytes v'.value.text ≡ string_bytes v.value.text ++ value_byte k c) × (v'.value.count ≡ v.value.count + 1)

@@ -32,14 +32,14 @@ built n [] = n
 built n (f ∷ fs) = built (f n) fs
 
 abbrev pub attr_view : Attribute → Attr
-attr_view a = record { name = a.name; value = a.value; place = record { line = a.line; column = a.column } }
+attr_view a = record { name = a.name; value = a.value; position = a.position }
 
 abbrev pub element_step : Element-F Onto Onto → Onto
-element_step e n = Node n (record { name = e.name; attributes = map attr_view e.attributes; place = record { line = e.line; column = e.column } }) (built Nothing e.content.items)
+element_step e n = Node n (record { name = e.name; attributes = map attr_view e.attributes; position = e.position }) (built Nothing e.content.items)
 
 abbrev pub content_step : Content-F Onto Onto → Onto
 content_step (Child e) = e
-content_step (Chars t line column) = λ n. Letters n t (record { line = line; column = column })
+content_step (Chars t position) = λ n. Letters n t position
 
 abbrev pub onto : Content → Onto
 onto = fold-Content Onto Onto content_step element_step
@@ -56,7 +56,7 @@ abbrev pub level_behind : Nodes → LevelView
 level_behind n = record { nodes = n; run = []; first = None; count = 0 }
 
 abbrev pub head_view : Head → HeadView
-head_view h = record { name = h.name; attributes = map attr_view h.attributes.items; place = h.place }
+head_view h = record { name = h.name; attributes = map attr_view h.attributes.items; position = h.position }
 
 abbrev pub stack_from : m.Stack → List Open → m.Stack
 stack_from s [] = s
@@ -92,8 +92,8 @@ mode_view s (v.Tight h) = m.Tight (head_view h)
 mode_view s (v.Keyed h p k) = m.Keyed (head_view h) p (string_bytes k.text)
 mode_view s (v.KeySpaced h p k) = m.KeySpaced (head_view h) p (string_bytes k.text)
 mode_view s (v.Signed h p k) = m.Signed (head_view h) p (string_bytes k.text)
-mode_view s (v.Quoted x) = m.Quoted (head_view x.head) x.place (string_bytes x.key.text) x.quote (string_bytes x.value.text) x.value.count
-mode_view s (v.ValueReferring x p e) = m.ValueReferring (head_view x.head) x.place (string_bytes x.key.text) x.quote (string_bytes x.value.text) x.value.count p e
+mode_view s (v.Quoted x) = m.Quoted (head_view x.head) x.position (string_bytes x.key.text) x.quote (string_bytes x.value.text) x.value.count
+mode_view s (v.ValueReferring x p e) = m.ValueReferring (head_view x.head) x.position (string_bytes x.key.text) x.quote (string_bytes x.value.text) x.value.count p e
 mode_view s (v.Slashed h) = m.Slashed (head_view h)
 mode_view s (v.Ending n) = m.Ending (drop n (open_name s))
 mode_view s v.Ended = m.Ended
@@ -159,7 +159,7 @@ signed_state h head p n = m.at h (m.Signed head p n)
 
 -- the tag of a name alone
 abbrev pub bare_head : Position → List ℕ → HeadView
-bare_head p n = record { name = n; attributes = []; place = p }
+bare_head p n = record { name = n; attributes = []; position = p }
 
 abbrev pub tight_state : m.Held → HeadView → Option m.State
 tight_state h head = m.at h (m.Tight head)

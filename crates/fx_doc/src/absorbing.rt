@@ -9,8 +9,9 @@ ghost use Rattle.fx_doc.specs.Taking.{TakesName, TakesValue, TakesSign};
 
 use crate::modes::{Held, Mode, Reader, Valued};
 use crate::values::shown;
+use fx_base::Position;
 use fx_doc_drafts::{Halt, Word};
-use fx_doc_grammar::{Class, Position};
+use fx_doc_grammar::Class;
 
 /// Appends a character of a name; false at any other.
 fn absorb_name(name: &mut Word, c: char) -> Result<bool, Halt>
@@ -51,8 +52,8 @@ impl Valued {
 
 impl Held {
     /// Appends a character to the run of an open element; false at `<` and `&`, and outside the elements.
-    fn absorb(&mut self, place: Position, c: char) -> Result<bool, Halt>
-        ensures { TakesSign place c (class_of c) self.old self.new result }
+    fn absorb(&mut self, position: Position, c: char) -> Result<bool, Halt>
+        ensures { TakesSign position c (class_of c) self.old self.new result }
     {
         if !self.is_within() {
             return Ok(false);
@@ -61,7 +62,7 @@ impl Held {
             Class::Less => Ok(false),
             Class::Ampersand => Ok(false),
             _ => {
-                self.level.add_sign(place, c)?;
+                self.level.add_sign(position, c)?;
                 Ok(true)
             }
         }
@@ -70,11 +71,11 @@ impl Held {
 
 impl Reader {
     /// Takes a character that only makes the text at hand longer; false where it does more.
-    pub fn absorb(&mut self, place: Position, c: char) -> Result<bool, Halt>
-        ensures { Takes (step place (view self.old) c) self.old self.new result }
+    pub fn absorb(&mut self, position: Position, c: char) -> Result<bool, Halt>
+        ensures { Takes (step position (view self.old) c) self.old self.new result }
     {
         match &mut self.mode {
-            Mode::Inside => self.held.absorb(place, c),
+            Mode::Inside => self.held.absorb(position, c),
             Mode::Naming(_, name) => absorb_name(name, c),
             Mode::Keyed(_, _, key) => absorb_name(key, c),
             Mode::Quoted(valued) => valued.absorb(c),

@@ -3,9 +3,9 @@
 ghost use Rattle.std.specs.Prelude.{◌≡◌, ◌≤◌, length, IfOk, IfErr};
 ghost use Rattle.std.specs.Str.{chars, IsUtf8, IsValidUpTo};
 ghost use Rattle.fx_base.specs.Positions.{after_all, start};
-ghost use Rattle.fx_doc.specs.Reads.{unmarked, document_text};
+ghost use Rattle.fx_doc_grammar.specs.Judgements.{unmarked, document_text};
 
-use fx_doc_grammar::Position;
+use fx_base::Position;
 use std::str;
 
 /// The byte order mark.
@@ -35,7 +35,7 @@ pub fn text_in(bytes: &[u8]) -> Result<&str, usize>
     }
 }
 
-/// The place behind the text of these bytes.
+/// The position behind the text of these bytes.
 pub fn place_behind(bytes: &[u8]) -> Position
     requires text { IsUtf8 bytes.now }
     requires size { length bytes.now ≤ 4194304 }
@@ -51,9 +51,9 @@ fn behind(text: &str) -> Position
     requires { length text.now ≤ 4194304 }
     ensures { result ≡ after_all start (chars text.now) }
 {
-    let mut place = Position::START;
+    let mut position = Position::START;
     for c in text.chars() {
-        place = place.after(c);
+        position = position.after(c);
     }
-    place
+    position
 }

@@ -1,6 +1,6 @@
 //! A document as it is read, and why bytes are none.
 //! The reader makes these; the loader walks them.
-use fx_base::{List, Text};
+use fx_base::{List, Position, Text};
 use std::alloc::AllocError;
 use thiserror::Error;
 
@@ -12,24 +12,22 @@ pub struct Document {
     pub root: Element,
 }
 
-/// An element, at the place of its `<`.
+/// An element, at the position of its `<`.
 #[cycle(tree)]
 #[derive(Drop)]
 pub struct Element {
     pub name: Text,
     pub attributes: List<Attribute>,
     pub content: Vec<Content>,
-    pub line: u32,
-    pub column: u32,
+    pub position: Position,
 }
 
-/// An attribute, at the place of its name's first character.
+/// An attribute, at the position of its name's first character.
 #[derive(Drop)]
 pub struct Attribute {
     pub name: Text,
     pub value: Text,
-    pub line: u32,
-    pub column: u32,
+    pub position: Position,
 }
 
 /// What stands between the tags of an element.
@@ -37,25 +35,25 @@ pub struct Attribute {
 #[derive(Drop)]
 pub enum Content {
     Child(Element),
-    /// A run of characters, not blank, at the line and column of its first character that isn't white.
-    Chars(Text, u32, u32),
+    /// A run of characters, not blank, at the position of its first character that isn't white.
+    Chars(Text, Position),
 }
 
-/// Why bytes are no document that can be read. Places are line and column, both from 1, counted in characters.
+/// Why bytes are no document that can be read.
 #[derive(Debug, Drop, Error, PartialEq)]
 pub enum DocError {
     /// The bytes aren't UTF-8; so many bytes before the first bad one are.
     #[error("not UTF-8 behind {0} bytes")]
     NotUtf8(usize),
     /// No document goes on as the bytes do: the end of the longest prefix that some document begins with.
-    #[error("no document at {0}:{1}")]
-    Markup(u32, u32),
+    #[error("no document at {}:{}", .0.line, .0.column)]
+    Markup(Position),
     /// The `<` of an element within 128 others.
-    #[error("elements too deep at {0}:{1}")]
-    Depth(u32, u32),
+    #[error("elements too deep at {}:{}", .0.line, .0.column)]
+    Depth(Position),
     /// The first character past 4,096 of a name, a value or a run of characters.
-    #[error("a text is too long at {0}:{1}")]
-    Long(u32, u32),
+    #[error("a text is too long at {}:{}", .0.line, .0.column)]
+    Long(Position),
     #[error("out of memory")]
     Memory,
 }

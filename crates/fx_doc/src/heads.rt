@@ -1,8 +1,7 @@
 //! The head of a tag: its name and its attributes so far, each name once.
 //! The first eight names are looked through, and the others stand in a set beside: many attributes cost no more each.
-ghost use Rattle.std.specs.Prelude.{◌≡◌, ◌∷◌, ◌++◌, ◌≤◌, [], List, ℕ, length, take, cond, IfOk, OnOk};
+ghost use Rattle.std.specs.Prelude.{◌≡◌, ◌∷◌, ◌++◌, ◌≤◌, [], List, ℕ, length, take, if◌then◌else◌, nat_le, IfOk, OnOk};
 ghost use Rattle.std.specs.String.{string_bytes};
-ghost use lib.Dec.{leb};
 ghost use Rattle.fx_doc_grammar.specs.Grammar.{is_among};
 ghost use Rattle.fx_doc_grammar.specs.Machine.{is_fresh, with_attribute};
 ghost use Rattle.fx_doc_drafts.specs.Names.{HasNames};
@@ -11,9 +10,8 @@ ghost use Rattle.fx_doc.specs.Views.{bare_head, head_view};
 
 use crate::document::Attribute;
 use crate::modes::Head;
-use fx_base::Text;
+use fx_base::{Position, Text};
 use fx_doc_drafts::{Names, Word};
-use fx_doc_grammar::Position;
 use std::alloc::{AllocError, Global};
 
 /// How many names are looked through.
@@ -21,13 +19,13 @@ const NEAR: usize = 8;
 
 impl Head {
     /// The tag of this name alone.
-    pub fn bare(alloc: Global, place: Position, name: Word) -> Head
-        ensures { head_view result ≡ bare_head place (string_bytes name.text) }
+    pub fn bare(alloc: Global, position: Position, name: Word) -> Head
+        ensures { head_view result ≡ bare_head position (string_bytes name.text) }
     {
         Head {
             name: name.into_text(),
             attributes: Vec::new(alloc),
-            place,
+            position,
             later: Names::new(alloc),
         }
     }
@@ -42,20 +40,20 @@ impl Head {
         !self.later.has(key)
     }
 
-    /// With one more attribute, whose name stands at that place.
+    /// With one more attribute, whose name stands at that position.
     pub fn with_attribute(
         self,
         alloc: Global,
-        place: Position,
+        position: Position,
         key: Word,
         value: Text,
     ) -> Result<Head, AllocError>
-        ensures { IfOk result (λ h. head_view h ≡ with_attribute (head_view self) place (string_bytes key.text) value) }
+        ensures { IfOk result (λ h. head_view h ≡ with_attribute (head_view self) position (string_bytes key.text) value) }
     {
         let Head {
             name,
             mut attributes,
-            place: tag,
+            position: tag,
             mut later,
         } = self;
         let key = key.into_text();
@@ -63,13 +61,12 @@ impl Head {
         attributes.push(Attribute {
             name: key,
             value,
-            line: place.line,
-            column: place.column,
+            position,
         })?;
         Ok(Head {
             name,
             attributes,
-            place: tag,
+            position: tag,
             later,
         })
     }
@@ -77,7 +74,7 @@ impl Head {
 
 /// Adds a name, unless it is one of the first.
 fn add_later(alloc: Global, later: &mut Names, count: usize, name: &str) -> Result<(), AllocError>
-    ensures { OnOk result ((names : List (List ℕ)) → HasNames later.old names → HasNames later.new (cond (leb 8 count) (names ++ name.now ∷ []) names)) }
+    ensures { OnOk result ((names : List (List ℕ)) → HasNames later.old names → HasNames later.new (if nat_le 8 count then names ++ name.now ∷ [] else names)) }
 {
     if count < NEAR {
         return Ok(());

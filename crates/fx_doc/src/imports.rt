@@ -1,12 +1,9 @@
 //! Import instructions: the text of one without the white at its ends, listed unless it is too long.
 //! Every other instruction is passed over.
-ghost use Rattle.std.specs.Prelude.{◌≡◌, ◌∷◌, [], cond, not, ◌&&◌, length, IfOk, OnOk, option_to_list};
+ghost use Rattle.std.specs.Prelude.{◌≡◌, ◌∷◌, [], not, ◌&&◌, if◌then◌else◌, length, codes, nat_le, IfOk, OnOk, option_to_list};
 ghost use Rattle.std.specs.Str.{chars};
 ghost use Rattle.std.specs.String.{string_bytes};
-ghost use lib.Dec.{leb};
-ghost use Rattle.fx_text.specs.Classes.{is_white};
-ghost use Rattle.fx_doc_grammar.specs.Grammar.{import_name};
-ghost use Rattle.fx_text.specs.Trimming.{trim_front, trim_back, trimmed};
+ghost use Rattle.fx_text.specs.Trimming.{trimmed};
 ghost use Rattle.std.specs.Str.{bytes_eq};
 ghost use Rattle.fx_doc_grammar.specs.Machine.{with_instruction, may_begin, is_open};
 ghost use Rattle.fx_doc.specs.Views.{held_view, stack_view};
@@ -14,49 +11,15 @@ ghost use Rattle.fx_doc.specs.Views.{held_view, stack_view};
 use crate::modes::Held;
 use fx_base::Text;
 use fx_doc_drafts::Word;
+use fx_text::trimmed;
 use std::alloc::{AllocError, Global};
 use std::str;
-
-#[tactic(auto, unfolding(fx_doc_grammar::specs::Characters::is_white))]
-fn is_white_byte(byte: u8) -> bool
-    ensures { result ≡ is_white byte }
-{
-    matches!(byte, b' ' | b'\t' | b'\r' | b'\n')
-}
-
-#[tactic(auto, using(crate::proofs::Trims::front_moves))]
-fn without_front(bytes: &[u8]) -> &[u8]
-    ensures { result.now ≡ trim_front bytes.now }
-{
-    let mut rest = bytes;
-    while let Some((first, others)) = rest.split_first() {
-        if !is_white_byte(*first) {
-            break;
-        }
-        rest = others;
-    }
-    rest
-}
-
-#[tactic(auto, using(crate::proofs::Trims::back_moves))]
-fn without_back(bytes: &[u8]) -> &[u8]
-    ensures { result.now ≡ trim_back bytes.now }
-{
-    let mut rest = bytes;
-    while let Some((last, others)) = rest.split_last() {
-        if !is_white_byte(*last) {
-            break;
-        }
-        rest = others;
-    }
-    rest
-}
 
 /// The text without the white at its ends.
 fn trim_white(text: &str) -> &str
     ensures { result.now ≡ trimmed text.now }
 {
-    match str::from_utf8(without_back(without_front(text.as_bytes()))) {
+    match str::from_utf8(trimmed(text.as_bytes())) {
         Ok(middle) => middle,
         Err(_) => unreachable!(),
     }
@@ -64,14 +27,14 @@ fn trim_white(text: &str) -> &str
 
 /// What an import lists: its trimmed text, unless that is over 4,096 characters.
 fn import_text(alloc: Global, text: &str) -> Result<Option<Text>, AllocError>
-    ensures { IfOk result (λ o. option_to_list o ≡ cond (leb (length (chars (trimmed text.now))) 4096) (trimmed text.now ∷ []) []) }
+    ensures { IfOk result (λ o. option_to_list o ≡ if nat_le (length (chars (trimmed text.now))) 4096 then trimmed text.now ∷ [] else []) }
 {
     let text = String::from_str(alloc, trim_white(text))?;
     Ok(Text::from_string(text))
 }
 
 fn is_import(name: &Word) -> bool
-    ensures { result ≡ bytes_eq (string_bytes name.now.text) import_name }
+    ensures { result ≡ bytes_eq (string_bytes name.now.text) (codes "import") }
 {
     name.text.as_str() == "import"
 }

@@ -8,9 +8,9 @@ ghost use Rattle.fx_doc.specs.Views.{nodes_of, level_view, level_behind, head_vi
 
 use crate::document::{Content, Element};
 use crate::modes::{Head, Held, Level, Mode, Open};
-use fx_base::List;
+use fx_base::{List, Position};
 use fx_doc_drafts::{Draft, Halt};
-use fx_doc_grammar::{Class, Position};
+use fx_doc_grammar::Class;
 use std::alloc::{AllocError, Global};
 use std::mem;
 
@@ -33,13 +33,13 @@ impl Level {
         }
     }
 
-    /// Appends a character, which is written at that place, to the run.
-    pub fn add_sign(&mut self, place: Position, c: char) -> Result<(), Halt>
-        ensures sign { OnOk result (level_view self.new ≡ one_sign place c (level_view self.old)) }
+    /// Appends a character, which is written at that position, to the run.
+    pub fn add_sign(&mut self, position: Position, c: char) -> Result<(), Halt>
+        ensures sign { OnOk result (level_view self.new ≡ one_sign position c (level_view self.old)) }
         ensures refused { IsErrOf result Halt.Long → self.old.run.count ≡ 4096 }
     {
         self.run.push(c)?;
-        self.first = shown_first(self.first, place, c);
+        self.first = shown_first(self.first, position, c);
         Ok(())
     }
 
@@ -52,18 +52,18 @@ impl Level {
                 self.run.clear();
                 Ok(())
             }
-            Some(place) => self.keep_run(alloc, place),
+            Some(position) => self.keep_run(alloc, position),
         }
     }
 
-    fn keep_run(&mut self, alloc: Global, place: Position) -> Result<(), AllocError>
-        requires { self.old.first ≡ Some place }
+    fn keep_run(&mut self, alloc: Global, position: Position) -> Result<(), AllocError>
+        requires { self.old.first ≡ Some position }
         ensures { OnOk result (level_view self.new ≡ level_behind (closed (level_view self.old))) }
     {
         let run = mem::replace(&mut self.run, Draft::new(alloc));
         self.first = None;
         self.content
-            .push(Content::Chars(run.into_text(), place.line, place.column))?;
+            .push(Content::Chars(run.into_text(), position))?;
         Ok(())
     }
 
@@ -80,28 +80,27 @@ impl Level {
         let Head {
             name,
             attributes,
-            place,
+            position,
             later: _,
         } = head;
         let element = Element {
             name,
             attributes: List::from_vec(attributes),
             content: inner,
-            line: place.line,
-            column: place.column,
+            position,
         };
         self.content.push(Content::Child(element))?;
         Ok(())
     }
 }
 
-fn shown_first(first: Option<Position>, place: Position, c: char) -> Option<Position>
-    ensures { result ≡ first_shown first place (class_of c) }
+fn shown_first(first: Option<Position>, position: Position, c: char) -> Option<Position>
+    ensures { result ≡ first_shown first position (class_of c) }
 {
     match (first, Class::of(c)) {
-        (Some(place), _) => Some(place),
+        (Some(position), _) => Some(position),
         (None, Class::White) => None,
-        (None, _) => Some(place),
+        (None, _) => Some(position),
     }
 }
 
@@ -121,14 +120,14 @@ impl Held {
     }
 
     /// Appends a character to the run at hand; white outside the elements is not kept.
-    pub fn add_sign(&mut self, place: Position, c: char) -> Result<(), Halt>
-        ensures sign { OnOk result (held_view self.new ≡ with_sign place c (held_view self.old)) }
-        ensures refused { IsErrOf result Halt.Long → level_long (with_sign place c (held_view self.old)) ≡ true }
+    pub fn add_sign(&mut self, position: Position, c: char) -> Result<(), Halt>
+        ensures sign { OnOk result (held_view self.new ≡ with_sign position c (held_view self.old)) }
+        ensures refused { IsErrOf result Halt.Long → level_long (with_sign position c (held_view self.old)) ≡ true }
     {
         if !self.is_within() {
             return Ok(());
         }
-        self.level.add_sign(place, c)
+        self.level.add_sign(position, c)
     }
 
     /// Adds an element that has no content.

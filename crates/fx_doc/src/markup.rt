@@ -8,70 +8,76 @@ ghost use Rattle.fx_doc.specs.Views.{stack_view, held_view, Moves, inside_state,
 
 use crate::levels::goes;
 use crate::modes::{Held, Mode};
+use fx_base::Position;
 use fx_doc_drafts::{Halt, Word};
-use fx_doc_grammar::{Class, Entity, Position, Turn};
+use fx_doc_grammar::{Class, Entity, Turn};
 use std::alloc::Global;
 
 #[tactic(auto, using(crate::proofs::Defaults::inside_rest))]
-pub fn inside(held: &mut Held, place: Position, c: char) -> Result<Option<Mode>, Halt>
-    ensures { Moves (in_inside place (held_view held.old) c (class_of c)) held.new result }
+pub fn inside(held: &mut Held, position: Position, c: char) -> Result<Option<Mode>, Halt>
+    ensures { Moves (in_inside position (held_view held.old) c (class_of c)) held.new result }
 {
     match Class::of(c) {
-        Class::White => with_character(held, place, c),
-        Class::Less => goes(held, Mode::Opening(place)),
-        Class::Ampersand => refers(held, place),
-        _ => shown(held, place, c),
+        Class::White => with_character(held, position, c),
+        Class::Less => goes(held, Mode::Opening(position)),
+        Class::Ampersand => refers(held, position),
+        _ => shown(held, position, c),
     }
 }
 
 /// A reference begins, within an element alone.
-fn refers(held: &Held, place: Position) -> Result<Option<Mode>, Halt>
-    ensures { Moves (some_if (is_open (stack_view held.now.stack.items)) (referring_state (held_view held.now) place)) held.now result }
+fn refers(held: &Held, position: Position) -> Result<Option<Mode>, Halt>
+    ensures { Moves (some_if (is_open (stack_view held.now.stack.items)) (referring_state (held_view held.now) position)) held.now result }
 {
     if !held.is_within() {
         return Ok(None);
     }
-    goes(held, Mode::Referring(place, Entity::Begun))
+    goes(held, Mode::Referring(position, Entity::Begun))
 }
 
 /// A character stands within an element alone.
-fn shown(held: &mut Held, place: Position, c: char) -> Result<Option<Mode>, Halt>
-    ensures { Moves (some_if (is_open (stack_view held.old.stack.items)) (inside_state (with_sign place c (held_view held.old)))) held.new result }
+fn shown(held: &mut Held, position: Position, c: char) -> Result<Option<Mode>, Halt>
+    ensures { Moves (some_if (is_open (stack_view held.old.stack.items)) (inside_state (with_sign position c (held_view held.old)))) held.new result }
 {
     if !held.is_within() {
         return Ok(None);
     }
-    with_character(held, place, c)
+    with_character(held, position, c)
 }
 
-fn with_character(held: &mut Held, place: Position, c: char) -> Result<Option<Mode>, Halt>
-    ensures { Moves (inside_state (with_sign place c (held_view held.old))) held.new result }
+fn with_character(held: &mut Held, position: Position, c: char) -> Result<Option<Mode>, Halt>
+    ensures { Moves (inside_state (with_sign position c (held_view held.old))) held.new result }
 {
-    held.add_sign(place, c)?;
+    held.add_sign(position, c)?;
     goes(held, Mode::Inside)
 }
 
 pub fn referring(
     held: &mut Held,
-    place: Position,
+    position: Position,
     entity: Entity,
     c: char,
 ) -> Result<Option<Mode>, Halt>
-    ensures { Moves (in_referring place (held_view held.old) (entity_step entity c)) held.new result }
+    ensures { Moves (in_referring position (held_view held.old) (entity_step entity c)) held.new result }
 {
     match entity.step(c) {
-        Some(Turn::Further(next)) => goes(held, Mode::Referring(place, next)),
-        Some(Turn::Whole(found)) => with_character(held, place, found),
+        Some(Turn::Further(next)) => goes(held, Mode::Referring(position, next)),
+        Some(Turn::Whole(found)) => with_character(held, position, found),
         None => Ok(None),
     }
 }
 
-/// Behind a `<`, which stands at that place.
-pub fn opening(alloc: Global, held: &Held, place: Position, c: char) -> Result<Option<Mode>, Halt>
-    ensures { Moves (in_opening place (held_view held.now) c (class_of c)) held.now result }
+/// Behind a `<`, which stands at that position.
+pub fn opening(
+    alloc: Global,
+    held: &Held,
+    position: Position,
+    c: char,
+) -> Result<Option<Mode>, Halt>
+    ensures { Moves (in_opening position (held_view held.now) c (class_of c)) held.now result }
 {
     match Class::of(c) {
-        Class::Letter => begins(alloc, held, place, c),
+        Class::Letter => begins(alloc, held, position, c),
         Class::Bang => goes(held, Mode::Banged),
         Class::Question => goes(held, Mode::Asked),
         Class::Slash => begins_end(held),
@@ -80,14 +86,14 @@ pub fn opening(alloc: Global, held: &Held, place: Position, c: char) -> Result<O
 }
 
 /// An element begins: within another, or as the first.
-fn begins(alloc: Global, held: &Held, place: Position, c: char) -> Result<Option<Mode>, Halt>
+fn begins(alloc: Global, held: &Held, position: Position, c: char) -> Result<Option<Mode>, Halt>
     requires { in_name (class_of c) ≡ true }
-    ensures { Moves (some_if (may_begin (held_view held.now)) (naming_state (held_view held.now) place (c ∷ []))) held.now result }
+    ensures { Moves (some_if (may_begin (held_view held.now)) (naming_state (held_view held.now) position (c ∷ []))) held.now result }
 {
     if !held.may_begin() {
         return Ok(None);
     }
-    goes(held, Mode::Naming(place, Word::of(alloc, c)?))
+    goes(held, Mode::Naming(position, Word::of(alloc, c)?))
 }
 
 fn begins_end(held: &Held) -> Result<Option<Mode>, Halt>

@@ -4,16 +4,16 @@ ghost use Rattle.fx_doc_drafts.specs.Names.{HasNames};
 ghost use Rattle.fx_doc.specs.Attributes.{later_names};
 
 use crate::document::{Attribute, Content};
-use fx_base::Text;
+use fx_base::{Position, Text};
 use fx_doc_drafts::{Draft, Names, Word};
-use fx_doc_grammar::{Entity, Position, Quote};
+use fx_doc_grammar::{Entity, Quote};
 
 /// What stands before a tag's end.
 #[derive(Drop)]
 pub struct Head {
     pub name: Text,
     pub attributes: Vec<Attribute>,
-    pub place: Position,
+    pub position: Position,
     /// The names of the attributes behind the first eight.
     pub later: Names,
     ghost kept: { HasNames later (later_names attributes.items) },
@@ -24,7 +24,7 @@ pub struct Head {
 pub struct Level {
     pub content: Vec<Content>,
     pub run: Draft,
-    /// The place of the first character of the run that isn't white.
+    /// The position of the first character of the run that isn't white.
     pub first: Option<Position>,
 }
 
@@ -43,11 +43,11 @@ pub struct Held {
     pub level: Level,
 }
 
-/// The value that is being read: its attribute's name and place, its quote, and its characters.
+/// The value that is being read: its attribute's name and position, its quote, and its characters.
 #[derive(Drop)]
 pub struct Valued {
     pub head: Head,
-    pub place: Position,
+    pub position: Position,
     pub key: Word,
     pub quote: Quote,
     pub value: Draft,

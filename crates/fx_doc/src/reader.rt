@@ -6,10 +6,11 @@ ghost use Rattle.fx_doc_grammar.specs.Grammar.{Spells};
 ghost use Rattle.fx_doc_grammar.specs.Verdicts.{Verdict, IsVerdict};
 ghost use Rattle.fx_doc_grammar.specs.Beginnings.{IsWithinLimits};
 ghost use Rattle.fx_doc_grammar.specs.Characters.{class_of};
-ghost use Rattle.fx_doc_grammar.specs.Machine.{initial, step, move, sign_place, answer, is_deep};
+ghost use Rattle.fx_doc_grammar.specs.Machine.{initial, step, move, sign_position, answer, is_deep};
 ghost use Rattle.fx_base.specs.declared.positions.Position.{Position};
-ghost use Rattle.fx_doc.specs.Judgements.{Tells, judgement};
-ghost use Rattle.fx_doc.specs.Reads.{IsNext, IsStep, IsRead, HasFault, IsGiven, IsRefused, document_text};
+ghost use Rattle.fx_doc_grammar.specs.Judgements.{document_text, judgement};
+ghost use Rattle.fx_doc.specs.Judgements.{Tells};
+ghost use Rattle.fx_doc.specs.Reads.{IsNext, IsStep, IsRead, HasFault, IsGiven, IsRefused};
 ghost use Rattle.fx_doc.specs.Views.{view, held_view, mode_view, stack_view, Moves, Steps, IsDeepAt, reading, inside_view, AnswersRoot, onto, onto_element, IsRun};
 
 use crate::bytes::text_in;
@@ -22,9 +23,8 @@ use crate::modes::{Held, Level, Mode, Reader};
 use crate::reading::read_text;
 use crate::tags::{ended, key_spaced, keyed, naming, signed, slashed, spaced, tight};
 use crate::values::{ending, quoted, value_referring};
-use fx_base::List;
+use fx_base::{List, Position};
 use fx_doc_drafts::Halt;
-use fx_doc_grammar::Position;
 use std::alloc::Global;
 use std::mem;
 
@@ -46,15 +46,15 @@ impl Reader {
         }
     }
 
-    /// Reads this character, which stands at that place; false where no document goes on so.
-    fn step(&mut self, alloc: Global, place: Position, c: char) -> Result<bool, Halt>
-        ensures { Steps (step place (view self.old) c) self.new result }
+    /// Reads this character, which stands at that position; false where no document goes on so.
+    fn step(&mut self, alloc: Global, position: Position, c: char) -> Result<bool, Halt>
+        ensures { Steps (step position (view self.old) c) self.new result }
     {
-        if self.absorb(place, c)? {
+        if self.absorb(position, c)? {
             return Ok(true);
         }
         let mode = mem::replace(&mut self.mode, Mode::Ended);
-        match moved(alloc, &mut self.held, mode, place, c)? {
+        match moved(alloc, &mut self.held, mode, position, c)? {
             Some(mode) => {
                 self.mode = mode;
                 Ok(true)
@@ -63,19 +63,19 @@ impl Reader {
         }
     }
 
-    /// Where the sign begins whose last character stands at that place: a reference at its `&`.
-    fn sign_place(&self, place: Position) -> Position
-        ensures { result ≡ sign_place place (view self.now).mode }
+    /// Where the sign begins whose last character stands at that position: a reference at its `&`.
+    fn sign_position(&self, position: Position) -> Position
+        ensures { result ≡ sign_position position (view self.now).mode }
     {
         match &self.mode {
             Mode::Referring(at, _) => *at,
             Mode::ValueReferring(_, at, _) => *at,
-            _ => place,
+            _ => position,
         }
     }
 
-    /// The place of the element that begins within 128 others.
-    fn deep_place(&self) -> Option<Position>
+    /// The position of the element that begins within 128 others.
+    fn deep_position(&self) -> Option<Position>
         ensures { MatchOption result (is_deep (view self.now) ≡ false) (λ p. IsDeepAt (view self.now) p) }
     {
         match &self.mode {
@@ -91,14 +91,14 @@ impl Reader {
     }
 
     /// One character further, within the limits on depth and length.
-    pub fn next(&mut self, alloc: Global, place: Position, c: char) -> Result<(), DocError>
-        ensures { IsNext (view self.old) place c self.new result }
+    pub fn next(&mut self, alloc: Global, position: Position, c: char) -> Result<(), DocError>
+        ensures { IsNext (view self.old) position c self.new result }
     {
-        let sign = self.sign_place(place);
-        match self.step(alloc, place, c) {
+        let sign = self.sign_position(position);
+        match self.step(alloc, position, c) {
             Ok(true) => self.within_depth(),
-            Ok(false) => Err(DocError::Markup(place.line, place.column)),
-            Err(Halt::Long) => Err(DocError::Long(sign.line, sign.column)),
+            Ok(false) => Err(DocError::Markup(position)),
+            Err(Halt::Long) => Err(DocError::Long(sign)),
             Err(Halt::Memory) => Err(DocError::Memory),
         }
     }
@@ -107,9 +107,9 @@ impl Reader {
     fn within_depth(&self) -> Result<(), DocError>
         ensures { (p sign : Position) → IsStep (Some (view self.now)) p sign self.now result }
     {
-        match self.deep_place() {
+        match self.deep_position() {
             None => Ok(()),
-            Some(deep) => Err(DocError::Depth(deep.line, deep.column)),
+            Some(deep) => Err(DocError::Depth(deep)),
         }
     }
 
@@ -155,18 +155,18 @@ impl Held {
     }
 }
 
-/// What mode a reader is in behind this character, which stands at that place; None where no document goes on so.
+/// What mode a reader is in behind this character, which stands at that position; None where no document goes on so.
 fn moved(
     alloc: Global,
     held: &mut Held,
     mode: Mode,
-    place: Position,
+    position: Position,
     c: char,
 ) -> Result<Option<Mode>, Halt>
-    ensures { Moves (move place (held_view held.old) (mode_view (stack_view held.old.stack.items) mode) c (class_of c)) held.new result }
+    ensures { Moves (move position (held_view held.old) (mode_view (stack_view held.old.stack.items) mode) c (class_of c)) held.new result }
 {
     match mode {
-        Mode::Inside => inside(held, place, c),
+        Mode::Inside => inside(held, position, c),
         Mode::Referring(at, entity) => referring(held, at, entity, c),
         Mode::Opening(at) => opening(alloc, held, at, c),
         Mode::Banged => banged(held, c),
@@ -180,12 +180,12 @@ fn moved(
         Mode::Instructed(name, text) => instructed(held, name, text, c),
         Mode::EndAsked(name, text) => end_asked(alloc, held, name, text, c),
         Mode::Naming(at, name) => naming(alloc, held, at, name, c),
-        Mode::Spaced(head) => spaced(alloc, held, head, place, c),
+        Mode::Spaced(head) => spaced(alloc, held, head, position, c),
         Mode::Tight(head) => tight(alloc, held, head, c),
         Mode::Keyed(head, at, key) => keyed(held, head, at, key, c),
         Mode::KeySpaced(head, at, key) => key_spaced(held, head, at, key, c),
         Mode::Signed(head, at, key) => signed(alloc, held, head, at, key, c),
-        Mode::Quoted(valued) => quoted(alloc, held, valued, place, c),
+        Mode::Quoted(valued) => quoted(alloc, held, valued, position, c),
         Mode::ValueReferring(valued, at, entity) => value_referring(held, valued, at, entity, c),
         Mode::Slashed(head) => slashed(alloc, held, head, c),
         Mode::Ending(at) => ending(alloc, held, at, c),
@@ -200,7 +200,7 @@ fn child_in(piece: Content) -> Option<Element>
 {
     match piece {
         Content::Child(element) => Some(element),
-        Content::Chars(_, _, _) => None,
+        Content::Chars(_, _) => None,
     }
 }
 

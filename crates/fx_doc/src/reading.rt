@@ -9,9 +9,8 @@ ghost use Rattle.fx_doc.specs.declared.document.DocError.TheVariants as fault;
 
 use crate::document::{DocError, Document};
 use crate::modes::{Mode, Reader};
-use fx_base::Text;
+use fx_base::{Position, Text};
 use fx_doc_drafts::{Word, attribute_ahead};
-use fx_doc_grammar::Position;
 use std::alloc::Global;
 use std::mem;
 
@@ -26,15 +25,15 @@ fn first_character(text: &str) -> Option<(char, &str)>
     Some((c, characters.as_str()))
 }
 
-/// The place behind so many characters of one line.
-fn along(place: Position, count: usize) -> Position
-    requires { place.column + count < 2 ^ 32 }
-    ensures line { result.line ≡ place.line }
-    ensures column { result.column ≡ place.column + count }
+/// The position behind so many characters of one line.
+fn along(position: Position, count: usize) -> Position
+    requires { position.column + count < 2 ^ 32 }
+    ensures line { result.line ≡ position.line }
+    ensures column { result.column ≡ position.column + count }
 {
     Position {
-        line: place.line,
-        column: place.column + count as u32,
+        line: position.line,
+        column: position.column + count as u32,
     }
 }
 
@@ -43,10 +42,10 @@ impl Reader {
     fn take_attribute<'a>(
         &mut self,
         alloc: Global,
-        place: Position,
+        position: Position,
         rest: &'a str,
     ) -> Result<&'a str, DocError>
-        ensures took { IfOk result (λ left. TookFlat rest.now place (view self.old) left.now (view self.new)) }
+        ensures took { IfOk result (λ left. TookFlat rest.now position (view self.old) left.now (view self.new)) }
         ensures memory { IfErr result (λ e. e ≡ fault.Memory) }
     {
         let Mode::Spaced(head) = &self.mode else {
@@ -68,7 +67,7 @@ impl Reader {
         let Mode::Spaced(head) = mem::replace(&mut self.mode, Mode::Ended) else {
             unreachable!()
         };
-        let Ok(head) = head.with_attribute(alloc, place, key, value) else {
+        let Ok(head) = head.with_attribute(alloc, position, key, value) else {
             return Err(DocError::Memory);
         };
         self.mode = Mode::Tight(head);
@@ -82,16 +81,16 @@ pub fn read_text(alloc: Global, text: &str) -> Result<Document, DocError>
     ensures { IsRead (chars text.now) result }
 {
     let mut reader = Reader::new(alloc);
-    let mut place = Position::START;
+    let mut position = Position::START;
     let mut rest = text;
     while let Some((c, behind)) = first_character(rest) {
-        reader.next(alloc, place, c)?;
-        place = place.after(c);
-        rest = reader.take_attribute(alloc, place, behind)?;
-        place = along(place, behind.len() - rest.len());
+        reader.next(alloc, position, c)?;
+        position = position.after(c);
+        rest = reader.take_attribute(alloc, position, behind)?;
+        position = along(position, behind.len() - rest.len());
     }
     match reader.into_document() {
         Some(document) => Ok(document),
-        None => Err(DocError::Markup(place.line, place.column)),
+        None => Err(DocError::Markup(position)),
     }
 }

@@ -8,8 +8,9 @@ ghost use Rattle.fx_doc.specs.Views.{bare_head, head_view, stack_view, held_view
 
 use crate::levels::goes;
 use crate::modes::{Head, Held, Mode, Valued};
+use fx_base::Position;
 use fx_doc_drafts::{Draft, Halt, Word};
-use fx_doc_grammar::{Class, Position, Quote};
+use fx_doc_grammar::{Class, Quote};
 use std::alloc::Global;
 
 /// An element begins with this tag.
@@ -24,52 +25,52 @@ fn opens(alloc: Global, held: &mut Held, head: Head) -> Result<Option<Mode>, Hal
 pub fn naming(
     alloc: Global,
     held: &mut Held,
-    place: Position,
+    position: Position,
     name: Word,
     c: char,
 ) -> Result<Option<Mode>, Halt>
-    ensures { Moves (in_naming place (string_bytes name.text) (held_view held.old) c (class_of c)) held.new result }
+    ensures { Moves (in_naming position (string_bytes name.text) (held_view held.old) c (class_of c)) held.new result }
 {
     match Class::of(c) {
-        Class::White => goes(held, Mode::Spaced(Head::bare(alloc, place, name))),
-        Class::Slash => goes(held, Mode::Slashed(Head::bare(alloc, place, name))),
-        Class::Greater => opens(alloc, held, Head::bare(alloc, place, name)),
-        class => longer_name(held, place, name, c, class),
+        Class::White => goes(held, Mode::Spaced(Head::bare(alloc, position, name))),
+        Class::Slash => goes(held, Mode::Slashed(Head::bare(alloc, position, name))),
+        Class::Greater => opens(alloc, held, Head::bare(alloc, position, name)),
+        class => longer_name(held, position, name, c, class),
     }
 }
 
 #[tactic(auto, using(crate::proofs::Defaults::long_name))]
 fn longer_name(
     held: &Held,
-    place: Position,
+    position: Position,
     mut name: Word,
     c: char,
     class: Class,
 ) -> Result<Option<Mode>, Halt>
     requires { class ≡ class_of c }
-    ensures { Moves (some_if (in_name class) (naming_state (held_view held.now) place (string_bytes name.text ++ (c ∷ [])))) held.now result }
+    ensures { Moves (some_if (in_name class) (naming_state (held_view held.now) position (string_bytes name.text ++ (c ∷ [])))) held.now result }
 {
     if !class.is_named() {
         return Ok(None);
     }
     name.push(c)?;
-    goes(held, Mode::Naming(place, name))
+    goes(held, Mode::Naming(position, name))
 }
 
 pub fn spaced(
     alloc: Global,
     held: &mut Held,
     head: Head,
-    place: Position,
+    position: Position,
     c: char,
 ) -> Result<Option<Mode>, Halt>
-    ensures { Moves (in_spaced place (head_view head) (held_view held.old) c (class_of c)) held.new result }
+    ensures { Moves (in_spaced position (head_view head) (held_view held.old) c (class_of c)) held.new result }
 {
     match Class::of(c) {
         Class::White => goes(held, Mode::Spaced(head)),
         Class::Slash => goes(held, Mode::Slashed(head)),
         Class::Greater => opens(alloc, held, head),
-        Class::Letter => goes(held, Mode::Keyed(head, place, Word::of(alloc, c)?)),
+        Class::Letter => goes(held, Mode::Keyed(head, position, Word::of(alloc, c)?)),
         _ => Ok(None),
     }
 }
@@ -90,68 +91,68 @@ pub fn tight(alloc: Global, held: &mut Held, head: Head, c: char) -> Result<Opti
 pub fn keyed(
     held: &Held,
     head: Head,
-    place: Position,
+    position: Position,
     key: Word,
     c: char,
 ) -> Result<Option<Mode>, Halt>
-    ensures { Moves (in_keyed (head_view head) place (string_bytes key.text) (held_view held.now) c (class_of c)) held.now result }
+    ensures { Moves (in_keyed (head_view head) position (string_bytes key.text) (held_view held.now) c (class_of c)) held.now result }
 {
     match Class::of(c) {
-        Class::White => behind_key(held, head, place, key),
-        Class::Equals => behind_sign(held, head, place, key),
-        class => longer_key(held, head, place, key, c, class),
+        Class::White => behind_key(held, head, position, key),
+        Class::Equals => behind_sign(held, head, position, key),
+        class => longer_key(held, head, position, key, c, class),
     }
 }
 
-fn behind_key(held: &Held, head: Head, place: Position, key: Word) -> Result<Option<Mode>, Halt>
-    ensures { Moves (some_if (is_fresh (string_bytes key.text) (head_view head)) (key_spaced_state (held_view held.now) (head_view head) place (string_bytes key.text))) held.now result }
+fn behind_key(held: &Held, head: Head, position: Position, key: Word) -> Result<Option<Mode>, Halt>
+    ensures { Moves (some_if (is_fresh (string_bytes key.text) (head_view head)) (key_spaced_state (held_view held.now) (head_view head) position (string_bytes key.text))) held.now result }
 {
     if !head.is_fresh(&key) {
         return Ok(None);
     }
-    goes(held, Mode::KeySpaced(head, place, key))
+    goes(held, Mode::KeySpaced(head, position, key))
 }
 
-fn behind_sign(held: &Held, head: Head, place: Position, key: Word) -> Result<Option<Mode>, Halt>
-    ensures { Moves (some_if (is_fresh (string_bytes key.text) (head_view head)) (signed_state (held_view held.now) (head_view head) place (string_bytes key.text))) held.now result }
+fn behind_sign(held: &Held, head: Head, position: Position, key: Word) -> Result<Option<Mode>, Halt>
+    ensures { Moves (some_if (is_fresh (string_bytes key.text) (head_view head)) (signed_state (held_view held.now) (head_view head) position (string_bytes key.text))) held.now result }
 {
     if !head.is_fresh(&key) {
         return Ok(None);
     }
-    goes(held, Mode::Signed(head, place, key))
+    goes(held, Mode::Signed(head, position, key))
 }
 
 #[tactic(auto, using(crate::proofs::Defaults::long_name))]
 fn longer_key(
     held: &Held,
     head: Head,
-    place: Position,
+    position: Position,
     mut key: Word,
     c: char,
     class: Class,
 ) -> Result<Option<Mode>, Halt>
     requires { class ≡ class_of c }
-    ensures { Moves (some_if (in_name class) (keyed_state (held_view held.now) (head_view head) place (string_bytes key.text ++ (c ∷ [])))) held.now result }
+    ensures { Moves (some_if (in_name class) (keyed_state (held_view held.now) (head_view head) position (string_bytes key.text ++ (c ∷ [])))) held.now result }
 {
     if !class.is_named() {
         return Ok(None);
     }
     key.push(c)?;
-    goes(held, Mode::Keyed(head, place, key))
+    goes(held, Mode::Keyed(head, position, key))
 }
 
 pub fn key_spaced(
     held: &Held,
     head: Head,
-    place: Position,
+    position: Position,
     key: Word,
     c: char,
 ) -> Result<Option<Mode>, Halt>
-    ensures { Moves (in_key_spaced (head_view head) place (string_bytes key.text) (held_view held.now) (class_of c)) held.now result }
+    ensures { Moves (in_key_spaced (head_view head) position (string_bytes key.text) (held_view held.now) (class_of c)) held.now result }
 {
     match Class::of(c) {
-        Class::White => goes(held, Mode::KeySpaced(head, place, key)),
-        Class::Equals => goes(held, Mode::Signed(head, place, key)),
+        Class::White => goes(held, Mode::KeySpaced(head, position, key)),
+        Class::Equals => goes(held, Mode::Signed(head, position, key)),
         _ => Ok(None),
     }
 }
@@ -160,19 +161,19 @@ pub fn signed(
     alloc: Global,
     held: &Held,
     head: Head,
-    place: Position,
+    position: Position,
     key: Word,
     c: char,
 ) -> Result<Option<Mode>, Halt>
-    ensures { Moves (in_signed (head_view head) place (string_bytes key.text) (held_view held.now) (class_of c)) held.now result }
+    ensures { Moves (in_signed (head_view head) position (string_bytes key.text) (held_view held.now) (class_of c)) held.now result }
 {
     match Class::of(c) {
-        Class::White => goes(held, Mode::Signed(head, place, key)),
+        Class::White => goes(held, Mode::Signed(head, position, key)),
         Class::Quotation => goes(
             held,
             Mode::Quoted(Valued {
                 head,
-                place,
+                position,
                 key,
                 quote: Quote::Double,
                 value: Draft::new(alloc),
@@ -182,7 +183,7 @@ pub fn signed(
             held,
             Mode::Quoted(Valued {
                 head,
-                place,
+                position,
                 key,
                 quote: Quote::Single,
                 value: Draft::new(alloc),

@@ -6,29 +6,20 @@ use std::fmt::Write;
 use std::test::Fail;
 
 fn write_element(out: &mut String, element: &Element) -> Result<(), Fail> {
-    write!(
-        out,
-        "<{}@{}:{}",
-        element.name.as_str(),
-        element.line,
-        element.column
-    )?;
+    let at = element.position;
+    write!(out, "<{}@{}:{}", element.name.as_str(), at.line, at.column)?;
     for attribute in element.attributes.as_slice() {
+        let name = attribute.name.as_str();
         let value = attribute.value.as_str();
-        write!(
-            out,
-            " {}@{}:{}=[{value}]",
-            attribute.name.as_str(),
-            attribute.line,
-            attribute.column
-        )?;
+        let at = attribute.position;
+        write!(out, " {name}@{}:{}=[{value}]", at.line, at.column)?;
     }
     out.push('>')?;
     for piece in &element.content {
         match piece {
             Content::Child(child) => write_element(out, child)?,
-            Content::Chars(text, line, column) => {
-                write!(out, "{{{}}}@{line}:{column}", text.as_str())?;
+            Content::Chars(text, at) => {
+                write!(out, "{{{}}}@{}:{}", text.as_str(), at.line, at.column)?;
             }
         }
     }
@@ -53,9 +44,9 @@ fn answer(alloc: Global, bytes: &[u8]) -> Result<String, Fail> {
     match read_document(alloc, bytes) {
         Ok(document) => outline(alloc, &document),
         Err(DocError::NotUtf8(valid)) => Ok(format!(in alloc; "notutf8 {valid}")?),
-        Err(DocError::Markup(line, column)) => Ok(format!(in alloc; "markup {line}:{column}")?),
-        Err(DocError::Depth(line, column)) => Ok(format!(in alloc; "depth {line}:{column}")?),
-        Err(DocError::Long(line, column)) => Ok(format!(in alloc; "long {line}:{column}")?),
+        Err(DocError::Markup(at)) => Ok(format!(in alloc; "markup {}:{}", at.line, at.column)?),
+        Err(DocError::Depth(at)) => Ok(format!(in alloc; "depth {}:{}", at.line, at.column)?),
+        Err(DocError::Long(at)) => Ok(format!(in alloc; "long {}:{}", at.line, at.column)?),
         Err(DocError::Memory) => Err(DocError::Memory.into()),
     }
 }

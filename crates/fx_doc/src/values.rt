@@ -11,8 +11,9 @@ ghost use Rattle.fx_doc.specs.Views.{head_view, stack_view, held_view, open_name
 use crate::levels::goes;
 use crate::modes::{Head, Held, Mode, Valued};
 use crate::tags::ended;
+use fx_base::Position;
 use fx_doc_drafts::{Halt, Word};
-use fx_doc_grammar::{Class, Entity, Position, Turn};
+use fx_doc_grammar::{Class, Entity, Turn};
 use std::alloc::Global;
 
 #[tactic(auto, using(crate::proofs::Defaults::quoted_rest))]
@@ -20,14 +21,14 @@ pub fn quoted(
     alloc: Global,
     held: &Held,
     valued: Valued,
-    place: Position,
+    position: Position,
     c: char,
 ) -> Result<Option<Mode>, Halt>
-    ensures { Moves (in_quoted place (head_view valued.head) valued.place (string_bytes valued.key.text) valued.quote (string_bytes valued.value.text) valued.value.count (held_view held.now) c (class_of c)) held.now result }
+    ensures { Moves (in_quoted position (head_view valued.head) valued.position (string_bytes valued.key.text) valued.quote (string_bytes valued.value.text) valued.value.count (held_view held.now) c (class_of c)) held.now result }
 {
     match Class::of(c) {
         Class::Less => Ok(None),
-        Class::Ampersand => goes(held, Mode::ValueReferring(valued, place, Entity::Begun)),
+        Class::Ampersand => goes(held, Mode::ValueReferring(valued, position, Entity::Begun)),
         class => in_text(alloc, held, valued, c, class),
     }
 }
@@ -40,7 +41,7 @@ fn in_text(
     c: char,
     class: Class,
 ) -> Result<Option<Mode>, Halt>
-    ensures { Moves (in_value (is_quote valued.quote class) (head_view valued.head) valued.place (string_bytes valued.key.text) valued.quote (string_bytes valued.value.text) valued.value.count (held_view held.now) c class) held.now result }
+    ensures { Moves (in_value (is_quote valued.quote class) (head_view valued.head) valued.position (string_bytes valued.key.text) valued.quote (string_bytes valued.value.text) valued.value.count (held_view held.now) c class) held.now result }
 {
     if class.is_quote(valued.quote) {
         return whole(alloc, held, valued);
@@ -59,22 +60,22 @@ pub fn shown(c: char, class: Class) -> char
 }
 
 fn whole(alloc: Global, held: &Held, valued: Valued) -> Result<Option<Mode>, Halt>
-    ensures { Moves (tight_state (held_view held.now) (with_attribute (head_view valued.head) valued.place (string_bytes valued.key.text) (string_bytes valued.value.text))) held.now result }
+    ensures { Moves (tight_state (held_view held.now) (with_attribute (head_view valued.head) valued.position (string_bytes valued.key.text) (string_bytes valued.value.text))) held.now result }
 {
     let Valued {
         head,
-        place,
+        position,
         key,
         quote: _,
         value,
     } = valued;
-    let head = head.with_attribute(alloc, place, key, value.into_text())?;
+    let head = head.with_attribute(alloc, position, key, value.into_text())?;
     goes(held, Mode::Tight(head))
 }
 
 #[tactic(auto, using(crate::proofs::Defaults::long_value))]
 fn longer(held: &Held, mut valued: Valued, c: char) -> Result<Option<Mode>, Halt>
-    ensures { Moves (quoted_state (held_view held.now) (head_view valued.head) valued.place (string_bytes valued.key.text) valued.quote (string_bytes valued.value.text ++ encode_utf8 c) (valued.value.count + 1)) held.now result }
+    ensures { Moves (quoted_state (held_view held.now) (head_view valued.head) valued.position (string_bytes valued.key.text) valued.quote (string_bytes valued.value.text ++ encode_utf8 c) (valued.value.count + 1)) held.now result }
 {
     valued.value.push(c)?;
     goes(held, Mode::Quoted(valued))
@@ -83,14 +84,14 @@ fn longer(held: &Held, mut valued: Valued, c: char) -> Result<Option<Mode>, Halt
 pub fn value_referring(
     held: &Held,
     valued: Valued,
-    place: Position,
+    position: Position,
     entity: Entity,
     c: char,
 ) -> Result<Option<Mode>, Halt>
-    ensures { Moves (in_value_referring (head_view valued.head) valued.place (string_bytes valued.key.text) valued.quote (string_bytes valued.value.text) valued.value.count place (held_view held.now) (entity_step entity c)) held.now result }
+    ensures { Moves (in_value_referring (head_view valued.head) valued.position (string_bytes valued.key.text) valued.quote (string_bytes valued.value.text) valued.value.count position (held_view held.now) (entity_step entity c)) held.now result }
 {
     match entity.step(c) {
-        Some(Turn::Further(next)) => goes(held, Mode::ValueReferring(valued, place, next)),
+        Some(Turn::Further(next)) => goes(held, Mode::ValueReferring(valued, position, next)),
         Some(Turn::Whole(found)) => longer(held, valued, found),
         None => Ok(None),
     }

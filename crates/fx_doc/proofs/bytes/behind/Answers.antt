@@ -9,20 +9,20 @@ use Rattle.fx_doc_drafts.proofs.Texts.{chars_fewer}
 use Rattle.fx_doc.proofs.Loops.{line_small, column_small}
 use Rattle.fx_doc.proofs.bytes.behind.Goals as goal
 
-pub after-place-requires-clause-line : goal.after-place-requires-clause-line
-after-place-requires-clause-line c =
+pub after-position-requires-clause-line : goal.after-position-requires-clause-line
+after-position-requires-clause-line c =
     let road = YieldsList-from_chars c.args.text.now c.utf8.text cc in
     let t = YieldsList-turn road c.loop-c.yielded _ c.loop-c.yielded_by _ _ c.in-Some.c c.in-Some.is c.next.ensures.steps in
-    line_small (chars c.args.text.now) c.loop-c.yielded c.loop-c.place (length c.args.text.now) t.0 (chars_fewer c.args.text.now c.utf8.text) c.requires c.loop-c.invariant
+    line_small (chars c.args.text.now) c.loop-c.yielded c.loop-c.position (length c.args.text.now) t.0 (chars_fewer c.args.text.now c.utf8.text) c.requires c.loop-c.invariant
 
-pub after-place-requires-clause-column : goal.after-place-requires-clause-column
-after-place-requires-clause-column c =
+pub after-position-requires-clause-column : goal.after-position-requires-clause-column
+after-position-requires-clause-column c =
     let road = YieldsList-from_chars c.args.text.now c.utf8.text cc in
     let t = YieldsList-turn road c.loop-c.yielded _ c.loop-c.yielded_by _ _ c.in-Some.c c.in-Some.is c.next.ensures.steps in
-    column_small (chars c.args.text.now) c.loop-c.yielded c.loop-c.place (length c.args.text.now) t.0 (chars_fewer c.args.text.now c.utf8.text) c.requires c.loop-c.invariant
+    column_small (chars c.args.text.now) c.loop-c.yielded c.loop-c.position (length c.args.text.now) t.0 (chars_fewer c.args.text.now c.utf8.text) c.requires c.loop-c.invariant
 
 pub loop-c-preserved : goal.loop-c-preserved
-loop-c-preserved c = c.after-place.ensures ∙ place_more c.loop-c.yielded c.in-Some.c c.loop-c.place c.loop-c.invariant
+loop-c-preserved c = c.after-position.ensures ∙ place_more c.loop-c.yielded c.in-Some.c c.loop-c.position c.loop-c.invariant
 
 pub returns : goal.returns
 returns c =

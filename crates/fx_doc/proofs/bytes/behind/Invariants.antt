@@ -3,4 +3,4 @@ use Rattle.fx_base.specs.Positions.{start, after_all}
 use Rattle.fx_doc.proofs.bytes.behind.Given as goal
 
 abbrev pub invariant-loop-c : goal.invariant-loop-c
-invariant-loop-c l = l.place ≡ after_all start l.yielded
+invariant-loop-c l = l.position ≡ after_all start l.yielded

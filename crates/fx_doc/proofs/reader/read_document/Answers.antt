@@ -1,6 +1,7 @@
+use Rattle.std.proofs.Common.{Err}
 use Rattle.std.specs.Str.{chars}
-use Rattle.fx_doc.proofs.Answered.{on_bytes, read_by, within_by, exact_by, refused_by, fault_by}
-use Rattle.fx_doc.proofs.JudgementLemmas.{bytes_judged, judged_by}
+use Rattle.fx_doc.specs.declared.document.DocError.TheVariants.{NotUtf8}
+use Rattle.fx_doc.proofs.Answered.{on_bytes, read_by, within_by, exact_by, refused_by, fault_by, judged_by}
 use Rattle.fx_doc.proofs.reader.read_document.Goals as goal
 
 pub returns-in-Ok-clause-read : goal.returns-in-Ok-clause-read
@@ -22,4 +23,4 @@ pub returns-in-Ok-clause-judged : goal.returns-in-Ok-clause-judged
 returns-in-Ok-clause-judged c = judged_by c.args.bytes.now c.read_text.result (on_bytes c.args.bytes.now (chars c.in-Ok.text.now) c.read_text.result c.in-Ok.ensures.text c.in-Ok.ensures.utf8 c.read_text.ensures)
 
 pub returns-in-Err-clause-judged : goal.returns-in-Err-clause-judged
-returns-in-Err-clause-judged c = bytes_judged c.args.bytes.now c.in-Err.valid c.in-Err.ensures.bad.0 c.in-Err.ensures.bad.1
+returns-in-Err-clause-judged c = judged_by c.args.bytes.now (Err (NotUtf8 c.in-Err.valid)) c.in-Err.ensures.bad

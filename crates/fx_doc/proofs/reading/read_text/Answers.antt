@@ -1,40 +1,40 @@
-use Rattle.std.proofs.Common.{length, refl, arith}
+use Rattle.std.proofs.Common.{arith}
 use Rattle.std.specs.Str.{chars}
 use Rattle.fx_doc.specs.Views.{view}
-use Rattle.fx_doc.proofs.Turning.{begins, line_fits, column_fits, one_reached, flat_reached, stops_reached, ends_reached, stopped_reached, root_reached}
+use Rattle.fx_doc.proofs.Turning.{line_fits, column_fits, one_reached, flat_reached, stops_reached, ends_reached, stopped_reached, root_reached}
 use Rattle.fx_doc.proofs.Loops.{passed}
 use Rattle.fx_doc.proofs.reading.read_text.Goals as goal
 
 pub loop-c-preserved : goal.loop-c-preserved
 loop-c-preserved c =
-    flat_reached c.args.text.now c.in-Some.behind.now c.in_ok-rest.rest.now c.after-place.result c.along-place.result c.next.new.self c.take_attribute.new.self
-    (one_reached c.args.text.now c.loop-c.rest.now c.in-Some.behind.now c.loop-c.place c.after-place.result c.loop-c.reader c.next.new.self c.in-Some.c c.loop-c.invariant c.in-Some.ensures.some.0 c.in-Some.ensures.some.1 c.in-Some.ensures.utf8 c.in_ok-next.ensures c.after-place.ensures)
-    c.in_ok-rest.ensures.took c.along-place.ensures.line c.along-place.ensures.column
+    flat_reached c.args.text.now c.in-Some.behind.now c.in_ok-rest.rest.now c.after-position.result c.along-position.result c.next.new.self c.take_attribute.new.self
+    (one_reached c.args.text.now c.loop-c.rest.now c.in-Some.behind.now c.loop-c.position c.after-position.result c.loop-c.reader c.next.new.self c.in-Some.c c.loop-c.invariant c.in-Some.ensures.some.0 c.in-Some.ensures.some.1 c.in-Some.ensures.utf8 c.in_ok-next.ensures c.after-position.ensures)
+    c.in_ok-rest.ensures.took c.along-position.ensures.line c.along-position.ensures.column
 
 pub returns-in_err-next : goal.returns-in_err-next
 returns-in_err-next c = passed (chars c.args.text.now) c.from_residual.result c.in_err-next.field-0.0 c.from_residual.ensures.1
-    (stops_reached c.args.text.now c.loop-c.rest.now c.in-Some.behind.now c.loop-c.place c.loop-c.reader c.next.new.self c.in-Some.c c.in_err-next.field-0.0 c.loop-c.invariant c.in-Some.ensures.some.0 c.in_err-next.ensures)
+    (stops_reached c.args.text.now c.loop-c.rest.now c.in-Some.behind.now c.loop-c.position c.loop-c.reader c.next.new.self c.in-Some.c c.in_err-next.field-0.0 c.loop-c.invariant c.in-Some.ensures.some.0 c.in_err-next.ensures)
 
 pub first_character-requires-text-text : goal.first_character-requires-text-text
 first_character-requires-text-text c = λ _. c.loop-c.invariant.utf8
 
-pub after-place-requires-clause-line : goal.after-place-requires-clause-line
-after-place-requires-clause-line c = omega (arith, line_fits c.args.text.now c.loop-c.rest.now c.loop-c.place (view c.loop-c.reader) c.loop-c.invariant c.requires)
+pub after-position-requires-clause-line : goal.after-position-requires-clause-line
+after-position-requires-clause-line c = omega (arith, line_fits c.args.text.now c.loop-c.rest.now c.loop-c.position (view c.loop-c.reader) c.loop-c.invariant c.requires)
 
-pub after-place-requires-clause-column : goal.after-place-requires-clause-column
-after-place-requires-clause-column c = omega (arith, column_fits c.args.text.now c.loop-c.rest.now c.loop-c.place (view c.loop-c.reader) c.loop-c.invariant c.requires)
+pub after-position-requires-clause-column : goal.after-position-requires-clause-column
+after-position-requires-clause-column c = omega (arith, column_fits c.args.text.now c.loop-c.rest.now c.loop-c.position (view c.loop-c.reader) c.loop-c.invariant c.requires)
 
 pub into_document-requires : goal.into_document-requires
-into_document-requires c = root_reached c.args.text.now c.loop-c.rest.now c.loop-c.place c.loop-c.reader c.loop-c.invariant
+into_document-requires c = root_reached c.args.text.now c.loop-c.rest.now c.loop-c.position c.loop-c.reader c.loop-c.invariant
 
 pub returns-in-Some-into_document : goal.returns-in-Some-into_document
-returns-in-Some-into_document c = ends_reached c.args.text.now c.loop-c.rest.now c.loop-c.place c.loop-c.reader c.in-Some-into_document.document c.loop-c.invariant c.in_default.ensures.none c.in-Some-into_document.ensures
+returns-in-Some-into_document c = ends_reached c.args.text.now c.loop-c.rest.now c.loop-c.position c.loop-c.reader c.in-Some-into_document.document c.loop-c.invariant c.in_default.ensures.none c.in-Some-into_document.ensures
 
 pub returns-in-None : goal.returns-in-None
-returns-in-None c = stopped_reached c.args.text.now c.loop-c.rest.now c.loop-c.place c.loop-c.reader c.loop-c.invariant c.in_default.ensures.none c.in-None.ensures
+returns-in-None c = stopped_reached c.args.text.now c.loop-c.rest.now c.loop-c.position c.loop-c.reader c.loop-c.invariant c.in_default.ensures.none c.in-None.ensures
 
-pub along-place-requires : goal.along-place-requires
-along-place-requires c =
-    let h = column_fits c.args.text.now c.in-Some.behind.now c.after-place.result (view c.next.new.self)
-    (one_reached c.args.text.now c.loop-c.rest.now c.in-Some.behind.now c.loop-c.place c.after-place.result c.loop-c.reader c.next.new.self c.in-Some.c c.loop-c.invariant c.in-Some.ensures.some.0 c.in-Some.ensures.some.1 c.in-Some.ensures.utf8 c.in_ok-next.ensures c.after-place.ensures) c.requires in
+pub along-position-requires : goal.along-position-requires
+along-position-requires c =
+    let h = column_fits c.args.text.now c.in-Some.behind.now c.after-position.result (view c.next.new.self)
+    (one_reached c.args.text.now c.loop-c.rest.now c.in-Some.behind.now c.loop-c.position c.after-position.result c.loop-c.reader c.next.new.self c.in-Some.c c.loop-c.invariant c.in-Some.ensures.some.0 c.in-Some.ensures.some.1 c.in-Some.ensures.utf8 c.in_ok-next.ensures c.after-position.ensures) c.requires in
     omega (arith, h)

@@ -8,7 +8,7 @@ use Rattle.fx_doc.proofs.Stacks.{head_push}
 use Rattle.fx_doc.proofs.modes.Head.with_attribute.Goals as goal
 
 pub returns : goal.returns
-returns c = head_push c.args.self.name c.args.self.attributes.items c.push.new.self.items _ c.args.self.place _ c.in_ok-push.ensures.items (ap (λ y. record { name = y; value = c.args.value; place = c.args.place }) c.into_text-key.ensures)
+returns c = head_push c.args.self.name c.args.self.attributes.items c.push.new.self.items _ c.args.self.position _ c.in_ok-push.ensures.items (ap (λ y. record { name = y; value = c.args.value; position = c.args.position }) c.into_text-key.ensures)
 
 pub invariant_of-result : goal.invariant_of-result
 invariant_of-result c = record {

@@ -1,5 +1,5 @@
 use Rattle.std.proofs.Common.{◌≡◌, ◌∙◌, ap, sym, subst, Some, Err, Option}
-use Rattle.fx_doc_grammar.specs.Machine.{State, step, sign_place}
+use Rattle.fx_doc_grammar.specs.Machine.{State, step, sign_position}
 use Rattle.fx_doc.specs.Views.{view, stepped, Steps}
 use Rattle.fx_doc.specs.Reads.{IsStep}
 use Rattle.fx_doc_drafts.specs.declared.drafts.Halt.{Halt}
@@ -8,11 +8,11 @@ use Rattle.fx_doc.proofs.modes.Reader.next.Goals as goal
 
 pub returns-in-Err-Long : goal.returns-in-Err-Long
 returns-in-Err-Long c =
-    let x = long_of (step c.args.place (view c.args.self.now) c.args.c) (subst (λ (h : Halt). Steps (step c.args.place (view c.args.self.now) c.args.c) c.step.new.self (Err h)) c.in-Err-Long.field-0-is c.in-Err-Long.ensures) in
-    (x.0, x.1, x.2, c.sign_place-sign.ensures)
+    let x = long_of (step c.args.position (view c.args.self.now) c.args.c) (subst (λ (h : Halt). Steps (step c.args.position (view c.args.self.now) c.args.c) c.step.new.self (Err h)) c.in-Err-Long.field-0-is c.in-Err-Long.ensures) in
+    (x.0, x.1, x.2, c.sign_position-sign.ensures)
 
 pub returns-in-Ok-true : goal.returns-in-Ok-true
 returns-in-Ok-true c =
-    let e : Some (view c.step.new.self) ≡ step c.args.place (view c.args.self.now) c.args.c = ap (stepped c.step.new.self) (sym c.in-Ok-true.field-0-test) ∙ c.in-Ok-true.ensures in
-    subst (λ (o : Option State). IsStep o c.args.place (sign_place c.args.place (view c.args.self.now).mode) c.step.new.self c.within_depth.result) e
-    (c.within_depth.ensures c.args.place (sign_place c.args.place (view c.args.self.now).mode))
+    let e : Some (view c.step.new.self) ≡ step c.args.position (view c.args.self.now) c.args.c = ap (stepped c.step.new.self) (sym c.in-Ok-true.field-0-test) ∙ c.in-Ok-true.ensures in
+    subst (λ (o : Option State). IsStep o c.args.position (sign_position c.args.position (view c.args.self.now).mode) c.step.new.self c.within_depth.result) e
+    (c.within_depth.ensures c.args.position (sign_position c.args.position (view c.args.self.now).mode))

@@ -3,10 +3,13 @@
 #![tactic(auto)]
 
 mod declarations;
+mod laws;
+mod same;
 mod selectors;
 mod sheets;
 
 pub use declarations::{Declaration, Declared, Found, FoundValue, Paint};
+pub use laws::sheets_within_limits_are_short;
 pub use selectors::{Combinator, Compound, Selector};
 pub use sheets::{Candidate, Rule, Sheet, SheetAt, SheetOrigin};
 

@@ -1,6 +1,6 @@
 //! A sheet of one rule is copied, and so is a winner.
 use crate::*;
-use fx_base::{Color, List, Place, Sides, Text, Value};
+use fx_base::{Color, List, Place, Position, Same, Sides, Text, Value};
 use std::alloc::Global;
 use std::test::Fail;
 
@@ -36,8 +36,7 @@ fn colored_bar(alloc: Global) -> Result<Sheet, Fail> {
         alloc,
         &[Place {
             file: 0,
-            line: 1,
-            column: 9,
+            position: Position { line: 1, column: 9 },
         }],
     )?;
     Ok(Sheet {
@@ -75,6 +74,7 @@ fn copies_a_sheet(rt: HostRuntime) -> Result<(), Fail> {
         origin: SheetOrigin::Parent(3),
     };
     let copy = sheet.copy(alloc)?;
+    assert!(rt; copy.is_same(&sheet));
     assert_eq!(rt; copy.origin, SheetOrigin::Parent(3));
     assert_eq!(rt; copy.sheet.warnings.as_slice().len(), 1);
     let Some(rule) = copy.sheet.rules.as_slice().first() else {
@@ -105,6 +105,7 @@ fn copies_a_winner(rt: HostRuntime) -> Result<(), Fail> {
         value: FoundValue::Declared(Declared::SidesList(List::from_vec(layers))),
     };
     let copy = found.copy(alloc)?;
+    assert!(rt; copy.is_same(&found));
     assert!(rt; copy.name.equals("-fx-background-insets"));
     let FoundValue::Declared(Declared::SidesList(copied)) = &copy.value else {
         return Err(Fail::from("no layers"));

@@ -1,0 +1,6 @@
+-- the places so far are the same
+use Rattle.std.proofs.Common.{◌≡◌, take}
+use Rattle.fx_css_types.proofs.same.pairs_are_same.Given as goal
+
+abbrev pub invariant-loop-at : goal.invariant-loop-at
+invariant-loop-at l = take l.at l.places ≡ take l.at l.others

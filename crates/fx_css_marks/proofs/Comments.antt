@@ -2,8 +2,9 @@
 -- Below the lemmas on marks.
 use Rattle.std.proofs.Common.{◌≡◌, ℕ, Bool, true, false, ◌&&◌, ◌||◌, List, [], ◌∷◌, ◌++◌, refl, ◌∙◌, ap}
 use lib.Dec.{eqb}
-use Rattle.fx_base.specs.declared.geometry.Place.{Place}
-use Rattle.fx_css_marks.specs.Bytes.{after, after_all, begins_with, has_end}
+use Rattle.fx_base.specs.declared.positions.Position.{Position}
+use Rattle.fx_base.specs.Positions.{after_byte, after_bytes}
+use Rattle.fx_css_marks.specs.Bytes.{begins_with, has_end}
 
 pub or_left : (a b : Bool) → (a || b) ≡ false → a ≡ false
 or_left true b e = e
@@ -63,6 +64,6 @@ safe_more x c e n = record { ends = λ d. more_ends x c d e (and_left (eqb c 42)
 pub star_more : (x : List ℕ) (c : ℕ) → has_end (x ++ (42 ∷ [])) ≡ false → eqb c 47 ≡ false → has_end ((x ++ (42 ∷ [])) ++ (c ∷ [])) ≡ false
 star_more x c e n = more_ends x 42 c e (and_right (eqb 42 42) (eqb c 47) n)
 
-pub after_all-append : (p : Place) (x y : List ℕ) → after_all p (x ++ y) ≡ after_all (after_all p x) y
-after_all-append p [] y = refl
-after_all-append p (c ∷ x) y = after_all-append (after p c) x y
+pub after_bytes-append : (p : Position) (x y : List ℕ) → after_bytes p (x ++ y) ≡ after_bytes (after_bytes p x) y
+after_bytes-append p [] y = refl
+after_bytes-append p (c ∷ x) y = after_bytes-append (after_byte p c) x y

@@ -4,7 +4,8 @@ use Rattle.std.proofs.Common.{◌≡◌, ℕ, zero, suc, ◌+◌, ◌<◌, ◌�
 use Rattle.std.specs.Bool.{if◌then◌else◌}
 use lib.Dec.{eqb}
 use Rattle.memchr.specs.Find.{IsFirstByte, is_byte}
-use Rattle.fx_css_marks.specs.Bytes.{is_quote, begins_with}
+use Rattle.fx_text.specs.Classes.{is_quote}
+use Rattle.fx_css_marks.specs.Bytes.{begins_with}
 use Rattle.fx_css_marks.specs.Lengths.{run_length, is_stop, quoted_length, comment_length, is_bare}
 use Rattle.fx_css_marks.proofs.Comments.{or_left, or_right}
 

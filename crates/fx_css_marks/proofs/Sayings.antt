@@ -5,10 +5,12 @@ use Rattle.std.proofs.lemmas.List.{map-append, length-map}
 use Rattle.std.specs.Bool.{if◌then◌else◌}
 use Rattle.std.specs.List.{list_any}
 use lib.Dec.{eqb}
-use Rattle.fx_base.specs.declared.geometry.Place.{Place}
+use Rattle.fx_base.specs.declared.positions.Position.{Position}
 use Rattle.fx_css_marks.specs.declared.marks.Mark.{Mark}
 use Rattle.fx_css_marks.specs.declared.saying.Said.{Said}
-use Rattle.fx_css_marks.specs.Bytes.{first_place, after, after_all, is_quote, begins_with, has_beginning}
+use Rattle.fx_text.specs.Classes.{is_quote}
+use Rattle.fx_base.specs.Positions.{start, after_byte, after_bytes}
+use Rattle.fx_css_marks.specs.Bytes.{begins_with, has_beginning}
 use Rattle.fx_css_marks.specs.Marks.{mark, space, quoted, Marked, sign, bytes, signs}
 use Rattle.fx_css_marks.specs.Scanning.{scanned}
 use Rattle.fx_css_marks.specs.Scanning as v
@@ -20,21 +22,21 @@ use Rattle.fx_css_marks.proofs.Spans.{bare, run_span, quoted_span, whole_comment
 
 -- bytes and signs of marks
 
-bare_bytes : (p : Place) (x : List ℕ) → bytes (bare p x) ≡ x
+bare_bytes : (p : Position) (x : List ℕ) → bytes (bare p x) ≡ x
 bare_bytes p [] = refl
-bare_bytes p (c ∷ x) = ap (λ y. c ∷ y) (bare_bytes (after p c) x)
+bare_bytes p (c ∷ x) = ap (λ y. c ∷ y) (bare_bytes (after_byte p c) x)
 
-bare_signs : (p : Place) (x : List ℕ) → signs (bare p x) ≡ x
+bare_signs : (p : Position) (x : List ℕ) → signs (bare p x) ≡ x
 bare_signs p [] = refl
-bare_signs p (c ∷ x) = ap (λ y. c ∷ y) (bare_signs (after p c) x)
+bare_signs p (c ∷ x) = ap (λ y. c ∷ y) (bare_signs (after_byte p c) x)
 
-quoted_bytes : (p : Place) (x : List ℕ) → bytes (quoted p x) ≡ x
+quoted_bytes : (p : Position) (x : List ℕ) → bytes (quoted p x) ≡ x
 quoted_bytes p [] = refl
-quoted_bytes p (c ∷ x) = ap (λ y. c ∷ y) (quoted_bytes (after p c) x)
+quoted_bytes p (c ∷ x) = ap (λ y. c ∷ y) (quoted_bytes (after_byte p c) x)
 
-quoted_signs : (p : Place) (x : List ℕ) → signs (quoted p x) ≡ replicate (length x) 255
+quoted_signs : (p : Position) (x : List ℕ) → signs (quoted p x) ≡ replicate (length x) 255
 quoted_signs p [] = refl
-quoted_signs p (c ∷ x) = ap (λ y. 255 ∷ y) (quoted_signs (after p c) x)
+quoted_signs p (c ∷ x) = ap (λ y. 255 ∷ y) (quoted_signs (after_byte p c) x)
 
 -- parts
 
@@ -57,7 +59,7 @@ run_says : (text : List ℕ) → Says text (drop (run_length is_stop text) text)
 run_says text =
     let run : List ℕ = take (run_length is_stop text) text in
     record {
-      behind = λ p. after_all p run;
+      behind = λ p. after_bytes p run;
       front = λ p. bare p run;
       scan = λ p. run_span text p;
       bytes = λ p. bare_bytes p run;
@@ -66,7 +68,7 @@ run_says text =
 
 comment_says : (text : List ℕ) → begins_with 42 text ≡ true → Says (47 ∷ text) (drop (comment_rest text) text) (32 ∷ []) (32 ∷ [])
 comment_says text e = record {
-  behind = λ p. after_all (after p 47) (take (comment_rest text) text);
+  behind = λ p. after_bytes (after_byte p 47) (take (comment_rest text) text);
   front = λ p. space p ∷ [];
   scan = λ p. whole_comment p text e;
   bytes = λ p. refl;
@@ -75,7 +77,7 @@ comment_says text e = record {
 
 alone_says : (c : ℕ) (text : List ℕ) → is_quote c ≡ false → (eqb c 47 && begins_with 42 text) ≡ false → Says (c ∷ text) text (c ∷ []) (c ∷ [])
 alone_says c text q e = record {
-  behind = λ p. after p c;
+  behind = λ p. after_byte p c;
   front = λ p. mark c p true ∷ [];
   scan = λ p. plain_alone p c text (eqb c 47) refl q e;
   bytes = λ p. refl;
@@ -87,11 +89,11 @@ quoted_says : (q : ℕ) (text : List ℕ) → is_quote q ≡ true
 quoted_says q text e =
     let inside : List ℕ = take (quoted_length q text) text in
     record {
-      behind = λ p. after_all (after p q) inside;
-      front = λ p. mark q p false ∷ quoted (after p q) inside;
-      scan = λ p. quote_opens p q text e ∙ ap (λ y. mark q p false ∷ y) (quoted_span q text (after p q));
-      bytes = λ p. ap (λ y. q ∷ y) (quoted_bytes (after p q) inside);
-      signs = λ p. ap (λ y. 255 ∷ y) (quoted_signs (after p q) inside);
+      behind = λ p. after_bytes (after_byte p q) inside;
+      front = λ p. mark q p false ∷ quoted (after_byte p q) inside;
+      scan = λ p. quote_opens p q text e ∙ ap (λ y. mark q p false ∷ y) (quoted_span q text (after_byte p q));
+      bytes = λ p. ap (λ y. q ∷ y) (quoted_bytes (after_byte p q) inside);
+      signs = λ p. ap (λ y. 255 ∷ y) (quoted_signs (after_byte p q) inside);
     }
 
 -- steps of what is said
@@ -144,18 +146,18 @@ took_quoted old middle new q text inside left n is count front back e f g h =
 
 -- the whole text
 
-said_all : (p : Place) (text b s : List ℕ) (ms : List Mark) → Says text [] b s → Marked p text ms → (b ≡ bytes ms) × (s ≡ signs ms)
+said_all : (p : Position) (text b s : List ℕ) (ms : List Mark) → Says text [] b s → Marked p text ms → (b ≡ bytes ms) × (s ≡ signs ms)
 said_all p text b s ms says marked =
     let e : ms ≡ says.front p = only_scanned marked ∙ (says.scan p ∙ append-nil (says.front p)) in
     (sym (ap bytes e ∙ says.bytes p), sym (ap signs e ∙ says.signs p))
 
-pub said_whole : (text rest : List ℕ) (said : Said) → Says text rest said.bytes.items said.signs.items → rest ≡ [] → (p : Place) (ms : List Mark) → Marked p text ms
+pub said_whole : (text rest : List ℕ) (said : Said) → Says text rest said.bytes.items said.signs.items → rest ≡ [] → (p : Position) (ms : List Mark) → Marked p text ms
     → (said.bytes.items ≡ bytes ms) × (said.signs.items ≡ signs ms)
 said_whole text rest said says none p ms marked = said_all p text said.bytes.items said.signs.items ms (subst (λ y. Says text y said.bytes.items said.signs.items) none says) marked
 
 pub said_same : (text rest : List ℕ) (said : Said) → Says text rest said.bytes.items said.signs.items → rest ≡ [] → length said.bytes.items ≡ length said.signs.items
 said_same text rest said says none =
-    let p : Place = first_place 0 in
+    let p : Position = start in
     let parts = said_whole text rest said says none p (scanned v.Plain p text) (marks_scanned p text) in
     ap length parts.0 ∙ (length-map (scanned v.Plain p text) (λ m. m.byte) ∙ (sym (length-map (scanned v.Plain p text) sign) ∙ sym (ap length parts.1)))
 
@@ -172,7 +174,7 @@ bare_says : (text : List ℕ) → is_bare text ≡ true → Says text [] text te
 bare_says [] e = says_none []
 bare_says (c ∷ text) e = bare_by c text (is_quote c || (eqb c 47 && begins_with 42 text)) refl e (λ g. bare_says text g)
 
-pub bare_itself : (text : List ℕ) → is_bare text ≡ true → (p : Place) (ms : List Mark) → Marked p text ms → (bytes ms ≡ text) × (signs ms ≡ text)
+pub bare_itself : (text : List ℕ) → is_bare text ≡ true → (p : Position) (ms : List Mark) → Marked p text ms → (bytes ms ≡ text) × (signs ms ≡ text)
 bare_itself text e p ms marked = let parts = said_all p text text text ms (bare_says text e) marked in (sym parts.0, sym parts.1)
 
 pub nothing_bare : (text : List ℕ) → list_any is_quote text ≡ false → has_beginning text ≡ false → is_bare text ≡ true

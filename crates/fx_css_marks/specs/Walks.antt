@@ -1,10 +1,9 @@
 -- A walk along the marks of a text: what is left of them.
-use Rattle.std.specs.Prelude.{ℕ, Bool, List, Option, Some, None, if◌then◌else◌}
-use lib.Dec.{eqb}
+use Rattle.std.specs.Prelude.{ℕ, Bool, ◌==◌, List, Option, Some, None, if◌then◌else◌}
 use Rattle.fx_css_marks.specs.declared.marks.Mark.{Mark}
 use Rattle.fx_css_marks.specs.declared.walk.Walk.{Walk}
 use Rattle.memchr.specs.Find.{is_byte}
-use Rattle.fx_css_marks.specs.Bytes.{is_quote}
+use Rattle.fx_text.specs.Classes.{is_quote}
 use Rattle.fx_css_marks.specs.Lengths.{is_stop}
 use Rattle.fx_css_marks.specs.Scanning.{Mode, Plain, Quoted, scanned}
 
@@ -15,7 +14,7 @@ mode_of (Some q) = Quoted q
 
 -- the marks of what is left
 abbrev pub left : Walk → List Mark
-left walk = scanned (mode_of walk.quote) walk.place walk.rest.now
+left walk = scanned (mode_of walk.quote) walk.position walk.rest.now
 
 -- what ends a quoted text of this quote, or outside may begin something
 abbrev pub stops : Option ℕ → ℕ → Bool
@@ -24,7 +23,7 @@ stops (Some q) = is_byte q
 
 -- the quote that ends the text behind the byte b of a quoted text
 abbrev pub still_open : ℕ → ℕ → Option ℕ
-still_open q b = if eqb b q then None else Some q
+still_open q b = if b == q then None else Some q
 
 -- and behind a byte outside
 abbrev pub opened : ℕ → Option ℕ

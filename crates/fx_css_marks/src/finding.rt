@@ -2,14 +2,17 @@
 //! What a text says is put together from these parts; a text that is one bare run stands for itself.
 ghost use Rattle.std.specs.Prelude.{◌≡◌, ◌≤◌, ℕ, List, length, drop, false, IsTrue};
 ghost use Rattle.std.specs.List.{list_any};
-ghost use Rattle.fx_base.specs.declared.geometry.Place.{Place};
+ghost use Rattle.fx_base.specs.declared.positions.Position.{Position};
 ghost use Rattle.memchr.specs.Find.{is_byte};
-ghost use Rattle.fx_css_marks.specs.Bytes.{is_quote, has_beginning};
+ghost use Rattle.fx_text.specs.Characters.{asterisk};
+ghost use Rattle.fx_text.specs.Classes.{is_quote};
+ghost use Rattle.fx_css_marks.specs.Bytes.{has_beginning};
 ghost use Rattle.fx_css_marks.specs.declared.marks.Mark.{Mark};
 ghost use Rattle.fx_css_marks.specs.Marks.{Marked, bytes, signs};
 ghost use Rattle.fx_css_marks.specs.Lengths.{run_length, is_stop, quoted_length, comment_length, comment_rest, is_bare};
 
-use crate::marks::{begins_comment, ends_comment, is_quote};
+use crate::marks::{begins_comment, ends_comment};
+use fx_text::is_quote;
 use memchr::{memchr, memchr3};
 
 /// The bytes before the first quote or `/`.
@@ -62,7 +65,7 @@ fn comment_length(text: &[u8]) -> usize
 
 /// The text from its first `*` on.
 fn from_star(text: &[u8]) -> &[u8]
-    ensures from { result.now ≡ drop (run_length (is_byte 42) text.now) text.now }
+    ensures from { result.now ≡ drop (run_length (is_byte asterisk) text.now) text.now }
     ensures within { length result.now ≤ length text.now }
 {
     let (_, from) = text.split_at(length_before(b'*', text));
@@ -91,7 +94,8 @@ fn from_stop(text: &[u8]) -> &[u8]
 
 /// Whether the text stands for itself: nothing in it is quoted, and no comment begins.
 pub fn is_bare(text: &[u8]) -> bool
-    ensures bare { IsTrue result → (p : Place) (ms : List Mark) → Marked p text.now ms → (bytes ms ≡ text.now) × (signs ms ≡ text.now) }
+    ensures bare { IsTrue result → (p : Position) (ms : List Mark) → Marked p text.now ms
+        → (bytes ms ≡ text.now) × (signs ms ≡ text.now) }
     ensures only { list_any is_quote text.now ≡ false → has_beginning text.now ≡ false → IsTrue result }
 {
     holds_nothing(text)

@@ -1,18 +1,20 @@
-//! What a text says, put together by runs: bare runs as they are, a space for each comment, and quoted texts that mean nothing.
+//! What a text says, put together by runs: bare runs as they are, a space for each comment, and quoted texts that mean
+//! nothing.
 //! Rules and declarations are cut by the signs and read from the bytes.
 ghost use Rattle.std.specs.Prelude.{◌≡◌, ◌≤◌, ◌++◌, ◌∷◌, ℕ, List, [], true, length, replicate, IfOk, OnOk};
-ghost use Rattle.fx_base.specs.declared.geometry.Place.{Place};
+ghost use Rattle.fx_base.specs.declared.positions.Position.{Position};
 ghost use Rattle.fx_css_marks.specs.declared.marks.Mark.{Mark};
-ghost use Rattle.fx_css_marks.specs.Bytes.{is_quote};
+ghost use Rattle.fx_text.specs.Classes.{is_quote};
 ghost use Rattle.fx_css_marks.specs.Marks.{Marked, bytes, signs};
 ghost use Rattle.fx_css_marks.specs.Saying.{Took};
 
 use crate::finding::{bare_length, comment_rest, quoted_length};
-use crate::marks::{begins_comment, is_quote};
+use crate::marks::begins_comment;
+use fx_text::is_quote;
 use std::alloc::{AllocError, Global};
 
-/// What a text says, if it isn't the text itself: its bytes, where each comment is one space, and beside them what each means
-/// to the cutting: itself, or nothing (255) where it is quoted.
+/// What a text says, if it isn't the text itself: its bytes, where each comment is one space, and beside them what each
+/// means to the cutting: itself, or nothing (255) where it is quoted.
 #[derive(Drop)]
 pub struct Said {
     pub bytes: Vec<u8>,
@@ -98,7 +100,8 @@ fn put_nothing(signs: &mut Vec<u8>, text: &[u8]) -> Result<(), AllocError>
 
 /// What a text says, and what that means to the cutting.
 pub fn spoken(alloc: Global, text: &[u8]) -> Result<Said, AllocError>
-    ensures said { IfOk result (λ s. (p : Place) (ms : List Mark) → Marked p text.now ms → (s.bytes.items ≡ bytes ms) × (s.signs.items ≡ signs ms)) }
+    ensures said { IfOk result (λ s. (p : Position) (ms : List Mark) → Marked p text.now ms
+        → (s.bytes.items ≡ bytes ms) × (s.signs.items ≡ signs ms)) }
     ensures same { IfOk result (λ s. length s.bytes.items ≡ length s.signs.items) }
 {
     let mut said = Said::with_room(alloc, text.len())?;

@@ -1,7 +1,7 @@
 //! Texts with comments and quotes: what they say, what that means to the cutting, and where it stands.
 //! The expected values are counted by hand.
-use crate::{is_bare, place, places, spoken};
-use fx_base::Place;
+use crate::{is_bare, places, position, spoken};
+use fx_base::Position;
 use std::alloc::{AllocError, Global};
 use std::test::Fail;
 
@@ -89,9 +89,9 @@ fn told(alloc: Global, text: &str, numbers: &[usize]) -> Result<String, AllocErr
     }
     let found = places(alloc, text.as_bytes(), 7, numbers)?;
     for (number, at) in numbers.iter().zip(found.as_slice()) {
-        let alone = place(text.as_bytes(), 7, *number);
-        let Place { file, line, column } = *at;
-        let piece = if alone == *at && file == 7 {
+        let alone = position(text.as_bytes(), *number);
+        let Position { line, column } = at.position;
+        let piece = if alone == at.position && at.file == 7 {
             format!(in alloc; "{line}:{column} ")?
         } else {
             String::from_str(alloc, "? ")?

@@ -1,29 +1,31 @@
-//! Places of marks, by their numbers: a walk along the text works out line and column, and nothing is kept of it.
+//! Positions of marks, by their numbers: a walk along the text works out line and column, and nothing is kept of it.
 //! Only what is told to the user has a place.
 ghost use Rattle.std.specs.Prelude.{◌≡◌, ◌≤◌, ◌+◌, List, [], ◌∷◌, true, length, map, take, drop, IfOk, IfSome, IfNone};
-ghost use Rattle.fx_base.specs.declared.geometry.Place.{Place};
+ghost use Rattle.fx_text.specs.Characters.{asterisk, slash};
+ghost use Rattle.fx_base.specs.Positions.{start};
 ghost use Rattle.fx_css_marks.specs.declared.marks.Mark.{Mark};
-ghost use Rattle.fx_css_marks.specs.Bytes.{first_place, is_quote, begins_with};
+ghost use Rattle.fx_css_marks.specs.Bytes.{begins_with};
 ghost use Rattle.fx_css_marks.specs.Lengths.{run_length};
-ghost use Rattle.fx_css_marks.specs.Marks.{Marked, place_of};
+ghost use Rattle.fx_css_marks.specs.Marks.{Marked, position_of, place_of};
 ghost use Rattle.fx_css_marks.specs.Scanning.{Plain, Quoted, scanned};
 ghost use Rattle.fx_css_marks.specs.Walks.{left, stops, still_open, opened};
 
 use crate::finding::{bare_length, comment_rest, length_before};
-use crate::marks::{Mark, after, after_all, begins_comment, first_place, is_quote};
+use crate::marks::{Mark, begins_comment};
 use crate::walk::Walk;
-use fx_base::Place;
+use fx_base::{Place, Position};
+use fx_text::is_quote;
 use std::alloc::{AllocError, Global};
 
 impl<'a> Walk<'a> {
-    /// From the beginning of a text in this file.
-    fn along(text: &'a [u8], file: u32) -> Walk<'a>
+    /// From the beginning of a text.
+    fn along(text: &'a [u8]) -> Walk<'a>
         requires { length text.now ≤ 4194304 }
-        ensures { left result ≡ scanned Plain (first_place file) text.now }
+        ensures { left result ≡ scanned Plain start text.now }
     {
         Walk {
             rest: text,
-            place: first_place(file),
+            position: Position::START,
             quote: None,
         }
     }
@@ -35,12 +37,12 @@ impl<'a> Walk<'a> {
     {
         let (first, behind) = self.rest.split_first()?;
         Some(match self.quote {
-            Some(quote) => next_quoted(quote, self.place, *first, behind),
-            None => next_bare(self.place, *first, behind),
+            Some(quote) => next_quoted(quote, self.position, *first, behind),
+            None => next_bare(self.position, *first, behind),
         })
     }
 
-    /// The walk behind the bytes in front that begin and end nothing, or behind so many of them, and how many these are.
+    /// The walk behind the bytes in front that begin and end nothing, or behind so many of them, and their number.
     fn pass_run(self, most: usize) -> (Walk<'a>, usize)
         ensures passed { left result.0 ≡ drop result.1 (left self.entry) }
         ensures within { result.1 ≤ most }
@@ -49,7 +51,7 @@ impl<'a> Walk<'a> {
         let (run, rest) = self.rest.split_at(count);
         let walk = Walk {
             rest,
-            place: after_all(self.place, run),
+            position: self.position.after_bytes(run),
             quote: self.quote,
         };
         (walk, count)
@@ -83,13 +85,13 @@ impl<'a> Walk<'a> {
         }
     }
 
-    /// The place of the next mark, or else the first place of the file.
-    fn here(self, file: u32) -> Place
-        ensures { result ≡ place_of file (left self.entry) 0 }
+    /// The position of the next mark, or else the first of the text.
+    fn here(self) -> Position
+        ensures { result ≡ position_of (left self.entry) 0 }
     {
         match self.next() {
-            Some((mark, _)) => mark.place,
-            None => first_place(file),
+            Some((mark, _)) => mark.position,
+            None => Position::START,
         }
     }
 }
@@ -112,19 +114,19 @@ fn calm_length(quote: Option<u8>, text: &[u8]) -> usize
 }
 
 /// The mark of this byte in a quoted text that ends at the quote, and the walk behind it.
-fn next_quoted<'a>(quote: u8, place: Place, first: u8, behind: &'a [u8]) -> (Mark, Walk<'a>)
-    requires line { place.line + length behind.now ≤ 4194304 }
-    requires column { place.column + length behind.now ≤ 4194304 }
-    ensures { scanned (Quoted quote) place (first ∷ behind.now) ≡ result.0 ∷ left result.1 }
+fn next_quoted<'a>(quote: u8, position: Position, first: u8, behind: &'a [u8]) -> (Mark, Walk<'a>)
+    requires line { position.line + length behind.now ≤ 4194304 }
+    requires column { position.column + length behind.now ≤ 4194304 }
+    ensures { scanned (Quoted quote) position (first ∷ behind.now) ≡ result.0 ∷ left result.1 }
 {
     let mark = Mark {
         byte: first,
-        place,
+        position,
         plain: false,
     };
     let walk = Walk {
         rest: behind,
-        place: after(place, first),
+        position: position.after_byte(first),
         quote: still_open(quote, first),
     };
     (mark, walk)
@@ -145,57 +147,57 @@ fn opened(byte: u8) -> Option<u8>
 }
 
 /// The mark of what begins with this byte, and the walk behind it.
-fn next_bare<'a>(place: Place, first: u8, behind: &'a [u8]) -> (Mark, Walk<'a>)
-    requires line { place.line + length behind.now ≤ 4194304 }
-    requires column { place.column + length behind.now ≤ 4194304 }
-    ensures { scanned Plain place (first ∷ behind.now) ≡ result.0 ∷ left result.1 }
+fn next_bare<'a>(position: Position, first: u8, behind: &'a [u8]) -> (Mark, Walk<'a>)
+    requires line { position.line + length behind.now ≤ 4194304 }
+    requires column { position.column + length behind.now ≤ 4194304 }
+    ensures { scanned Plain position (first ∷ behind.now) ≡ result.0 ∷ left result.1 }
 {
     if begins_comment(first, behind) {
-        return next_comment(place, behind);
+        return next_comment(position, behind);
     }
     let mark = Mark {
         byte: first,
-        place,
+        position,
         plain: !is_quote(first),
     };
     let walk = Walk {
         rest: behind,
-        place: after(place, first),
+        position: position.after_byte(first),
         quote: opened(first),
     };
     (mark, walk)
 }
 
 /// The mark of a comment, which the text goes on with behind its `/`, and the walk behind it.
-fn next_comment<'a>(place: Place, text: &'a [u8]) -> (Mark, Walk<'a>)
-    requires line { place.line + length text.now ≤ 4194304 }
-    requires column { place.column + length text.now ≤ 4194304 }
-    requires begins { begins_with 42 text.now ≡ true }
-    ensures { scanned Plain place (47 ∷ text.now) ≡ result.0 ∷ left result.1 }
+fn next_comment<'a>(position: Position, text: &'a [u8]) -> (Mark, Walk<'a>)
+    requires line { position.line + length text.now ≤ 4194304 }
+    requires column { position.column + length text.now ≤ 4194304 }
+    requires begins { begins_with asterisk text.now ≡ true }
+    ensures { scanned Plain position (slash ∷ text.now) ≡ result.0 ∷ left result.1 }
 {
     let (comment, rest) = text.split_at(comment_rest(text));
     let mark = Mark {
         byte: b' ',
-        place,
+        position,
         plain: true,
     };
     let walk = Walk {
         rest,
-        place: after_all(after(place, b'/'), comment),
+        position: position.after_byte(b'/').after_bytes(comment),
         quote: None,
     };
     (mark, walk)
 }
 
-/// The place of the mark with this number, or else the first place of the file.
-pub fn place(text: &[u8], file: u32, number: usize) -> Place
+/// The position of the mark with this number, or else the first of the text.
+pub fn position(text: &[u8], number: usize) -> Position
     requires { length text.now ≤ 4194304 }
-    ensures { (ms : List Mark) → Marked (first_place file) text.now ms → result ≡ place_of file ms number }
+    ensures { (ms : List Mark) → Marked start text.now ms → result ≡ position_of ms number }
 {
-    Walk::along(text, file).pass(number).here(file)
+    Walk::along(text).pass(number).here()
 }
 
-/// The places of the marks with these numbers. Numbers that rise cost one walk.
+/// The places in a file of the marks with these numbers. Numbers that rise cost one walk.
 pub fn places(
     alloc: Global,
     text: &[u8],
@@ -203,16 +205,20 @@ pub fn places(
     numbers: &[usize],
 ) -> Result<Vec<Place>, AllocError>
     requires { length text.now ≤ 4194304 }
-    ensures { IfOk result (λ ps. (ms : List Mark) → Marked (first_place file) text.now ms → ps.items ≡ map (place_of file ms) numbers.now) }
+    ensures { IfOk result (λ ps. (ms : List Mark) → Marked start text.now ms
+        → ps.items ≡ map (place_of file ms) numbers.now) }
 {
     let mut places = Vec::with_capacity(alloc, numbers.len())?;
-    let start = Walk::along(text, file);
+    let start = Walk::along(text);
     let mut walk = start;
     let mut passed = 0;
     for number in numbers {
         walk = walk.to(start, passed, *number);
         passed = *number;
-        places.push(walk.here(file))?;
+        places.push(Place {
+            file,
+            position: walk.here(),
+        })?;
     }
     Ok(places)
 }

@@ -13,10 +13,9 @@ use Rattle.fx_base.specs.declared.kinds.Family.TheVariants.{Pos}
 use Rattle.fx_base.specs.declared.values.Value.TheVariants as value
 use Rattle.fx_look.specs.declared.styles.StyleForm.{StyleForm}
 use Rattle.fx_look.specs.declared.styles.StyleForm.TheVariants as form
-use Rattle.fx_look.specs.Colors.{color_at, is_white}
+use Rattle.fx_look.specs.Colors.{color_at}
 use Rattle.fx_look.specs.Numbers.{IsSize, size_at}
-use Rattle.fx_look.specs.Decimals.{front, behind}
-use Rattle.fx_look.proofs.FrontLemmas.{bytes_tell, front_and_behind, front-stop, behind-stop, behind_stops, then_gives, map_gives}
+use Rattle.fx_text.proofs.FrontLemmas.{bytes_tell, front_and_behind, front-stop, behind-stop, behind_stops, then_gives, map_gives}
 use Rattle.fx_look.proofs.ColorLemmas.{color_sound, color_complete}
 use Rattle.fx_look.proofs.NumberLemmas.{size_sound, size_complete}
 use Rattle.fx_look.proofs.InsetLemmas.{sides_sound, sides_complete, sizes_read}
@@ -25,13 +24,17 @@ use Rattle.fx_css_types.specs.declared.declarations.Paint.TheVariants as paint
 use Rattle.fx_css_types.specs.declared.declarations.Declared.{Declared}
 use Rattle.fx_css_types.specs.declared.declarations.Declared.TheVariants as declared
 use Rattle.fx_css_types.specs.declared.declarations.Declaration.{Declaration}
-use Rattle.fx_css_parts.specs.Texts.{is_later, is_ident, stops, trimmed, IsTrimmed}
+use Rattle.fx_css_parts.specs.Texts.{is_later, is_ident}
 use Rattle.fx_css_parts.specs.Layers.{separated_at}
-use Rattle.fx_css_parts.specs.Declaring.{IsPaint, color, named, AreSides, positions, IsStyled, insets, constant, size, yes, no, visible, hidden, collapse, painted, painted_layers, inset_layers, IsDeclared, inherited, styled, other, form_of, IsDeclaration, named_at, paint_at, insets_at, position_at, truth_at, visibility_at, styled_at, declared_at, declaration, with_value, not_colon, declaration_in}
-use Rattle.fx_css_parts.proofs.TrimLemmas.{trimmed_sound, trimmed_complete}
+use Rattle.fx_css_parts.specs.Declaring.{IsPaint, color, named, AreSides, positions, IsStyled, insets, constant, size, yes, no, visible, hidden, collapse, painted, painted_layers, inset_layers, IsDeclared, inherited, styled, other, IsDeclaration, named_at, paint_at, insets_at, position_at, truth_at, visibility_at, styled_at, declared_at, declaration, with_value, not_colon, declaration_in}
+use Rattle.fx_text.proofs.TrimLemmas.{trimmed_sound, trimmed_complete}
 use Rattle.fx_css_parts.proofs.SelectorLemmas.{not_not}
 use Rattle.fx_css_parts.proofs.SeparatedLaws.{IsReading, between_read, between_sound, separated_read}
 use Rattle.fx_css_parts.proofs.SelectorLaws.{ident_later, all_more, all_append}
+use Rattle.fx_text.specs.Classes.{is_white}
+use Rattle.fx_text.specs.Fronts.{front, behind, stops}
+use Rattle.fx_text.specs.Trimming.{trimmed, IsTrimmed}
+use Rattle.fx_css_types.specs.Limits.{form_of}
 
 -- paints and sides
 

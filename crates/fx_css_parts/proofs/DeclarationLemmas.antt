@@ -2,13 +2,15 @@
 use Rattle.std.proofs.Common.{◌≡◌, ℕ, ◌+◌, cond, List, ◌∷◌, length, Option, Some, None, sym, ap, ◌∙◌}
 use Rattle.std.specs.Option.{option_map}
 use Rattle.fx_css_types.specs.declared.declarations.Declared.{Declared}
-use Rattle.fx_look.specs.Decimals.{front, behind}
-use Rattle.fx_look.proofs.FrontLemmas.{then_gives}
+use Rattle.fx_text.proofs.FrontLemmas.{then_gives}
 use Rattle.fx_css_parts.specs.declared.ReadDeclaration.{ReadDeclaration}
-use Rattle.fx_css_parts.specs.Texts.{is_ident, ident_at, trimmed}
-use Rattle.fx_css_parts.specs.Declaring.{form_of, declared_at, declaration, with_value, not_colon}
+use Rattle.fx_css_parts.specs.Texts.{is_ident, ident_at}
+use Rattle.fx_css_parts.specs.Declaring.{declared_at, declaration, with_value, not_colon}
 use Rattle.fx_css_parts.specs.Limits.{past_in_value, past_behind}
 use Rattle.fx_css_parts.specs.Parts.{declaration_at}
+use Rattle.fx_text.specs.Fronts.{front, behind}
+use Rattle.fx_text.specs.Trimming.{trimmed}
+use Rattle.fx_css_types.specs.Limits.{form_of}
 
 abbrev read_of : List ℕ → List ℕ → Option ReadDeclaration
 read_of before after = option_map (λ d. record { declaration = d; past = past_behind (form_of (trimmed before)) (length before) after }) (with_value (trimmed before) after)

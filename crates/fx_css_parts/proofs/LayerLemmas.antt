@@ -3,9 +3,9 @@ use Rattle.std.proofs.Common.{◌≡◌, ℕ, zero, suc, ◌+◌, ◌<◌, ◌�
 use Rattle.std.specs.List.{prefix_len}
 use Rattle.std.specs.Option.{option_and_then, option_map}
 use Rattle.std.proofs.lemmas.Bool.Decides.{nat_tests}
-use Rattle.fx_css_parts.specs.Texts.{trimmed}
 use Rattle.fx_css_parts.specs.Layers.{depth_behind, separates, part_length, first_part, behind_comma, behind_part, onto_first, parts, each_at, separated_at, left_at}
 use Rattle.fx_css_parts.specs.Drafts.{is_flat}
+use Rattle.fx_text.specs.Trimming.{trimmed}
 
 abbrev pub parts_left : Option (List ℕ) → List (List ℕ)
 parts_left None = []

@@ -1,4 +1,3 @@
-pub mod TrimLemmas
 pub mod IdentLemmas
 pub mod LayerLemmas
 pub mod SelectorLemmas
@@ -8,3 +7,4 @@ pub mod SelectorLaws
 pub mod DeclarationLaws
 pub mod PastSelectorLaws
 pub mod PastLayerLaws
+pub mod Bounds

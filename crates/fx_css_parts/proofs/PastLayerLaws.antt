@@ -7,20 +7,22 @@ use Rattle.std.proofs.lemmas.Bool.{and_parts}
 use Rattle.std.proofs.lemmas.Bool.Decides.{nat_tests}
 use Rattle.fx_base.specs.declared.geometry.Sides.{Sides as Insets}
 use Rattle.fx_look.specs.declared.styles.StyleForm.{StyleForm}
-use Rattle.fx_look.specs.Colors.{is_white}
-use Rattle.fx_look.specs.Decimals.{front, behind}
 use Rattle.fx_look.specs.ColorNames.{names}
 use Rattle.fx_look.specs.Insets.{four}
-use Rattle.fx_look.proofs.FrontLemmas.{then_gives, map_gives}
+use Rattle.fx_text.proofs.FrontLemmas.{then_gives, map_gives}
 use Rattle.fx_css_types.specs.declared.declarations.Paint.{Paint}
 use Rattle.fx_css_types.specs.declared.declarations.Declared.{Declared}
 use Rattle.fx_css_types.specs.declared.declarations.Declaration.{Declaration}
-use Rattle.fx_css_parts.specs.Texts.{is_ident, trim_back, trimmed, IsBetweenWhite}
+use Rattle.fx_css_parts.specs.Texts.{is_ident, IsBetweenWhite}
 use Rattle.fx_css_parts.specs.Layers.{depth_behind, depth_after, separates, is_one, Separated, last, more}
-use Rattle.fx_css_parts.specs.Declaring.{IsPaint, AreSides, IsStyled, insets, constant, size, yes, no, visible, hidden, collapse, painted, painted_layers, inset_layers, IsDeclared, inherited, styled, other, form_of, declared_at, declaration, with_value, not_colon, declaration_in}
-use Rattle.fx_css_parts.specs.Limits.{layer_starts, is_layered, has_layers, past_in_value, past_behind, past_in_declaration, layer_count}
-use Rattle.fx_css_parts.proofs.TrimLemmas.{trimmed_sound, trimmed_complete, front_all}
+use Rattle.fx_css_parts.specs.Declaring.{IsPaint, AreSides, IsStyled, insets, constant, size, yes, no, visible, hidden, collapse, painted, painted_layers, inset_layers, IsDeclared, inherited, styled, other, declared_at, declaration, with_value, not_colon, declaration_in}
+use Rattle.fx_css_parts.specs.Limits.{layer_starts, is_layered, has_layers, past_in_value, past_behind, past_in_declaration}
+use Rattle.fx_text.proofs.TrimLemmas.{trimmed_sound, trimmed_complete, front_all}
 use Rattle.fx_css_parts.proofs.DeclarationLaws.{paints_read, insets_read, values_read}
+use Rattle.fx_text.specs.Classes.{is_white}
+use Rattle.fx_text.specs.Fronts.{front, behind}
+use Rattle.fx_text.specs.Trimming.{trim_back, trimmed}
+use Rattle.fx_css_types.specs.Limits.{form_of, layer_count}
 
 -- how many layers begin
 layers : Bool → ℕ → List ℕ → ℕ

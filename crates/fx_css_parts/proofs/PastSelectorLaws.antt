@@ -9,13 +9,14 @@ use Rattle.std.proofs.lemmas.List.Elements.{All-nil, All-cons, All-head, All-tai
 use Rattle.fx_css_types.specs.declared.selectors.Combinator.{Combinator}
 use Rattle.fx_css_types.specs.declared.selectors.Compound.{Compound}
 use Rattle.fx_css_types.specs.declared.selectors.Selector.{Selector}
-use Rattle.fx_look.specs.Colors.{is_white}
 use Rattle.fx_css_parts.specs.Texts.{is_later, is_ident, IsBetweenWhite}
 use Rattle.fx_css_parts.specs.Layers.{Separated, last, more}
 use Rattle.fx_css_parts.specs.Selecting.{is_sign, Part, is_part, parts_text, IsKind, unsaid, any, type, IsCompound, AreLinked, end, link, IsSelector, selectors_in, is_gap, not_gap}
-use Rattle.fx_css_parts.specs.Limits.{Start, starts, is_past, past_in_selectors, AreFew}
+use Rattle.fx_css_parts.specs.Limits.{Start, starts, is_past, past_in_selectors}
 use Rattle.fx_css_parts.specs.Drafts.{is_short, are_few}
 use Rattle.fx_css_parts.proofs.SelectorLaws.{selectors_read, ident_later, all_more, all_append, white_gap, combinator_gap, combinator_some}
+use Rattle.fx_text.specs.Classes.{is_white}
+use Rattle.fx_css_types.specs.Limits.{AreFew}
 
 -- no compound of a text that is read so is past a limit
 Clear : Bool → ℕ → ℕ → List ℕ → Type 0

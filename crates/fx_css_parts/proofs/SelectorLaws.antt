@@ -5,19 +5,19 @@ use Rattle.std.specs.Option.{option_and_then, option_map}
 use Rattle.std.specs.Cmp.Derive.{both_true}
 use Rattle.std.proofs.lemmas.Bool.{and_parts}
 use Rattle.std.proofs.lemmas.Bool.Decides.{nat_tests}
-use Rattle.fx_text.specs.Classes.{is_letter}
+use Rattle.fx_text.specs.Classes.{is_letter, is_white}
 use Rattle.fx_css_types.specs.declared.selectors.Combinator.{Combinator}
 use Rattle.fx_css_types.specs.declared.selectors.Combinator.TheVariants.{Descendant, Child}
 use Rattle.fx_css_types.specs.declared.selectors.Compound.{Compound}
 use Rattle.fx_css_types.specs.declared.selectors.Selector.{Selector}
-use Rattle.fx_look.specs.Colors.{is_white}
-use Rattle.fx_look.specs.Decimals.{front, behind}
-use Rattle.fx_look.proofs.FrontLemmas.{front_and_behind, front-stop, behind-stop, behind_stops, then_gives, map_gives, bind_gives}
-use Rattle.fx_css_parts.specs.Texts.{is_later, is_word, behind_dash, is_ident, stops, trim_front}
+use Rattle.fx_text.proofs.FrontLemmas.{front_and_behind, front-stop, behind-stop, behind_stops, then_gives, map_gives, bind_gives}
+use Rattle.fx_css_parts.specs.Texts.{is_later, is_word, behind_dash, is_ident}
 use Rattle.fx_css_parts.specs.Selecting.{is_sign, Part, is_part, parts_text, compound, IsKind, unsaid, any, type, IsCompound, IsCombinator, white, child, AreLinked, end, link, selector, IsSelector, IsSelectors, not_sign, parts_at, is_any, kind_at, with_parts, compound_at, is_gap, not_gap, behind_sign, combinator_at, Link, links_at, link_at, linked_at, selector_at, selectors_in}
-use Rattle.fx_css_parts.proofs.TrimLemmas.{front_skip, front_all, front_cut}
+use Rattle.fx_text.proofs.TrimLemmas.{front_skip, front_all, front_cut}
 use Rattle.fx_css_parts.proofs.SelectorLemmas.{behind_on, behind_here, parts_skip, parts_first, not_not, links_skip, links_first, linked_first}
 use Rattle.fx_css_parts.proofs.SeparatedLaws.{IsReading, separated_read}
+use Rattle.fx_text.specs.Fronts.{front, behind, stops}
+use Rattle.fx_text.specs.Trimming.{trim_front}
 
 -- the characters of identifiers
 

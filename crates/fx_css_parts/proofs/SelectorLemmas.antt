@@ -6,12 +6,12 @@ use Rattle.std.proofs.lemmas.Bool.{and_from}
 use Rattle.std.proofs.lemmas.Bool.Decides.{nat_tests}
 use Rattle.fx_css_types.specs.declared.selectors.Combinator.{Combinator}
 use Rattle.fx_css_types.specs.declared.selectors.Compound.{Compound}
-use Rattle.fx_look.specs.Decimals.{front, behind}
-use Rattle.fx_look.proofs.FrontLemmas.{behind_stops, then_gives}
-use Rattle.fx_css_parts.specs.Texts.{stops, is_ident, ident_at}
+use Rattle.fx_text.proofs.FrontLemmas.{behind_stops, then_gives}
+use Rattle.fx_css_parts.specs.Texts.{is_ident, ident_at}
 use Rattle.fx_css_parts.specs.Selecting.{Part, is_sign, is_part, not_sign, parts_at, names_behind, compound, with_parts, kind_at, is_gap, not_gap, links_at, link_at, linked_at, combinator_at, compound_at, selector, selector_at}
 use Rattle.fx_css_parts.specs.declared.compounds.Names.{Names}
 use Rattle.fx_css_parts.specs.Drafts.{NameLists, name_lists, no_names, with_names, names_of}
+use Rattle.fx_text.specs.Fronts.{front, behind, stops}
 
 -- fronts
 

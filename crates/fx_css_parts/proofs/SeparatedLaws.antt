@@ -3,11 +3,12 @@ use Rattle.std.proofs.Common.{◌≡◌, ℕ, suc, Bool, true, false, cond, not,
 use Rattle.std.specs.Option.{option_and_then, option_map}
 use Rattle.std.proofs.lemmas.Bool.{and_parts}
 use Rattle.std.proofs.lemmas.Bool.Decides.{nat_tests}
-use Rattle.fx_look.proofs.FrontLemmas.{bind_gives, map_gives}
-use Rattle.fx_css_parts.specs.Texts.{trimmed, IsBetweenWhite}
+use Rattle.fx_text.proofs.FrontLemmas.{bind_gives, map_gives}
+use Rattle.fx_css_parts.specs.Texts.{IsBetweenWhite}
 use Rattle.fx_css_parts.specs.Layers.{depth_behind, depth_after, separates, is_one, Separated, last, more, part_length, first_part, behind_comma, behind_part, onto_first, parts, each_at, separated_at}
-use Rattle.fx_css_parts.proofs.TrimLemmas.{trimmed_sound, trimmed_complete}
+use Rattle.fx_text.proofs.TrimLemmas.{trimmed_sound, trimmed_complete}
 use Rattle.fx_css_parts.proofs.LayerLemmas.{parts_left, parts_first}
+use Rattle.fx_text.specs.Trimming.{trimmed}
 
 -- the reading gives what a text spells, and nothing else
 pub record IsReading {A : Type 0} (Spells : List ℕ → A → Type 0) (read : List ℕ → Option A) : Type 0 where

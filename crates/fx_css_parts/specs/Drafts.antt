@@ -2,14 +2,15 @@
 use Rattle.std.specs.Prelude.{ℕ, ◌+◌, ◌-◌, Bool, not, ◌&&◌, ◌||◌, true, false, ◌==◌, nat_le, if◌then◌else◌, List, [], ◌++◌, length, Option, Some, None, slice_get}
 use Rattle.std.specs.List.{list_all, find}
 use Rattle.std.specs.Option.{option_map}
+use Rattle.fx_text.specs.Characters.{colon, comma, full_stop, left_parenthesis, number_sign}
 use Rattle.fx_css_types.specs.declared.selectors.Selector.{Selector}
-use Rattle.fx_look.specs.Colors.{is_white}
 use Rattle.fx_css_parts.specs.declared.compounds.Names.{Names}
 use Rattle.fx_css_parts.specs.declared.limits.Count.{Count}
 use Rattle.fx_css_parts.specs.declared.limits.LayerCount.{LayerCount}
 use Rattle.fx_css_parts.specs.Layers.{separates, depth_behind}
 use Rattle.fx_css_parts.specs.Selecting.{Part, is_part, names_behind, is_gap}
 use Rattle.fx_css_parts.specs.Limits.{starts, is_past, layer_starts}
+use Rattle.fx_text.specs.Classes.{is_white}
 
 pub record NameLists : Type 0 where
   pub classes : List (List ℕ)
@@ -20,7 +21,11 @@ abbrev pub name_lists : Names → NameLists
 name_lists n = record { classes = n.classes.items; ids = n.ids.items; pseudos = n.pseudos.items }
 
 abbrev pub with_names : NameLists → List Part → NameLists
-with_names n ps = record { classes = n.classes ++ names_behind 46 ps; ids = n.ids ++ names_behind 35 ps; pseudos = n.pseudos ++ names_behind 58 ps }
+with_names n ps = record {
+  classes = n.classes ++ names_behind full_stop ps;
+  ids = n.ids ++ names_behind number_sign ps;
+  pseudos = n.pseudos ++ names_behind colon ps;
+}
 
 -- the names of parts behind those that are read
 abbrev pub names_of : NameLists → List Part → Option NameLists
@@ -31,7 +36,7 @@ no_names = record { classes = []; ids = []; pseudos = [] }
 
 -- behind a byte, or none at the first byte of a part past its limit
 abbrev pub count_behind : Count → ℕ → Option Count
-count_behind n c = if c == 44 then Some (record { selector = n.selector + 1; compound = 0; within = false })
+count_behind n c = if c == comma then Some (record { selector = n.selector + 1; compound = 0; within = false })
     else (if is_gap c then Some (record { selector = n.selector; compound = n.compound; within = false })
     else (if n.within then Some (record { selector = n.selector; compound = n.compound; within = true })
     else (if nat_le 64 n.selector || nat_le 16 n.compound then None
@@ -43,7 +48,8 @@ past_from n place text = option_map (λ s. s.place) (find is_past (starts n.with
 -- behind a byte, or none at the first byte of the layer that is past the limit
 abbrev pub layer_behind : LayerCount → ℕ → Option LayerCount
 layer_behind n c = if separates n.depth c then Some (record { within = false; depth = 0; left = n.left })
-    else (if n.within || is_white c then Some (record { within = n.within; depth = depth_behind n.depth c; left = n.left })
+    else (if n.within || is_white c
+    then Some (record { within = n.within; depth = depth_behind n.depth c; left = n.left })
     else (if n.left == 0 then None
     else Some (record { within = true; depth = depth_behind n.depth c; left = n.left - 1 })))
 
@@ -52,7 +58,7 @@ layer_from n place value = slice_get (layer_starts n.within n.depth place value)
 
 -- before the first comma or parenthesis that opens, nothing is cut and nothing is nested
 abbrev pub is_flat : ℕ → Bool
-is_flat c = not (c == 44) && not (c == 40)
+is_flat c = not (c == comma) && not (c == left_parenthesis)
 
 -- selectors of which none is past a limit
 abbrev pub is_short : Selector → Bool

@@ -1,18 +1,17 @@
 -- Where the parts of a text begin, and the first of them that is past a limit.
-use Rattle.std.specs.Prelude.{ℕ, ◌+◌, ◌≤◌, Bool, true, false, ◌||◌, ◌==◌, nat_le, if◌then◌else◌, List, [], ◌∷◌, length, Option, Some, None, slice_get}
-use Rattle.std.specs.List.{find, All}
+use Rattle.std.specs.Prelude.{ℕ, ◌+◌, Bool, true, false, ◌||◌, ◌==◌, nat_le, if◌then◌else◌, List, [], ◌∷◌, length, Option, Some, None, slice_get}
+use Rattle.std.specs.List.{find}
 use Rattle.std.specs.Option.{option_map}
+use Rattle.fx_text.specs.Characters.{comma}
 use Rattle.fx_look.specs.declared.styles.StyleForm.{StyleForm}
 use Rattle.fx_look.specs.declared.styles.StyleForm.TheVariants as form
-use Rattle.fx_look.specs.Colors.{is_white}
-use Rattle.fx_look.specs.Decimals.{front, behind}
-use Rattle.fx_css_types.specs.declared.selectors.Selector.{Selector}
-use Rattle.fx_css_types.specs.declared.declarations.Declared.{Declared}
-use Rattle.fx_css_types.specs.declared.declarations.Declared.TheVariants as declared
-use Rattle.fx_css_parts.specs.Texts.{trimmed}
 use Rattle.fx_css_parts.specs.Layers.{separates, depth_behind}
 use Rattle.fx_css_parts.specs.Selecting.{is_gap}
-use Rattle.fx_css_parts.specs.Declaring.{form_of, not_colon}
+use Rattle.fx_css_parts.specs.Declaring.{not_colon}
+use Rattle.fx_text.specs.Classes.{is_white}
+use Rattle.fx_text.specs.Fronts.{front, behind}
+use Rattle.fx_text.specs.Trimming.{trimmed}
+use Rattle.fx_css_types.specs.Limits.{form_of}
 
 -- the place of a compound's first byte, the number of its selector and its own number in it, from 0
 pub record Start : Type 0 where
@@ -23,10 +22,11 @@ pub record Start : Type 0 where
 -- behind so many selectors and so many compounds of the next one, within a compound or not, from a place on
 abbrev pub starts : Bool → ℕ → ℕ → ℕ → List ℕ → List Start
 starts within selector compound place [] = []
-starts within selector compound place (c ∷ cs) = if c == 44 then starts false (selector + 1) 0 (place + 1) cs
+starts within selector compound place (c ∷ cs) = if c == comma then starts false (selector + 1) 0 (place + 1) cs
     else (if is_gap c then starts false selector compound (place + 1) cs
     else (if within then starts true selector compound (place + 1) cs
-    else (record { place = place; selector = selector; compound = compound }) ∷ starts true selector (compound + 1) (place + 1) cs))
+    else (record { place = place; selector = selector; compound = compound })
+    ∷ starts true selector (compound + 1) (place + 1) cs))
 
 -- of the 65th selector, or the 17th compound of one
 abbrev pub is_past : Start → Bool
@@ -60,14 +60,5 @@ past_behind f place [] = None
 past_behind f place (c ∷ cs) = past_in_value f (place + 1) cs
 
 abbrev pub past_in_declaration : List ℕ → Option ℕ
-past_in_declaration text = past_behind (form_of (trimmed (front not_colon text))) (length (front not_colon text)) (behind not_colon text)
-
--- at most 64 selectors, of at most 16 compounds each
-abbrev pub AreFew : List Selector → Type 0
-AreFew selectors = (length selectors ≤ 64) × All (λ s. length s.compounds ≤ 16) selectors
-
--- how many layers a value has that may have many
-abbrev pub layer_count : Declared → ℕ
-layer_count (declared.Paints ps) = length ps
-layer_count (declared.SidesList ss) = length ss
-layer_count _ = 0
+past_in_declaration text =
+    past_behind (form_of (trimmed (front not_colon text))) (length (front not_colon text)) (behind not_colon text)

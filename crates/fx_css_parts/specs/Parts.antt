@@ -11,4 +11,5 @@ abbrev pub selectors_at : List ℕ → Option Selectors
 selectors_at text = option_map (λ ss. record { selectors = ss; past = past_in_selectors text }) (selectors_in text)
 
 abbrev pub declaration_at : List ℕ → Option ReadDeclaration
-declaration_at text = option_map (λ d. record { declaration = d; past = past_in_declaration text }) (declaration_in text)
+declaration_at text =
+    option_map (λ d. record { declaration = d; past = past_in_declaration text }) (declaration_in text)

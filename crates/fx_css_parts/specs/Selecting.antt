@@ -2,18 +2,20 @@
 use Rattle.std.specs.Prelude.{◌≡◌, ◌≢◌, ℕ, Bool, true, false, not, ◌||◌, ◌&&◌, ◌==◌, if◌then◌else◌, List, [], ◌∷◌, ◌++◌, Option, Some, None, IsTrue}
 use Rattle.std.specs.List.{list_all}
 use Rattle.std.specs.Option.{option_and_then, option_map}
+use Rattle.fx_text.specs.Characters.{asterisk, colon, full_stop, greater_than_sign, number_sign}
 use Rattle.fx_css_types.specs.declared.selectors.Combinator.{Combinator}
 use Rattle.fx_css_types.specs.declared.selectors.Combinator.TheVariants.{Descendant, Child}
 use Rattle.fx_css_types.specs.declared.selectors.Compound.{Compound}
 use Rattle.fx_css_types.specs.declared.selectors.Selector.{Selector}
-use Rattle.fx_look.specs.Colors.{is_white}
-use Rattle.fx_look.specs.Decimals.{front, behind}
-use Rattle.fx_css_parts.specs.Texts.{is_ident, trim_front}
+use Rattle.fx_css_parts.specs.Texts.{is_ident}
 use Rattle.fx_css_parts.specs.Layers.{Separated, separated_at}
+use Rattle.fx_text.specs.Classes.{is_white}
+use Rattle.fx_text.specs.Fronts.{front, behind}
+use Rattle.fx_text.specs.Trimming.{trim_front}
 
 -- `.`, `#` and `:`, which stand before the name of a class, an id and a pseudo-class
 abbrev pub is_sign : ℕ → Bool
-is_sign c = (c == 46) || ((c == 35) || (c == 58))
+is_sign c = (c == full_stop) || ((c == number_sign) || (c == colon))
 
 -- a sign and the name behind it
 pub record Part : Type 0 where
@@ -36,15 +38,15 @@ abbrev pub compound : Option Combinator → Option (List ℕ) → List Part → 
 compound combinator kind ps = record {
   combinator = combinator;
   kind = kind;
-  classes = names_behind 46 ps;
-  ids = names_behind 35 ps;
-  pseudos = names_behind 58 ps;
+  classes = names_behind full_stop ps;
+  ids = names_behind number_sign ps;
+  pseudos = names_behind colon ps;
 }
 
 -- a type, or `*` or nothing for any type
 pub data IsKind : List ℕ → Option (List ℕ) → Type 0 where
   unsaid : IsKind [] None
-  any : IsKind (42 ∷ []) None
+  any : IsKind (asterisk ∷ []) None
   type : (name : List ℕ) → IsTrue (is_ident name) → IsKind name (Some name)
 
 pub record IsCompound (combinator : Option Combinator) (text : List ℕ) (c : Compound) : Type 0 where
@@ -60,12 +62,14 @@ pub record IsCompound (combinator : Option Combinator) (text : List ℕ) (c : Co
 -- white, or `>` with white round it or not
 pub data IsCombinator : List ℕ → Combinator → Type 0 where
   white : (text : List ℕ) → text ≢ [] → IsTrue (list_all is_white text) → IsCombinator text Descendant
-  child : (text before after : List ℕ) → text ≡ before ++ (62 ∷ after) → IsTrue (list_all is_white before) → IsTrue (list_all is_white after) → IsCombinator text Child
+  child : (text before after : List ℕ) → text ≡ before ++ (greater_than_sign ∷ after)
+      → IsTrue (list_all is_white before) → IsTrue (list_all is_white after) → IsCombinator text Child
 
 -- compounds, each behind its combinator
 pub data AreLinked : List ℕ → List Compound → Type 0 where
   end : AreLinked [] []
-  link : (text gap word rest : List ℕ) (combinator : Combinator) (c : Compound) (cs : List Compound) → text ≡ gap ++ (word ++ rest)
+  link : (text gap word rest : List ℕ) (combinator : Combinator) (c : Compound) (cs : List Compound)
+      → text ≡ gap ++ (word ++ rest)
       → IsCombinator gap combinator → IsCompound (Some combinator) word c → AreLinked rest cs → AreLinked text (c ∷ cs)
 
 abbrev pub selector : List Compound → Selector
@@ -96,7 +100,7 @@ parts_at (c ∷ cs) = if is_sign c then (record { sign = c; name = front not_sig
 
 abbrev pub is_any : List ℕ → Bool
 is_any [] = true
-is_any (c ∷ []) = c == 42
+is_any (c ∷ []) = c == asterisk
 is_any (c ∷ d ∷ cs) = false
 
 abbrev pub kind_at : List ℕ → Option (Option (List ℕ))
@@ -107,17 +111,18 @@ with_parts combinator ps kind = if list_all is_part ps then Some (compound combi
 
 abbrev pub compound_at : Option Combinator → List ℕ → Option Compound
 compound_at combinator [] = None
-compound_at combinator (c ∷ cs) = option_and_then (with_parts combinator (parts_at (c ∷ cs))) (kind_at (front not_sign (c ∷ cs)))
+compound_at combinator (c ∷ cs) =
+    option_and_then (with_parts combinator (parts_at (c ∷ cs))) (kind_at (front not_sign (c ∷ cs)))
 
 abbrev pub is_gap : ℕ → Bool
-is_gap c = is_white c || (c == 62)
+is_gap c = is_white c || (c == greater_than_sign)
 
 abbrev pub not_gap : ℕ → Bool
 not_gap c = not (is_gap c)
 
 abbrev pub behind_sign : List ℕ → Option Combinator
 behind_sign [] = Some Descendant
-behind_sign (c ∷ cs) = if (c == 62) && list_all is_white cs then Some Child else None
+behind_sign (c ∷ cs) = if (c == greater_than_sign) && list_all is_white cs then Some Child else None
 
 -- the combinator that a text of white and `>` is
 abbrev pub combinator_at : List ℕ → Option Combinator
@@ -132,7 +137,8 @@ pub record Link : Type 0 where
 abbrev pub links_at : Bool → List ℕ → List Link
 links_at within [] = []
 links_at within (c ∷ cs) = if is_gap c
-    then (if within then links_at true cs else (record { gap = front is_gap (c ∷ cs); word = front not_gap (behind is_gap (c ∷ cs)) }) ∷ links_at true cs)
+    then (if within then links_at true cs
+    else (record { gap = front is_gap (c ∷ cs); word = front not_gap (behind is_gap (c ∷ cs)) }) ∷ links_at true cs)
     else links_at false cs
 
 abbrev pub link_at : Link → Option Compound
@@ -143,7 +149,9 @@ linked_at [] = Some []
 linked_at (l ∷ ls) = option_and_then (λ c. option_map (λ cs. c ∷ cs) (linked_at ls)) (link_at l)
 
 abbrev pub selector_at : List ℕ → Option Selector
-selector_at text = option_and_then (λ first. option_map (λ others. selector (first ∷ others)) (linked_at (links_at false text))) (compound_at None (front not_gap text))
+selector_at text = option_and_then
+    (λ first. option_map (λ others. selector (first ∷ others)) (linked_at (links_at false text)))
+    (compound_at None (front not_gap text))
 
 abbrev pub selectors_in : List ℕ → Option (List Selector)
 selectors_in text = separated_at selector_at text

@@ -3,10 +3,9 @@
 ghost use Rattle.std.specs.Prelude.{◌≡◌, ◌≤◌, ◌++◌, IfOk, OnOk, length, true, [], ◌∷◌};
 ghost use Rattle.std.specs.List.{prefix_len};
 ghost use Rattle.std.specs.Option.{option_map};
-ghost use Rattle.fx_look.specs.Decimals.{front, behind};
 ghost use Rattle.fx_css_parts.specs.Selecting.{is_sign, not_sign, is_any, kind_at, parts_at, compound_at};
-ghost use Rattle.fx_css_parts.specs.Texts.{stops};
 ghost use Rattle.fx_css_parts.specs.Drafts.{name_lists, with_names, names_of, no_names};
+ghost use Rattle.fx_text.specs.Fronts.{front, behind, stops};
 
 use crate::texts::read_ident;
 use fx_base::{List, Text};
@@ -33,7 +32,8 @@ impl Names {
     }
 
     fn push(&mut self, sign: u8, name: Text) -> Result<(), AllocError>
-        ensures { OnOk result (name_lists self.new ≡ with_names (name_lists self.old) ((record { sign = sign; name = name }) ∷ [])) }
+        ensures { OnOk result (name_lists self.new
+            ≡ with_names (name_lists self.old) ((record { sign = sign; name = name }) ∷ [])) }
     {
         match sign {
             b'.' => push_name(&mut self.classes, name)?,

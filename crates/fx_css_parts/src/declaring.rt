@@ -2,16 +2,18 @@
 //! The declarations of a rule and of an inline style are read here.
 ghost use Rattle.std.specs.Prelude.{◌≡◌, ◌+◌, ◌≤◌, IfOk, length};
 ghost use Rattle.std.specs.List.{prefix_len};
-ghost use Rattle.fx_look.specs.Decimals.{front, behind};
-ghost use Rattle.fx_css_parts.specs.Declaring.{form_of, not_colon};
+ghost use Rattle.fx_css_parts.specs.Declaring.{not_colon};
 ghost use Rattle.fx_css_parts.specs.Parts.{declaration_at};
+ghost use Rattle.fx_text.specs.Fronts.{front, behind};
+ghost use Rattle.fx_css_types.specs.Limits.{form_of};
 
 use crate::ReadDeclaration;
 use crate::limits::past_in_value;
-use crate::texts::{read_ident, trimmed};
+use crate::texts::read_ident;
 use crate::values::read_declared;
-use fx_look::{StyleForm, style_named};
 use fx_css_types::Declaration;
+use fx_look::{StyleForm, style_named};
+use fx_text::trimmed;
 use std::alloc::{AllocError, Global};
 
 /// The declaration that the text spells, or none where it is bad.

@@ -3,11 +3,11 @@
 ghost use Rattle.std.specs.Prelude.{◌≡◌, ◌+◌, ◌^◌, ◌<◌, ◌≤◌, length};
 ghost use Rattle.std.specs.List.{prefix_len};
 ghost use Rattle.std.specs.Option.{option_map};
-ghost use Rattle.fx_css_parts.specs.Texts.{trimmed};
 ghost use Rattle.fx_css_parts.specs.Layers.{depth_behind, separates, part_length, first_part, behind_comma, behind_part};
 ghost use Rattle.fx_css_parts.specs.Drafts.{is_flat};
+ghost use Rattle.fx_text.specs.Trimming.{trimmed};
 
-use crate::texts::trimmed;
+use fx_text::trimmed;
 
 /// The first part without the white at its ends, and the text behind its comma.
 pub fn split_part(text: &[u8]) -> (&[u8], Option<&[u8]>)

@@ -2,16 +2,18 @@
 //! Readings carry its place, and a reader of sheets refuses by it.
 ghost use Rattle.std.specs.Prelude.{◌≡◌, ◌+◌, ◌<◌, ◌^◌, length, Some};
 ghost use Rattle.std.specs.List.{list_all};
-ghost use Rattle.fx_css_parts.specs.Texts.{trimmed};
 ghost use Rattle.fx_css_parts.specs.Selecting.{selectors_in};
 ghost use Rattle.fx_css_parts.specs.Declaring.{declared_at};
-ghost use Rattle.fx_css_parts.specs.Limits.{past_in_selectors, past_in_value, has_layers, is_layered, layer_count};
+ghost use Rattle.fx_css_parts.specs.Limits.{past_in_selectors, past_in_value, has_layers, is_layered};
 ghost use Rattle.fx_css_parts.specs.Drafts.{are_few, is_short, count_behind, layer_behind, layer_from};
+ghost use Rattle.fx_text.specs.Trimming.{trimmed};
+ghost use Rattle.fx_css_types.specs.Limits.{layer_count};
 
 use crate::layers::{depth_behind, separates};
 use crate::selecting::is_gap;
-use fx_look::{StyleForm, is_white};
 use fx_css_types::{Declared, Selector};
+use fx_look::StyleForm;
+use fx_text::is_white;
 
 /// How many selectors have ended, and how many compounds of the present one have begun.
 #[derive(Clone, Copy)]

@@ -3,19 +3,17 @@
 ghost use Rattle.std.specs.Prelude.{◌≡◌, ◌≤◌, ◌++◌, IfOk, length, true, false};
 ghost use Rattle.std.specs.List.{prefix_len};
 ghost use Rattle.std.specs.Option.{option_map, option_and_then};
-ghost use Rattle.fx_look.specs.Decimals.{front, behind};
-ghost use Rattle.fx_css_parts.specs.Texts.{stops};
 ghost use Rattle.fx_css_parts.specs.Selecting.{behind_sign, combinator_at, is_gap, not_gap, links_at, linked_at, selector_at, selectors_in};
 ghost use Rattle.fx_css_parts.specs.Parts.{selectors_at};
+ghost use Rattle.fx_text.specs.Fronts.{front, behind, stops};
 
 use crate::Selectors;
 use crate::compounds::read_compound;
 use crate::layers::split_part;
 use crate::limits::past_in_selectors;
-use crate::texts::{all_white, without_front};
 use fx_base::List;
-use fx_look::is_white;
 use fx_css_types::{Combinator, Compound, Selector};
+use fx_text::{all_white, is_white, trim_front};
 use std::alloc::{AllocError, Global};
 
 /// The selectors that the text spells, separated by commas, or none where one of them is bad.
@@ -77,7 +75,8 @@ fn read_links(
     text: &[u8],
 ) -> Result<Option<Vec<Compound>>, AllocError>
     requires { stops not_gap text.now ≡ true }
-    ensures { IfOk result (λ o. option_map (λ v. v.items) o ≡ option_map (λ cs. first.items ++ cs) (linked_at (links_at false text.now))) }
+    ensures { IfOk result (λ o. option_map (λ v. v.items) o
+        ≡ option_map (λ cs. first.items ++ cs) (linked_at (links_at false text.now))) }
 {
     let mut compounds = first;
     let mut rest = text;
@@ -100,7 +99,7 @@ fn read_links(
 fn combinator_of(gap: &[u8]) -> Option<Combinator>
     ensures { result ≡ combinator_at gap.now }
 {
-    behind_first_white(without_front(gap))
+    behind_first_white(trim_front(gap))
 }
 
 fn behind_first_white(text: &[u8]) -> Option<Combinator>

@@ -15,8 +15,8 @@ ghost use Rattle.fx_css_parts.specs.Declaring.{positions, position_at, truth_at,
 use crate::layers::split_part;
 use crate::texts::read_ident;
 use fx_base::{Family, List, Sides, Value};
-use fx_look::{StyleForm, color_at, size_at, sizes_at};
 use fx_css_types::{Declared, Paint};
+use fx_look::{StyleForm, color_at, size_at, sizes_at};
 use std::alloc::{AllocError, Global};
 
 /// The constants of `Pos` in their order, in lower case with `-` between their words.
@@ -212,7 +212,8 @@ fn position_table() -> &'static [&'static str]
 }
 
 fn find_position(constants: &[&str], text: &[u8]) -> Option<usize>
-    ensures { result ≡ position (λ constant. bytes_eq constant text.now) (map (λ constant. constant.now) constants.now) }
+    ensures { result
+        ≡ position (λ constant. bytes_eq constant text.now) (map (λ constant. constant.now) constants.now) }
 {
     find_place(constants, text)
 }

@@ -1,9 +1,9 @@
 use Rattle.std.proofs.Common.{◌≡◌, true, ◌∷◌, Some, sym, ap, ◌∙◌}
-use Rattle.fx_look.specs.Decimals.{front}
-use Rattle.fx_css_parts.specs.Texts.{stops, ident_at}
+use Rattle.fx_css_parts.specs.Texts.{ident_at}
 use Rattle.fx_css_parts.specs.Selecting.{not_sign, parts_at}
 use Rattle.fx_css_parts.specs.Drafts.{name_lists, names_of}
 use Rattle.fx_css_parts.proofs.SelectorLemmas.{stops_at, names_turn}
+use Rattle.fx_text.specs.Fronts.{front, stops}
 use Rattle.fx_css_parts.proofs.compounds.read_names.Goals as goal
 
 pub loop-sign-preserved : goal.loop-sign-preserved

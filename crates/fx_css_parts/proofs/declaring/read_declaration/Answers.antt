@@ -1,8 +1,10 @@
 use Rattle.std.proofs.Common.{◌≡◌, ◌+◌, Some, length, sym, ap, ◌∙◌}
-use Rattle.fx_css_parts.specs.Texts.{ident_at, trimmed}
-use Rattle.fx_css_parts.specs.Declaring.{form_of, declared_at}
+use Rattle.fx_css_parts.specs.Texts.{ident_at}
+use Rattle.fx_css_parts.specs.Declaring.{declared_at}
 use Rattle.fx_css_parts.specs.Limits.{past_in_value}
 use Rattle.fx_css_parts.proofs.DeclarationLemmas.{declares}
+use Rattle.fx_text.specs.Trimming.{trimmed}
+use Rattle.fx_css_types.specs.Limits.{form_of}
 use Rattle.fx_css_parts.proofs.declaring.read_declaration.Goals as goal
 
 pub returns : goal.returns

@@ -1,6 +1,6 @@
 use Rattle.std.proofs.Common.{List, ℕ, ap, subst}
 use Rattle.std.specs.Option.{option_map}
-use Rattle.fx_look.proofs.FrontLemmas.{map_gives}
+use Rattle.fx_text.proofs.FrontLemmas.{map_gives}
 use Rattle.fx_css_types.specs.declared.declarations.Declaration.{Declaration}
 use Rattle.fx_css_parts.specs.declared.ReadDeclaration.{ReadDeclaration}
 use Rattle.fx_css_parts.specs.Declaring.{IsDeclaration, declaration_in}

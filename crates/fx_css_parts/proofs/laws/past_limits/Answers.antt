@@ -1,16 +1,17 @@
 use Rattle.std.proofs.Common.{◌≡◌, None, List, ℕ, ◌≤◌, subst}
 use Rattle.std.specs.Prelude.{◌↔◌}
-use Rattle.fx_look.proofs.FrontLemmas.{map_gives}
+use Rattle.fx_text.proofs.FrontLemmas.{map_gives}
 use Rattle.fx_css_types.specs.declared.selectors.Selector.{Selector}
 use Rattle.fx_css_types.specs.declared.declarations.Declaration.{Declaration}
 use Rattle.fx_css_parts.specs.declared.Selectors.{Selectors}
 use Rattle.fx_css_parts.specs.declared.ReadDeclaration.{ReadDeclaration}
 use Rattle.fx_css_parts.specs.Selecting.{selectors_in}
 use Rattle.fx_css_parts.specs.Declaring.{declaration_in}
-use Rattle.fx_css_parts.specs.Limits.{past_in_selectors, past_in_declaration, AreFew, layer_count}
+use Rattle.fx_css_parts.specs.Limits.{past_in_selectors, past_in_declaration}
 use Rattle.fx_css_parts.proofs.SelectorLaws.{selectors_read}
 use Rattle.fx_css_parts.proofs.PastSelectorLaws.{selectors_few, selectors_open}
 use Rattle.fx_css_parts.proofs.PastLayerLaws.{layers_tell}
+use Rattle.fx_css_types.specs.Limits.{AreFew, layer_count}
 use Rattle.fx_css_parts.proofs.laws.past_limits.Goals as goal
 
 abbrev with_past : List ℕ → List Selector → Selectors

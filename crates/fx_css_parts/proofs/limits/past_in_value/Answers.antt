@@ -1,6 +1,6 @@
 use Rattle.std.proofs.Common.{sym, ◌≤◌, arith}
-use Rattle.fx_css_parts.specs.Limits.{layer_count}
 use Rattle.fx_css_parts.proofs.PastLayerLaws.{value_open}
+use Rattle.fx_css_types.specs.Limits.{layer_count}
 use Rattle.fx_css_parts.proofs.limits.past_in_value.Goals as goal
 
 pub returns-then-layer_count-le8 : goal.returns-then-layer_count-le8

@@ -1,8 +1,8 @@
 -- white, `>` or nothing is next, and the compounds behind those that are read are all that are written
 use Rattle.std.proofs.Common.{◌≡◌, ◌++◌, true, length, false}
 use Rattle.std.specs.Option.{option_map}
-use Rattle.fx_css_parts.specs.Texts.{stops}
 use Rattle.fx_css_parts.specs.Selecting.{not_gap, links_at, linked_at}
+use Rattle.fx_text.specs.Fronts.{stops}
 use Rattle.fx_css_parts.proofs.selecting.read_links.Given as goal
 
 abbrev pub invariant-loop-rest : goal.invariant-loop-rest

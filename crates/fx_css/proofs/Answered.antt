@@ -3,12 +3,13 @@
 use Rattle.std.proofs.Common.{◌≡◌, ℕ, List, [], ◌∷◌, map, refl, sym, ◌∙◌, ap, subst, Result, Ok, Err, IfOk, IfErr}
 use Rattle.std.specs.Result.{IsErrAnd}
 use Rattle.std.specs.Str.{IsUtf8}
-use Rattle.fx_base.specs.declared.geometry.Place.{Place}
+use Rattle.fx_base.specs.declared.positions.Place.{Place}
+use Rattle.fx_base.specs.declared.positions.Position.{Position}
 use Rattle.fx_css_types.specs.declared.sheets.Rule.{Rule}
 use Rattle.fx_css_types.specs.declared.sheets.Sheet.{Sheet}
 use Rattle.fx_css_marks.specs.declared.marks.Mark.{Mark}
-use Rattle.fx_css_marks.specs.Bytes.{first_place}
-use Rattle.fx_css_marks.specs.Marks.{Marked, place_of}
+use Rattle.fx_base.specs.Positions.{start}
+use Rattle.fx_css_marks.specs.Marks.{Marked, position_of}
 use Rattle.fx_css_marks.specs.Scanning.{Plain, scanned}
 use Rattle.fx_css_marks.proofs.Scans.{marks_scanned}
 use Rattle.fx_css.specs.declared.errors.SheetError.{SheetError}
@@ -42,11 +43,11 @@ memory_read form.Sheet ms (Err y) h = stops_read ms (Err y) stop.Memory h (memor
 memory_read form.Style ms (Err y) h = subst (λ z. AreStyle ms (Err z)) (sym h) tt
 
 -- the place of the first number is the first place
-first_place_is : (file : ℕ) (marks : List Mark) (past : List ℕ) (n l c : ℕ) → IsFirstNumber past n → (place_of file marks n).line ≡ l → (place_of file marks n).column ≡ c → IsFirst (places_of file marks past) l c
-first_place_is file marks [] n l c h e f = absurd h
-first_place_is file marks (k ∷ past) n l c h e f = (ap (λ y. (place_of file marks y).line) h ∙ e, ap (λ y. (place_of file marks y).column) h ∙ f)
+first_place_is : (file : ℕ) (marks : List Mark) (past : List ℕ) (n : ℕ) (at : Position) → IsFirstNumber past n → position_of marks n ≡ at → IsFirst (places_of file marks past) at
+first_place_is file marks [] n at h e = absurd h
+first_place_is file marks (k ∷ past) n at h e = ap (position_of marks) h ∙ e
 
-sheet_told : (file : ℕ) (text : List ℕ) (marks : List Mark) (r : Result Draft Stop) (answer : Result Sheet SheetError) → Marked (first_place file) text marks → AreRead (numbered_marks marks) r → IsTold file marks r answer → IsSheetRead file text answer
+sheet_told : (file : ℕ) (text : List ℕ) (marks : List Mark) (r : Result Draft Stop) (answer : Result Sheet SheetError) → Marked start text marks → AreRead (numbered_marks marks) r → IsTold file marks r answer → IsSheetRead file text answer
 sheet_told file text marks (Ok draft) (Ok sheet) m h t = record {
   marks = marks;
   marked = m;
@@ -57,15 +58,15 @@ sheet_told file text marks (Ok draft) (Ok sheet) m h t = record {
   are_warnings = t.1;
   are_past = ap (places_of file marks) h.3;
 }
-sheet_told file text marks (Err (stop.Past n)) (Err (Limit l c)) m h t = (
+sheet_told file text marks (Err (stop.Past n)) (Err (Limit at)) m h t = (
   map (λ r. r.rule) h.0,
   places_of file marks h.1,
   places_of file marks (past_rules 0 h.0),
   record { marks = marks; marked = m; readings = h.0; dropped = h.1; reads = h.2; are_rules = refl; are_warnings = refl; are_past = refl },
-  first_place_is file marks (past_rules 0 h.0) n l c h.3 t.0 t.1,
+  first_place_is file marks (past_rules 0 h.0) n at h.3 t,
 )
-sheet_told file text marks (Err stop.Memory) (Err (Limit l c)) m h t = absurd t
-sheet_told file text marks (Ok draft) (Err (Limit l c)) m h t = absurd t
+sheet_told file text marks (Err stop.Memory) (Err (Limit at)) m h t = absurd t
+sheet_told file text marks (Ok draft) (Err (Limit at)) m h t = absurd t
 sheet_told file text marks (Ok draft) (Err Memory) m h t = tt
 sheet_told file text marks (Err e) (Err Memory) m h t = tt
 sheet_told file text marks (Ok draft) (Err (NotUtf8 n)) m h t = t
@@ -76,12 +77,12 @@ sheet_told file text marks (Err stop.Memory) (Ok sheet) m h t = absurd t
 
 -- whatever the marks are, they are those of the scan
 abbrev pub AnswersAs : Form → ℕ → List ℕ → Result Sheet SheetError → Type 0
-AnswersAs f file text answer = (marks : List Mark) → Marked (first_place file) text marks → IsReadAs f file marks answer
+AnswersAs f file text answer = (marks : List Mark) → Marked start text marks → IsReadAs f file marks answer
 
 sheet_read : (file : ℕ) (text : List ℕ) (answer : Result Sheet SheetError) → AnswersAs form.Sheet file text answer → IsSheetRead file text answer
 sheet_read file text answer h =
-    let marks : List Mark = scanned Plain (first_place file) text in
-    let m : Marked (first_place file) text marks = marks_scanned (first_place file) text in
+    let marks : List Mark = scanned Plain start text in
+    let m : Marked start text marks = marks_scanned start text in
     let read = h marks m in
     sheet_told file text marks read.0 answer m read.1 read.2
 
@@ -94,7 +95,7 @@ read_by file text r h = read_of file text r (sheet_read file text r h)
 
 fault_of : (file : ℕ) (text : List ℕ) (r : Result Sheet SheetError) → IsUtf8 text → IsSheetRead file text r → IfErr r (HasFault file text)
 fault_of file text (Ok sheet) u h = tt
-fault_of file text (Err (Limit l c)) u h = (u, h)
+fault_of file text (Err (Limit at)) u h = (u, h)
 fault_of file text (Err (NotUtf8 n)) u h = absurd h
 fault_of file text (Err Memory) u h = tt
 
@@ -105,9 +106,9 @@ given : (file : ℕ) (text : List ℕ) (r : Result Sheet SheetError) (rules : Li
 given file text (Ok sheet) rules warnings past h t =
     let o = one_text file text sheet.rules rules sheet.warnings warnings [] past h t in
     (o.0, o.1, sym o.2)
-given file text (Err (Limit l c)) rules warnings past h t =
+given file text (Err (Limit at)) rules warnings past h t =
     let o = one_text file text h.0 rules h.1 warnings h.2 past h.3 t in
-    subst (λ y. IsFirst y l c) o.2 h.4
+    subst (λ y. IsFirst y at) o.2 h.4
 given file text (Err (NotUtf8 n)) rules warnings past h t = h
 given file text (Err Memory) rules warnings past h t = tt
 
@@ -116,7 +117,7 @@ exact_by file text r h rules warnings past u t = given file text r rules warning
 
 -- the same of a `style`
 
-style_fault : (text : List ℕ) (marks : List Mark) (e : SheetError) → Marked (first_place 0) text marks → IsPast (places_of 0 marks (past_declarations 0 (kept_in (numbered_marks marks)))) e → HasStyleFault text e
+style_fault : (text : List ℕ) (marks : List Mark) (e : SheetError) → Marked start text marks → IsPast (places_of 0 marks (past_declarations 0 (kept_in (numbered_marks marks)))) e → HasStyleFault text e
 style_fault text marks e m h = (
   style_rule (numbered_marks marks) ∷ [],
   places_of 0 marks (warnings_in (numbered_marks marks)),
@@ -125,11 +126,11 @@ style_fault text marks e m h = (
   h,
 )
 
-style_told : (text : List ℕ) (marks : List Mark) (r : Result Draft Stop) (answer : Result Sheet SheetError) → Marked (first_place 0) text marks → AreStyle (numbered_marks marks) r → IsTold 0 marks r answer → IsStyleRead text answer
+style_told : (text : List ℕ) (marks : List Mark) (r : Result Draft Stop) (answer : Result Sheet SheetError) → Marked start text marks → AreStyle (numbered_marks marks) r → IsTold 0 marks r answer → IsStyleRead text answer
 style_told text marks (Ok draft) (Ok sheet) m h t = record { marks = marks; marked = m; are_rules = t.0 ∙ h.0; are_warnings = t.1 ∙ ap (places_of 0 marks) h.1; are_past = sym (ap (places_of 0 marks) h.2) }
-style_told text marks (Err (stop.Past n)) (Err (Limit l c)) m h t = style_fault text marks (Limit l c) m (first_place_is 0 marks (past_declarations 0 (kept_in (numbered_marks marks))) n l c h t.0 t.1)
-style_told text marks (Err stop.Memory) (Err (Limit l c)) m h t = absurd t
-style_told text marks (Ok draft) (Err (Limit l c)) m h t = absurd t
+style_told text marks (Err (stop.Past n)) (Err (Limit at)) m h t = style_fault text marks (Limit at) m (first_place_is 0 marks (past_declarations 0 (kept_in (numbered_marks marks))) n at h t)
+style_told text marks (Err stop.Memory) (Err (Limit at)) m h t = absurd t
+style_told text marks (Ok draft) (Err (Limit at)) m h t = absurd t
 style_told text marks (Ok draft) (Err Memory) m h t = style_fault text marks Memory m tt
 style_told text marks (Err e) (Err Memory) m h t = style_fault text marks Memory m tt
 style_told text marks (Ok draft) (Err (NotUtf8 n)) m h t = absurd t
@@ -140,8 +141,8 @@ style_told text marks (Err stop.Memory) (Ok sheet) m h t = absurd t
 
 style_read : (text : List ℕ) (answer : Result Sheet SheetError) → AnswersAs form.Style 0 text answer → IsStyleRead text answer
 style_read text answer h =
-    let marks : List Mark = scanned Plain (first_place 0) text in
-    let m : Marked (first_place 0) text marks = marks_scanned (first_place 0) text in
+    let marks : List Mark = scanned Plain start text in
+    let m : Marked start text marks = marks_scanned start text in
     let read = h marks m in
     style_told text marks read.0 answer m read.1 read.2
 

@@ -7,3 +7,5 @@ pub mod Turns
 pub mod Shown
 pub mod Answered
 pub mod OneReading
+pub mod Within
+pub mod AgentLemmas

@@ -40,7 +40,7 @@ pub record Goes (m : Numbered) (ms : List Numbered) (t : Turn) : Type 0 where
   pub reads : (rs : List Reading) (ws : List ℕ) → Reads t.rest rs ws → Reads (m ∷ ms) (t.readings ++ rs) (t.warnings ++ ws)
   pub shorter : length t.rest ≤ length ms
 
-dropped_le : {X : Type 0} (n : ℕ) (xs : List X) → length (drop n xs) ≤ length xs
+pub dropped_le : {X : Type 0} (n : ℕ) (xs : List X) → length (drop n xs) ≤ length xs
 dropped_le n xs = let e : length (drop n xs) ≡ length xs - n = length-drop n xs in omega arith
 
 -- what is behind the first that passes, of some

@@ -1,4 +1,5 @@
--- The sheet of the user agent, rule by rule (JavaFX CSS Reference Guide 21; which rules it has is this player's choice).
+-- The sheet of the user agent, rule by rule (JavaFX CSS Reference Guide 21; which rules it has is this player's
+-- choice).
 use Rattle.std.specs.Prelude.{ℕ, pos, List, [], ◌∷◌, None, codes}
 use Rattle.fx_base.specs.declared.color.Color.{Color}
 use Rattle.fx_base.specs.declared.geometry.Sides.{Sides}
@@ -13,10 +14,13 @@ use Rattle.fx_css_types.specs.declared.sheets.Rule.{Rule}
 
 -- a selector of one compound with these classes and pseudo-classes
 unfoldable pub selector_of : List (List ℕ) → List (List ℕ) → Selector
-selector_of classes pseudos = record { compounds = (record { combinator = None; kind = None; classes = classes; ids = []; pseudos = pseudos }) ∷ [] }
+selector_of classes pseudos = record {
+  compounds = (record { combinator = None; kind = None; classes = classes; ids = []; pseudos = pseudos }) ∷ [];
+}
 
 abbrev pub rule_of : List (List ℕ) → List (List ℕ) → List Declaration → Rule
-rule_of classes pseudos declarations = record { selectors = selector_of classes pseudos ∷ []; declarations = declarations }
+rule_of classes pseudos declarations =
+    record { selectors = selector_of classes pseudos ∷ []; declarations = declarations }
 
 abbrev pub declaration_of : List ℕ → Declared → Declaration
 declaration_of name v = record { name = name; value = v }
@@ -47,7 +51,8 @@ unfoldable pub text_fill : Color → Declaration
 text_fill c = declaration_of (codes "-fx-text-fill") (declared.Paint (paint.Color c))
 
 unfoldable pub background : Color → Color → Declaration
-background under over = declaration_of (codes "-fx-background-color") (declared.Paints (paint.Color under ∷ (paint.Color over ∷ [])))
+background under over =
+    declaration_of (codes "-fx-background-color") (declared.Paints (paint.Color under ∷ (paint.Color over ∷ [])))
 
 -- `-fx-alignment` with the position of this number
 unfoldable pub alignment : ℕ → Declaration
@@ -55,7 +60,8 @@ alignment place = declaration_of (codes "-fx-alignment") (declared.Plain (value.
 
 -- `.root { -fx-font-size: 12 }`
 unfoldable pub root_rule : Rule
-root_rule = rule_of (codes "root" ∷ []) [] (declaration_of (codes "-fx-font-size") (declared.Plain (value.Int (pos 12))) ∷ [])
+root_rule =
+    rule_of (codes "root" ∷ []) [] (declaration_of (codes "-fx-font-size") (declared.Plain (value.Int (pos 12))) ∷ [])
 
 -- `.label { -fx-text-fill: black; -fx-alignment: center-left }`
 unfoldable pub label_rule : Rule
@@ -66,15 +72,19 @@ all_sides n = record { top = pos n; right = pos n; bottom = pos n; left = pos n 
 
 -- `-fx-background-insets: 0, 1`
 unfoldable pub button_insets : Declaration
-button_insets = declaration_of (codes "-fx-background-insets") (declared.SidesList (all_sides 0 ∷ (all_sides 1 ∷ [])))
+button_insets =
+    declaration_of (codes "-fx-background-insets") (declared.SidesList (all_sides 0 ∷ (all_sides 1 ∷ [])))
 
 -- `-fx-padding: 2 4 2 4`
 unfoldable pub button_padding : Declaration
-button_padding = declaration_of (codes "-fx-padding") (declared.Plain (value.Sides (record { top = pos 2; right = pos 4; bottom = pos 2; left = pos 4 })))
+button_padding = declaration_of (codes "-fx-padding")
+    (declared.Plain (value.Sides (record { top = pos 2; right = pos 4; bottom = pos 2; left = pos 4 })))
 
--- `.button { -fx-background-color: gray, lightgray; -fx-background-insets: 0, 1; -fx-padding: 2 4 2 4; -fx-text-fill: black; -fx-alignment: center }`
+-- `.button { -fx-background-color: gray, lightgray; -fx-background-insets: 0, 1; -fx-padding: 2 4 2 4;
+-- -fx-text-fill: black; -fx-alignment: center }`
 unfoldable pub button_rule : Rule
-button_rule = rule_of (codes "button" ∷ []) [] (background gray light_gray ∷ (button_insets ∷ (button_padding ∷ (text_fill black ∷ (alignment 4 ∷ [])))))
+button_rule = rule_of (codes "button" ∷ []) []
+    (background gray light_gray ∷ (button_insets ∷ (button_padding ∷ (text_fill black ∷ (alignment 4 ∷ [])))))
 
 -- a button in a state, as in `.button:hover { -fx-background-color: gray, white }`
 unfoldable pub state_rule : List ℕ → Declaration → Rule

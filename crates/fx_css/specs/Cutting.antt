@@ -10,12 +10,14 @@ use Rattle.fx_css.specs.Rules.{Reading, reading_of, selected, is_at, is_open, is
 -- the marks to the end of a block that is open, with n more open in it
 abbrev pub block_length : ℕ → List Numbered → ℕ
 block_length n [] = 0
-block_length n (m ∷ ms) = suc (if is_open m then block_length (n + 1) ms else (if is_close m then (if n == 0 then 0 else block_length (n - 1) ms) else block_length n ms))
+block_length n (m ∷ ms) = suc (if is_open m then block_length (n + 1) ms
+    else (if is_close m then (if n == 0 then 0 else block_length (n - 1) ms) else block_length n ms))
 
 -- the marks behind an `@` to the end of its at-rule
 abbrev pub at_rule_length : List Numbered → ℕ
 at_rule_length [] = 0
-at_rule_length (m ∷ ms) = suc (if is_semicolon m then 0 else (if is_open m then block_length 0 ms else at_rule_length ms))
+at_rule_length (m ∷ ms) =
+    suc (if is_semicolon m then 0 else (if is_open m then block_length 0 ms else at_rule_length ms))
 
 -- what is read of the front of marks, what is dropped of it, and the rest
 pub record Turn : Type 0 where
@@ -24,7 +26,8 @@ pub record Turn : Type 0 where
   pub rest : List Numbered
 
 abbrev pub rule_turn : ℕ → List Numbered → List Numbered → Option Selectors → Turn
-rule_turn start selectors rest None = record { readings = []; warnings = start ∷ []; rest = drop (block_length 0 rest) rest }
+rule_turn start selectors rest None =
+    record { readings = []; warnings = start ∷ []; rest = drop (block_length 0 rest) rest }
 rule_turn start selectors rest (Some s) = record {
   readings = reading_of start selectors s (before_first is_close rest) ∷ [];
   warnings = warnings_in (before_first is_close rest);
@@ -39,7 +42,8 @@ shown_turn start ms = if list_any is_open ms
 
 unfoldable pub turn_of : Numbered → List Numbered → Turn
 turn_of m ms = if is_white m then record { readings = []; warnings = []; rest = ms }
-    else (if is_at m then record { readings = []; warnings = m.number ∷ []; rest = drop (at_rule_length ms) ms } else shown_turn m.number (m ∷ ms))
+    else (if is_at m then record { readings = []; warnings = m.number ∷ []; rest = drop (at_rule_length ms) ms }
+    else shown_turn m.number (m ∷ ms))
 
 abbrev pub turn_at : List Numbered → Turn
 turn_at [] = record { readings = []; warnings = []; rest = [] }

@@ -1,6 +1,7 @@
--- What cutting looks at: bytes, each with what it means (itself, or nothing where it is quoted), numbered from the front of the text.
-use Rattle.std.specs.Prelude.{ℕ, ◌||◌, Bool, List, [], ◌∷◌, map, suc}
-use lib.Dec.{eqb}
+-- What cutting looks at: bytes, each with what it means (itself, or nothing where it is quoted), numbered from the
+-- front of the text.
+use Rattle.std.specs.Prelude.{ℕ, ◌==◌, Bool, List, [], ◌∷◌, map, suc}
+use Rattle.fx_text.specs.Classes as class
 use Rattle.fx_css_marks.specs.declared.marks.Mark.{Mark}
 use Rattle.fx_css_marks.specs.Marks.{bytes, signs}
 use Rattle.fx_css.specs.declared.parts.Numbered.{Numbered}
@@ -22,12 +23,8 @@ shown part = numbered part.number part.bytes.now part.signs.now
 abbrev pub bytes_of : List Numbered → List ℕ
 bytes_of ns = map (λ m. m.byte) ns
 
--- space, tab, CR and LF
-abbrev pub is_space : ℕ → Bool
-is_space c = eqb c 32 || (eqb c 9 || (eqb c 13 || eqb c 10))
-
 unfoldable pub is_sign : ℕ → Numbered → Bool
-is_sign c m = eqb m.sign c
+is_sign c m = m.sign == c
 
 unfoldable pub is_white : Numbered → Bool
-is_white m = is_space m.sign
+is_white m = class.is_white m.sign

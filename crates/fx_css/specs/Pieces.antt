@@ -2,6 +2,7 @@
 use Rattle.std.specs.Prelude.{ℕ, Bool, ◌||◌, List, [], ◌∷◌, ◌++◌, suc, Option, Some, None, nat_le, slice_get, if◌then◌else◌}
 use Rattle.std.specs.List.{slice_split, flat_map}
 use Rattle.std.specs.Option.{option_and_then, option_map, option_to_list}
+use Rattle.fx_text.specs.Characters.{right_brace, semicolon}
 use Rattle.fx_css_parts.specs.Parts.{declaration_at}
 use Rattle.fx_css_parts.specs.declared.ReadDeclaration.{ReadDeclaration}
 use Rattle.fx_css.specs.declared.parts.Numbered.{Numbered}
@@ -12,7 +13,7 @@ use Rattle.fx_css.specs.declared.declarations.Piece.TheVariants.{Blank, Bad, Goo
 
 -- `;` and `}` end a declaration
 unfoldable pub ends_declaration : Numbered → Bool
-ends_declaration m = is_sign 59 m || is_sign 125 m
+ends_declaration m = is_sign semicolon m || is_sign right_brace m
 
 -- the number of the first mark that is not white
 abbrev pub first_shown : List Numbered → Option ℕ
@@ -59,4 +60,5 @@ warnings_in body = flat_map (λ ms. warned (piece_of ms)) (slice_split ends_decl
 -- where, in their order, declarations and layers past a limit begin, where n declarations stand before these
 abbrev pub past_declarations : ℕ → List Kept → List ℕ
 past_declarations n [] = []
-past_declarations n (k ∷ ks) = (if nat_le 256 n then k.start ∷ [] else []) ++ (option_to_list k.past ++ past_declarations (suc n) ks)
+past_declarations n (k ∷ ks) =
+    (if nat_le 256 n then k.start ∷ [] else []) ++ (option_to_list k.past ++ past_declarations (suc n) ks)

@@ -1,6 +1,7 @@
 //! The sheet of the user agent, built rule by rule.
 //! It stands lowest in the cascade of every scene.
 ghost use Rattle.std.specs.Prelude.{◌≡◌, ◌≤◌, [], ◌∷◌, length, IfOk};
+ghost use Rattle.fx_css_types.specs.Limits.{IsWithinLimits};
 ghost use Rattle.fx_css.specs.Agent.{selector_of, rule_of, declaration_of, text_fill, background, alignment, root_rule, label_rule, button_insets, button_padding, button_rule, state_rule, agent_rules};
 
 use fx_base::{Color, Family, List, Sides, Text, Value};
@@ -242,6 +243,13 @@ fn state_rule(alloc: Global, state: &str, only: Declaration) -> Result<Rule, All
 
 /// The sheet of the user agent.
 pub fn agent_sheet(alloc: Global) -> Result<Sheet, AllocError>
+    ensures rules { IfOk result (λ sheet. sheet ≡ record { rules = agent_rules; warnings = [] }) }
+    ensures within { IfOk result (λ sheet. IsWithinLimits sheet) }
+{
+    built(alloc)
+}
+
+fn built(alloc: Global) -> Result<Sheet, AllocError>
     ensures { IfOk result (λ sheet. sheet ≡ record { rules = agent_rules; warnings = [] }) }
 {
     let mut rules = Vec::new(alloc);

@@ -76,7 +76,8 @@ fn settle(
     declarations: &mut Vec<Declaration>,
     warnings: &mut Vec<usize>,
 ) -> Result<(), Stop>
-    ensures kept { OnOk result (declarations.new.items ≡ declarations.old.items ++ map (λ k. k.declaration) (kept piece)) }
+    ensures kept { OnOk result (declarations.new.items
+        ≡ declarations.old.items ++ map (λ k. k.declaration) (kept piece)) }
     ensures dropped { OnOk result (warnings.new.items ≡ warnings.old.items ++ warned piece) }
     ensures within { OnOk result (past_declarations (length declarations.old.items) (kept piece) ≡ []) }
     ensures limit { IfErr result (IsStop (past_declarations (length declarations.old.items) (kept piece))) }

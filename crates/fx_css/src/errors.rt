@@ -1,17 +1,19 @@
-//! Why a sheet isn't read, and where its reading stops. What is no rule or no declaration is never a reason: it is dropped with a warning.
+//! Why a sheet isn't read, and where its reading stops. What is no rule or no declaration is never a reason: it is
+//! dropped with a warning.
 //! Readers answer it, and loading names the file.
+use fx_base::Position;
 use std::alloc::{AllocError, AllocFailed};
 use thiserror::Error;
 
-/// Why bytes are no sheet that can be held. Places are line and column, both from 1, counted in characters.
+/// Why bytes are no sheet that can be held.
 #[derive(Debug, Drop, Error, PartialEq)]
 pub enum SheetError {
     /// The bytes aren't UTF-8; so many bytes before the first bad one are.
     #[error("not UTF-8 behind {0} bytes")]
     NotUtf8(usize),
     /// The first rule, selector, compound, layer or declaration past its limit. What is dropped doesn't count.
-    #[error("past a limit at {0}:{1}")]
-    Limit(u32, u32),
+    #[error("past a limit at {}:{}", .0.line, .0.column)]
+    Limit(Position),
     #[error("out of memory")]
     Memory,
 }

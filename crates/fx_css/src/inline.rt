@@ -1,8 +1,9 @@
 //! The `style` of a node: its whole text is the body of one rule without selector.
 //! A script or a document gives the text, the cascade takes the rule.
 ghost use Rattle.std.specs.Prelude.{◌≡◌, ◌≤◌, List as Items, [], length, IfOk, IfErr};
-ghost use Rattle.fx_base.specs.declared.geometry.Place.{Place};
+ghost use Rattle.fx_base.specs.declared.positions.Place.{Place};
 ghost use Rattle.fx_css_types.specs.declared.sheets.Rule.{Rule};
+ghost use Rattle.fx_css_types.specs.Limits.{IsWithinLimits};
 ghost use Rattle.fx_css.specs.Numbered.{shown};
 ghost use Rattle.fx_css.specs.Sheets.{AreStyle, IsStyleText, HasStyleFault, IsGiven};
 
@@ -35,9 +36,11 @@ pub fn read_inline(alloc: Global, text: &str) -> Result<Sheet, SheetError>
     requires { length text.now ≤ 4194304 }
     ensures read { IfOk result (λ sheet. IsStyleText text.now sheet.rules sheet.warnings []) }
     ensures fault { IfErr result (HasStyleFault text.now) }
+    ensures within { IfOk result (λ sheet. IsWithinLimits sheet) }
 
     // The other way round: every text is read, and in one way.
-    ensures exact { (rules : Items Rule) (warnings past : Items Place) → IsStyleText text.now rules warnings past → IsGiven rules warnings past result }
+    ensures exact { (rules : Items Rule) (warnings past : Items Place) → IsStyleText text.now rules warnings past
+        → IsGiven rules warnings past result }
 {
     read_as(alloc, Form::Style, text.as_bytes(), 0)
 }

@@ -2,8 +2,8 @@
 //! Rules and declarations are cut off from them.
 ghost use Rattle.std.specs.Prelude.{◌≡◌, ◌<◌, ◌+◌, ◌^◌, length};
 
-/// A byte, what it means to the cutting (itself, or nothing where it is quoted), and its number in the text, in which each
-/// comment is one space.
+/// A byte, what it means to the cutting (itself, or nothing where it is quoted), and its number in the text, in which
+/// each comment is one space.
 #[derive(Clone, Copy)]
 pub struct Numbered {
     pub byte: u8,

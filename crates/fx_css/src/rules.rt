@@ -36,10 +36,14 @@ fn read_rule(
     body: Part<'_>,
     draft: &mut Draft,
 ) -> Result<(), Stop>
-    ensures rules { OnOk result (draft.new.rules.items ≡ draft.old.rules.items ++ ((reading_of start (shown heading.entry) selectors (shown body.entry)).rule ∷ [])) }
-    ensures warnings { OnOk result (draft.new.warnings.items ≡ draft.old.warnings.items ++ warnings_in (shown body.entry)) }
-    ensures within { OnOk result (past_rules (length draft.old.rules.items) (reading_of start (shown heading.entry) selectors (shown body.entry) ∷ []) ≡ []) }
-    ensures limit { IfErr result (IsStop (past_rules (length draft.old.rules.items) (reading_of start (shown heading.entry) selectors (shown body.entry) ∷ []))) }
+    ensures rules { OnOk result (draft.new.rules.items ≡ draft.old.rules.items
+        ++ ((reading_of start (shown heading.entry) selectors (shown body.entry)).rule ∷ [])) }
+    ensures warnings { OnOk result (draft.new.warnings.items
+        ≡ draft.old.warnings.items ++ warnings_in (shown body.entry)) }
+    ensures within { OnOk result (past_rules (length draft.old.rules.items)
+        (reading_of start (shown heading.entry) selectors (shown body.entry) ∷ []) ≡ []) }
+    ensures limit { IfErr result (IsStop (past_rules (length draft.old.rules.items)
+        (reading_of start (shown heading.entry) selectors (shown body.entry) ∷ []))) }
 {
     if draft.rules.len() >= RULE_LIMIT {
         return Err(Stop::Past(start));
@@ -59,10 +63,14 @@ fn read_rule(
 #[tactic(auto, unfolding(crate::specs::Cutting::shown_turn, crate::specs::Rules::selected))]
 fn read_shown(alloc: Global, start: usize, part: Part<'_>, draft: &mut Draft) -> Result<usize, Stop>
     ensures rest { IfOk result (λ taken. drop taken (shown part.entry) ≡ (shown_turn start (shown part.entry)).rest) }
-    ensures rules { OnOk result (draft.new.rules.items ≡ draft.old.rules.items ++ map (λ r. r.rule) (shown_turn start (shown part.entry)).readings) }
-    ensures warnings { OnOk result (draft.new.warnings.items ≡ draft.old.warnings.items ++ (shown_turn start (shown part.entry)).warnings) }
-    ensures within { OnOk result (past_rules (length draft.old.rules.items) (shown_turn start (shown part.entry)).readings ≡ []) }
-    ensures limit { IfErr result (IsStop (past_rules (length draft.old.rules.items) (shown_turn start (shown part.entry)).readings)) }
+    ensures rules { OnOk result (draft.new.rules.items ≡ draft.old.rules.items
+        ++ map (λ r. r.rule) (shown_turn start (shown part.entry)).readings) }
+    ensures warnings { OnOk result (draft.new.warnings.items ≡ draft.old.warnings.items
+        ++ (shown_turn start (shown part.entry)).warnings) }
+    ensures within { OnOk result (past_rules (length draft.old.rules.items)
+        (shown_turn start (shown part.entry)).readings ≡ []) }
+    ensures limit { IfErr result (IsStop (past_rules (length draft.old.rules.items)
+        (shown_turn start (shown part.entry)).readings)) }
 {
     let at = opening(part);
     if at == part.len() {
@@ -84,10 +92,14 @@ fn read_shown(alloc: Global, start: usize, part: Part<'_>, draft: &mut Draft) ->
 #[tactic(auto, unfolding(crate::specs::Cutting::turn_of))]
 pub fn read_turn(alloc: Global, part: Part<'_>, draft: &mut Draft) -> Result<usize, Stop>
     ensures rest { IfOk result (λ taken. drop taken (shown part.entry) ≡ (turn_at (shown part.entry)).rest) }
-    ensures rules { OnOk result (draft.new.rules.items ≡ draft.old.rules.items ++ map (λ r. r.rule) (turn_at (shown part.entry)).readings) }
-    ensures warnings { OnOk result (draft.new.warnings.items ≡ draft.old.warnings.items ++ (turn_at (shown part.entry)).warnings) }
-    ensures within { OnOk result (past_rules (length draft.old.rules.items) (turn_at (shown part.entry)).readings ≡ []) }
-    ensures limit { IfErr result (IsStop (past_rules (length draft.old.rules.items) (turn_at (shown part.entry)).readings)) }
+    ensures rules { OnOk result (draft.new.rules.items ≡ draft.old.rules.items
+        ++ map (λ r. r.rule) (turn_at (shown part.entry)).readings) }
+    ensures warnings { OnOk result (draft.new.warnings.items ≡ draft.old.warnings.items
+        ++ (turn_at (shown part.entry)).warnings) }
+    ensures within { OnOk result (past_rules (length draft.old.rules.items)
+        (turn_at (shown part.entry)).readings ≡ []) }
+    ensures limit { IfErr result (IsStop (past_rules (length draft.old.rules.items)
+        (turn_at (shown part.entry)).readings)) }
 {
     let Some((first, more)) = part.split_first() else {
         return Ok(0);

@@ -5,6 +5,7 @@ ghost use Rattle.fx_css.specs.Numbered.{numbered, shown, bytes_of, is_sign, is_w
 ghost use Rattle.fx_css.specs.Pieces.{first_shown, number_at};
 
 use crate::parts::{Numbered, Part};
+use fx_text::is_white;
 
 impl Numbered {
     /// Whether it means this byte.
@@ -20,7 +21,7 @@ impl Numbered {
     pub fn is_white(self) -> bool
         ensures { result ≡ is_white self }
     {
-        matches!(self.sign, b' ' | b'\t' | b'\r' | b'\n')
+        is_white(self.sign)
     }
 }
 

@@ -26,7 +26,8 @@ fn checksum(text: &str) -> u32 {
     sum
 }
 
-/// The numbers of rules, selectors and declarations, a checksum of the rules as they are written, and the places of warnings.
+/// The numbers of rules, selectors and declarations, a checksum of the rules as they are written, and the places of
+/// warnings.
 fn counts(alloc: Global, sheet: &Sheet) -> Result<String, AllocError> {
     let mut selectors = 0usize;
     let mut declarations = 0usize;
@@ -38,8 +39,8 @@ fn counts(alloc: Global, sheet: &Sheet) -> Result<String, AllocError> {
     let sum = checksum(written(alloc, sheet)?.as_str());
     let mut text = format!(in alloc; "{rules} {selectors} {declarations} {sum}")?;
     for place in sheet.warnings.as_slice() {
-        let line = place.line;
-        let column = place.column;
+        let line = place.position.line;
+        let column = place.position.column;
         let warning = format!(in alloc; " {line}:{column}")?;
         text.push_str(warning.as_str())?;
     }
@@ -102,7 +103,8 @@ fn drops_what_is_bad(rt: HostRuntime) -> Result<(), Fail> {
     Ok(())
 }
 
-/// Sheets with characters of more bytes than one, each behind its expected answer. A sign that isn't in them separates all.
+/// Sheets with characters of more bytes than one, each behind its expected answer. A sign that isn't in them separates
+/// all.
 const WIDE: &str =
     "1 1 0 1247918123 1:1 2:6 2:12 2:26|\u{e9} { -fx-padding: 1 }\n.a { \u{e9}: 1; -fx-x: \"\u{e9}}\" ; -fx-padding: \u{fc} 1 }|1 1 0 1247918123 2:11 2:19|/* \u{e9}\n\u{fc} */ .a { \"\u{fc}\" \u{e9} } \u{e9}|1 1 0 1247918123 1:1 1:13 1:15|\"\u{fc}}\"\u{e9}{ } .a{\u{e9};\u{e9}}|1 1 0 1247918123 1:10|.a{}/*\u{e9}*/\u{e9}|0 0 0 0 1:1|\u{feff}.a{}|1 1 0 1247918123 1:11 1:18|.a{ /*\u{e9}*/ b:\"\u{20ac}\";\t\u{20ac}\r:\r\n\u{20ac}}";
 

@@ -19,7 +19,7 @@ use Rattle.fx_select.specs.Hits.{bare_weight, candidate, hit_in, hit_of, hits_of
 use Rattle.fx_select.specs.Keys.{Key, ByClass, ByKind, InRest, is_same_key, key_of}
 use Rattle.fx_select.specs.Listing.{IsListing, Listing, each, entries, listed, rule_entries, sheet_entries, under_key}
 use Rattle.fx_select.specs.Matching.{matches_chain}
-use Rattle.fx_select.specs.Specificity.{specificity_of}
+use Rattle.fx_css_types.specs.Specificity.{specificity_of}
 use Rattle.fx_select.specs.Strongest.{RuleAt, greatest, is_of_rule, matched_of, sheet_rules, strongest, strongest_of, weights_of}
 use Rattle.fx_select.proofs.ChainLemmas.{upward-some}
 use Rattle.fx_select.proofs.HitLemmas.{filter_map-one}

@@ -5,7 +5,8 @@ use Rattle.fx_kinds.specs.declared.facts.StyleFacts.{StyleFacts}
 -- each parent stands before its children
 abbrev pub ParentsStandBefore : List StyleFacts → Type 0
 ParentsStandBefore facts =
-    (place parent : ℕ) (node : StyleFacts) → slice_get facts place ≡ Some node → node.parent ≡ Some parent → parent < place
+    (place parent : ℕ) (node : StyleFacts) → slice_get facts place ≡ Some node → node.parent ≡ Some parent
+    → parent < place
 
 -- a node, and what stands above it by its parent
 abbrev pub onto_parents : Option StyleFacts → (Option ℕ → List StyleFacts) → List StyleFacts

@@ -13,7 +13,7 @@ use Rattle.fx_select.specs.declared.lists.SelectorAt.{SelectorAt}
 use Rattle.fx_select.specs.Keys.{Key, ById, ByClass, ByKind, InRest}
 use Rattle.fx_select.specs.Listing.{Listing, listed}
 use Rattle.fx_select.specs.Matching.{matches_chain}
-use Rattle.fx_select.specs.Specificity.{specificity_of}
+use Rattle.fx_css_types.specs.Specificity.{specificity_of}
 
 abbrev pub is_place : Option ℕ → ℕ → Bool
 is_place None place = false
@@ -56,7 +56,8 @@ candidate sheet rule origin weight = record { sheet = sheet; rule = rule; specif
 unfoldable pub hit_in : List StyleFacts → SelectorAt → SheetAt → Option Candidate
 hit_in nodes at sheet =
     option_map (candidate at.sheet at.rule sheet.origin)
-    (option_and_then (λ (r : Rule). weight_at nodes at.sheet r.selectors at.selector) (slice_get sheet.sheet.rules at.rule))
+    (option_and_then (λ (r : Rule). weight_at nodes at.sheet r.selectors at.selector)
+    (slice_get sheet.sheet.rules at.rule))
 
 -- the rule of a listed selector with the selector's specificity, where it is there in these sheets and matches
 unfoldable pub hit_of : List SheetAt → List StyleFacts → SelectorAt → Option Candidate

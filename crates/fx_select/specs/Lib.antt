@@ -6,6 +6,4 @@ pub mod Listing
 pub mod Matching
 pub mod Merged
 pub mod Named
-pub mod Short
-pub mod Specificity
 pub mod Strongest

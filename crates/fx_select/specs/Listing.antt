@@ -32,7 +32,8 @@ each {X} give xs = flat_map (λ (e : ℕ × X). give e.0 e.1) (enumerate_from 0 
 -- each selector of a rule once, under its key
 abbrev pub selector_entries : ℕ → ℕ → List Selector → List (Key × SelectorAt)
 selector_entries sheet rule selectors =
-    each (λ (place : ℕ) (s : Selector). (key_of s, record { sheet = sheet; rule = rule; selector = Some place }) ∷ []) selectors
+    each (λ (place : ℕ) (s : Selector). (key_of s, record { sheet = sheet; rule = rule; selector = Some place }) ∷ [])
+    selectors
 
 -- a rule without selector stands in the rest
 abbrev pub rule_entries : ℕ → ℕ → List Selector → List (Key × SelectorAt)

@@ -1,5 +1,5 @@
--- Matching of selectors (Selectors Level 3, "Combinators" and "Simple selectors"): by recursion on the compounds from the
--- last, over a node and its ancestors.
+-- Matching of selectors (Selectors Level 3, "Combinators" and "Simple selectors"): by recursion on the compounds from
+-- the last, over a node and its ancestors.
 use Rattle.std.specs.Prelude.{ℕ, ◌≡◌, Bool, true, false, ◌&&◌, ◌||◌, List, [], ◌∷◌, reverse, Option, Some, None}
 use Rattle.std.specs.List.{list_any, list_all}
 use Rattle.std.specs.Str.{bytes_eq}
@@ -35,8 +35,8 @@ unfoldable pub somewhere : (List StyleFacts → Bool) → List StyleFacts → Bo
 somewhere holds [] = false
 somewhere holds (node ∷ above) = holds (node ∷ above) || somewhere holds above
 
--- what stands before a compound matches by its combinator: at the parent, or at some ancestor; nothing stands before the
--- first compound, which has no combinator
+-- what stands before a compound matches by its combinator: at the parent, or at some ancestor; nothing stands before
+-- the first compound, which has no combinator
 abbrev pub matches_before : Option Combinator → (List StyleFacts → Bool) → List StyleFacts → Bool
 matches_before None before above = true
 matches_before (Some Child) before above = before above

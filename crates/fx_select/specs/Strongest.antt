@@ -19,7 +19,8 @@ pub record RuleAt : Type 0 where
 
 -- all rules of these sheets in their order
 abbrev pub sheet_rules : ℕ → SheetAt → List RuleAt
-sheet_rules place s = each (λ (at : ℕ) (r : Rule). record { sheet = place; rule = at; origin = s.origin } ∷ []) s.sheet.rules
+sheet_rules place s =
+    each (λ (at : ℕ) (r : Rule). record { sheet = place; rule = at; origin = s.origin } ∷ []) s.sheet.rules
 
 abbrev pub rules_of : List SheetAt → List RuleAt
 rules_of sheets = each sheet_rules sheets
@@ -27,7 +28,8 @@ rules_of sheets = each sheet_rules sheets
 -- by ids; then by classes and pseudo-classes; then by types
 abbrev pub is_weaker : ℕ × ℕ × ℕ → ℕ × ℕ × ℕ → Bool
 is_weaker one other =
-    nat_lt one.0 other.0 || ((one.0 == other.0) && (nat_lt one.1 other.1 || ((one.1 == other.1) && nat_lt one.2 other.2)))
+    nat_lt one.0 other.0 || ((one.0 == other.0)
+    && (nat_lt one.1 other.1 || ((one.1 == other.1) && nat_lt one.2 other.2)))
 
 abbrev pub greater : ℕ × ℕ × ℕ → ℕ × ℕ × ℕ → ℕ × ℕ × ℕ
 greater one other = if is_weaker one other then other else one

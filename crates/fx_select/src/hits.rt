@@ -5,14 +5,14 @@ ghost use Rattle.std.specs.List.{filter_map, list_any};
 ghost use Rattle.std.specs.Option.{option_to_list};
 ghost use Rattle.fx_select.specs.Chains.{ParentsStandBefore, chain};
 ghost use Rattle.fx_select.specs.Hits.{bare_weight, hit_in, hit_of, is_inline, is_own, is_visible, lists_sheet, selector_weight, weight_at};
-ghost use Rattle.fx_select.specs.Short.{AreShort, AreShortRules, AreShortSelectors};
-ghost use Rattle.fx_select.specs.Specificity.{part_count};
+ghost use Rattle.fx_css_types.specs.Limits.{AreShort, AreShortRules, AreShortSelectors};
+ghost use Rattle.fx_css_types.specs.Specificity.{part_count};
 
 use crate::lists::SelectorAt;
 use crate::matching::{matches, node_at};
 use crate::weights::specificity;
-use fx_kinds::StyleFacts;
 use fx_css_types::{Candidate, Selector, SheetAt};
+use fx_kinds::StyleFacts;
 use std::alloc::AllocError;
 
 /// Puts those of the selectors behind the hits that match the node at this place.
@@ -26,7 +26,8 @@ pub fn push_hits(
     requires before { ParentsStandBefore facts.now }
     requires there { at < length facts.now }
     requires short { AreShort sheets.now }
-    ensures { OnOk result (hits.new.items ≡ hits.old.items ++ filter_map (hit_of sheets.now (chain facts.now at)) listed.now) }
+    ensures { OnOk result (hits.new.items
+        ≡ hits.old.items ++ filter_map (hit_of sheets.now (chain facts.now at)) listed.now) }
 {
     for selector in listed {
         push_hit(hits, hit_of(*selector, sheets, facts, at))?;

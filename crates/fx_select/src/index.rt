@@ -7,7 +7,7 @@ ghost use Rattle.fx_css_types.specs.declared.sheets.SheetAt.{SheetAt as SheetVal
 ghost use Rattle.fx_select.specs.Chains.{ParentsStandBefore, chain};
 ghost use Rattle.fx_select.specs.Hits.{hit_of, hits_of};
 ghost use Rattle.fx_select.specs.Keys.{ByClass, Key, InRest, key_of, key_of_compound};
-ghost use Rattle.fx_select.specs.Short.{AreShort};
+ghost use Rattle.fx_css_types.specs.Limits.{AreShort};
 ghost use Rattle.fx_select.specs.Strongest.{matched_of};
 ghost use Rattle.fx_select.specs.AllMatching.{matching_of};
 ghost use Rattle.fx_select.specs.Listing.{IsListing, Listing, listed, rule_entries, selector_entries, sheet_entries, under_key, with_added};
@@ -17,8 +17,8 @@ use crate::lists::{NamedLists, SelectorAt};
 use crate::matching::node_at;
 use crate::strongest::{sort_hits, strongest};
 use fx_base::Text;
-use fx_kinds::{StyleFacts, name_of};
 use fx_css_types::{Candidate, Compound, Rule, Selector, SheetAt};
+use fx_kinds::{StyleFacts, name_of};
 use std::alloc::{AllocError, Global};
 use std::marker::Model;
 
@@ -40,8 +40,8 @@ impl Model for RuleIndex {
     ghost view = { λ i. record { ids = i.ids; classes = i.classes; kinds = i.kinds; rest = i.rest.items } };
 }
 
-/// Over the sheets that an index was built of, the rules that it gives are all that match: those of every sheet that the
-/// node sees, in their order, each once with the greatest specificity of its selectors that match.
+/// Over the sheets that an index was built of, the rules that it gives are all that match: those of every sheet that
+/// the node sees, in their order, each once with the greatest specificity of its selectors that match.
 pub fn all_matched()
     ensures { (sheets : List SheetValue) (listing : Listing) (facts : List StyleFactsValue) (at : ℕ)
         → ParentsStandBefore facts → at < length facts → IsListing sheets listing
@@ -49,8 +49,9 @@ pub fn all_matched()
 {}
 
 impl RuleIndex {
-    /// The rules that match the node at this place, in order of sheet and rule, each once with the greatest specificity of
-    /// its selectors that match. `sheets` are those that the index was built of.
+    /// The rules that match the node at this place, in order of sheet and rule, each once with the greatest specificity
+    /// of its selectors that match. `sheets` are those that the index was built of. Sheets within their limits are short
+    /// (`fx_css_types::sheets_within_limits_are_short`).
     pub fn matched(
         &self,
         alloc: Global,
@@ -113,7 +114,8 @@ impl RuleIndex {
         requires there { at < length facts.now }
         requires short { AreShort sheets.now }
         ensures { OnOk result (hits.new.items ≡ hits.old.items
-            ++ filter_map (hit_of sheets.now (chain facts.now at)) (flat_map (listed self.now) (map ByClass classes.now))) }
+            ++ filter_map (hit_of sheets.now (chain facts.now at))
+            (flat_map (listed self.now) (map ByClass classes.now))) }
     {
         for class in classes {
             push_hits(hits, self.classes.under(class.as_str()), sheets, facts, at)?;
@@ -146,7 +148,8 @@ impl RuleIndex {
     }
 
     fn list_sheet(&mut self, alloc: Global, sheet: usize, rules: &[Rule]) -> Result<(), AllocError>
-        ensures { OnOk result ((key : Key) → listed self.new key ≡ listed self.old key ++ under_key key (sheet_entries sheet rules.now)) }
+        ensures { OnOk result ((key : Key) → listed self.new key
+            ≡ listed self.old key ++ under_key key (sheet_entries sheet rules.now)) }
     {
         for (place, rule) in rules.iter().enumerate() {
             self.list_rule(alloc, sheet, place, rule.selectors.as_slice())?;
@@ -161,7 +164,8 @@ impl RuleIndex {
         rule: usize,
         selectors: &[Selector],
     ) -> Result<(), AllocError>
-        ensures { OnOk result ((key : Key) → listed self.new key ≡ listed self.old key ++ under_key key (rule_entries sheet rule selectors.now)) }
+        ensures { OnOk result ((key : Key) → listed self.new key
+            ≡ listed self.old key ++ under_key key (rule_entries sheet rule selectors.now)) }
     {
         if selectors.is_empty() {
             return self.list_rest(SelectorAt {
@@ -180,7 +184,8 @@ impl RuleIndex {
         rule: usize,
         selectors: &[Selector],
     ) -> Result<(), AllocError>
-        ensures { OnOk result ((key : Key) → listed self.new key ≡ listed self.old key ++ under_key key (selector_entries sheet rule selectors.now)) }
+        ensures { OnOk result ((key : Key) → listed self.new key
+            ≡ listed self.old key ++ under_key key (selector_entries sheet rule selectors.now)) }
     {
         for (place, selector) in selectors.iter().enumerate() {
             let at = SelectorAt {
@@ -199,7 +204,8 @@ impl RuleIndex {
         selector: &Selector,
         at: SelectorAt,
     ) -> Result<(), AllocError>
-        ensures { OnOk result ((key : Key) → listed self.new key ≡ with_added (listed self.old) (key_of selector.now) at key) }
+        ensures { OnOk result ((key : Key) → listed self.new key
+            ≡ with_added (listed self.old) (key_of selector.now) at key) }
     {
         match selector.compounds.as_slice().split_last() {
             Some((last, _)) => self.list_compound(alloc, last, at),
@@ -213,7 +219,8 @@ impl RuleIndex {
         last: &Compound,
         at: SelectorAt,
     ) -> Result<(), AllocError>
-        ensures { OnOk result ((key : Key) → listed self.new key ≡ with_added (listed self.old) (key_of_compound last.now) at key) }
+        ensures { OnOk result ((key : Key) → listed self.new key
+            ≡ with_added (listed self.old) (key_of_compound last.now) at key) }
     {
         if let Some(id) = last.ids.as_slice().first() {
             return self.ids.add(alloc, id.as_str(), at);

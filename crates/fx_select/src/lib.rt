@@ -1,5 +1,5 @@
-//! Selectors (Selectors Level 3) over the facts of nodes: which nodes a selector matches, how specific it is, and an index
-//! that finds the rules of a list of sheets that match a node. The cascade goes over what is found here.
+//! Selectors (Selectors Level 3) over the facts of nodes: which nodes a selector matches, how specific it is, and an
+//! index that finds the rules of a list of sheets that match a node. The cascade goes over what is found here.
 #![tactic(auto)]
 
 mod hits;

@@ -8,8 +8,8 @@ ghost use Rattle.fx_select.specs.Chains.{ParentsStandBefore, chain, upward};
 ghost use Rattle.fx_select.specs.Matching.{IsVerdict, fits, fits_kind, has_text, matches_before, matches_chain, matches_up, somewhere};
 
 use fx_base::Text;
-use fx_kinds::{Class, StyleFacts, name_of};
 use fx_css_types::{Combinator, Compound, Selector};
+use fx_kinds::{Class, StyleFacts, name_of};
 
 /// Does the selector match the node at this place? A selector without compounds matches nothing.
 pub fn matches(selector: &Selector, facts: &[StyleFacts], at: usize) -> bool
@@ -31,8 +31,8 @@ enum Match {
     Here,
     /// They don't match there.
     NotHere,
-    /// They match neither there nor at any ancestor: some descendant step ran out of ancestors, of which a start further
-    /// up has fewer.
+    /// They match neither there nor at any ancestor: some descendant step ran out of ancestors, of which a start
+    /// further up has fewer.
     Nowhere,
 }
 

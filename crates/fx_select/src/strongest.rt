@@ -41,7 +41,8 @@ fn merge(
     current: Candidate,
     hit: Candidate,
 ) -> Result<Candidate, AllocError>
-    ensures { IfOk result (λ next. (more : Items Hit) → found.new.items ++ merged next more ≡ found.old.items ++ merged current (hit ∷ more)) }
+    ensures { IfOk result (λ next. (more : Items Hit) → found.new.items ++ merged next more
+        ≡ found.old.items ++ merged current (hit ∷ more)) }
 {
     if is_same_rule(current, hit) {
         return Ok(raised(current, hit));

@@ -1,14 +1,14 @@
-//! Selectors against trees of nodes. What is expected comes from the reference player, but for the specificities of the tree
-//! of six nodes, which are counted by hand.
+//! Selectors against trees of nodes. What is expected comes from the reference player, but for the specificities of the
+//! tree of six nodes, which are counted by hand.
 ghost use Rattle.std.specs.Prelude.{IsTrue, ◌≤◌};
 ghost use Rattle.fx_select.specs.Chains.{ParentsStandBefore};
-ghost use Rattle.fx_select.specs.Short.{AreShort, AreShortRules, AreShortSelectors};
-ghost use Rattle.fx_select.specs.Specificity.{part_count};
+ghost use Rattle.fx_css_types.specs.Limits.{AreShort, AreShortRules, AreShortSelectors};
+ghost use Rattle.fx_css_types.specs.Specificity.{part_count};
 
 use crate::*;
 use fx_base::{List, NodeKey, Text};
-use fx_kinds::{Class, StyleFacts, class_of};
 use fx_css_types::{Candidate, Combinator, Compound, Rule, Selector, Sheet, SheetAt, SheetOrigin};
+use fx_kinds::{Class, StyleFacts, class_of};
 use std::alloc::Global;
 use std::process::Abort;
 use std::test::Fail;

@@ -1,7 +1,7 @@
 //! How specific a selector is (Selectors Level 3, "Calculating a selector's specificity").
 //! Candidates carry it to the cascade.
 ghost use Rattle.std.specs.Prelude.{◌≡◌, ◌≤◌, ◌+◌};
-ghost use Rattle.fx_select.specs.Specificity.{class_count, id_count, part_count, specificity_of, type_count};
+ghost use Rattle.fx_css_types.specs.Specificity.{class_count, id_count, part_count, specificity_of, type_count};
 
 use fx_css_types::{Compound, Selector};
 

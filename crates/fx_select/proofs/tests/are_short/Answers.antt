@@ -3,7 +3,7 @@ use Rattle.std.specs.Prelude.{IsTrue}
 use Rattle.std.proofs.lemmas.List.{take_all}
 use Rattle.std.proofs.lemmas.List.Elements.{All-more}
 use Rattle.fx_css_types.specs.declared.sheets.SheetAt.{SheetAt}
-use Rattle.fx_select.specs.Short.{AreShortRules, AreShort}
+use Rattle.fx_css_types.specs.Limits.{AreShortRules, AreShort}
 use Rattle.fx_select.proofs.tests.are_short.Goals as goal
 
 pub loop-sheet-preserved : goal.loop-sheet-preserved

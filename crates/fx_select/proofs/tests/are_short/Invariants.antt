@@ -1,6 +1,6 @@
 -- those so far are short
 use Rattle.std.proofs.Common.{take}
-use Rattle.fx_select.specs.Short.{AreShort}
+use Rattle.fx_css_types.specs.Limits.{AreShort}
 use Rattle.fx_select.proofs.tests.are_short.Given as goal
 
 abbrev pub invariant-loop-sheet : goal.invariant-loop-sheet

@@ -1,6 +1,6 @@
 -- the parts of the compounds so far are counted
 use Rattle.std.proofs.Common.{◌+◌, ◌≤◌, take}
-use Rattle.fx_select.specs.Specificity.{class_count, id_count, type_count}
+use Rattle.fx_css_types.specs.Specificity.{class_count, id_count, type_count}
 use Rattle.fx_select.proofs.tests.is_short.Given as goal
 
 abbrev pub invariant-loop-compound : goal.invariant-loop-compound

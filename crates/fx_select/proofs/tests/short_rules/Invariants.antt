@@ -1,6 +1,6 @@
 -- those so far are short
 use Rattle.std.proofs.Common.{take}
-use Rattle.fx_select.specs.Short.{AreShortRules}
+use Rattle.fx_css_types.specs.Limits.{AreShortRules}
 use Rattle.fx_select.proofs.tests.short_rules.Given as goal
 
 abbrev pub invariant-loop-rule : goal.invariant-loop-rule

@@ -3,8 +3,8 @@ use Rattle.std.specs.Prelude.{IsTrue}
 use Rattle.std.proofs.lemmas.List.{take_all}
 use Rattle.std.proofs.lemmas.List.Elements.{All-more}
 use Rattle.fx_css_types.specs.declared.selectors.Selector.{Selector}
-use Rattle.fx_select.specs.Specificity.{part_count}
-use Rattle.fx_select.specs.Short.{AreShortSelectors}
+use Rattle.fx_css_types.specs.Specificity.{part_count}
+use Rattle.fx_css_types.specs.Limits.{AreShortSelectors}
 use Rattle.fx_select.proofs.tests.short_selectors.Goals as goal
 
 pub loop-selector-preserved : goal.loop-selector-preserved

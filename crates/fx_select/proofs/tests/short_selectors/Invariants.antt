@@ -1,6 +1,6 @@
 -- those so far are short
 use Rattle.std.proofs.Common.{take}
-use Rattle.fx_select.specs.Short.{AreShortSelectors}
+use Rattle.fx_css_types.specs.Limits.{AreShortSelectors}
 use Rattle.fx_select.proofs.tests.short_selectors.Given as goal
 
 abbrev pub invariant-loop-selector : goal.invariant-loop-selector

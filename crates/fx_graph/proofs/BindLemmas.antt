@@ -9,13 +9,14 @@ use Rattle.fx_expr.specs.declared.tree.Expr.{Expr}
 use Rattle.fx_expr.specs.Tree.{tree, is_within}
 use Rattle.fx_graph_model.specs.declared.entries.Entry.{Entry}
 use Rattle.fx_graph_model.specs.declared.errors.GraphError.TheVariants.{Unknown, Cycle}
-use Rattle.fx_graph_model.specs.Numbers.{numbers, name_of}
+use Rattle.fx_base.specs.Names.{numbers, name_of}
 use Rattle.fx_graph_model.specs.Uses.{Ranked, entry_of, uses, unknown_in, leads}
 use Rattle.fx_graph_model.specs.Unread.{marked, unmarked, after_marking}
 use Rattle.fx_graph_model.specs.Marking.{MarksAll}
 use Rattle.fx_graph_model.specs.Users.{Row, Mirrors}
 use Rattle.fx_graph_model.specs.Changes.{bound_to, with_binding}
-use Rattle.fx_graph_model.specs.Refusals.{kind_at, unknown_name, refused_first, fit_refusal, operand_count}
+use Rattle.fx_base.specs.Answers.{refused_first}
+use Rattle.fx_graph_model.specs.Refusals.{kind_at, unknown_name, fit_refusal, operand_count}
 use Rattle.fx_graph_model.proofs.Members.{contains_first, contains_later, contains_map, map_contains}
 use Rattle.fx_graph_model.proofs.Flags.{same_test, unmarked_most}
 use Rattle.fx_graph_model.proofs.MarkSteps.{marks_none, marks_more}

@@ -9,7 +9,7 @@ use Rattle.fx_graph_model.specs.declared.entries.Entry.{Entry}
 use Rattle.fx_graph_model.specs.declared.errors.GraphError.{GraphError}
 use Rattle.fx_graph_model.specs.declared.errors.GraphError.TheVariants.{Unknown}
 use Rattle.fx_graph_model.specs.Changes.{forget_all, clear_all}
-use Rattle.fx_graph_model.specs.Numbers.{numbers}
+use Rattle.fx_base.specs.Names.{numbers}
 use Rattle.fx_graph_model.specs.Refusals.{IsFree, IsForgetRefusal, unknown_name, operand_count}
 use Rattle.fx_graph_model.specs.Sound.{IsSettled}
 use Rattle.fx_graph_model.specs.Users.{Row, users_of, Mirrors}

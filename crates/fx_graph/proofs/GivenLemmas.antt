@@ -7,7 +7,7 @@ use Rattle.fx_base.specs.declared.keys.Name.{Name}
 use Rattle.fx_base.specs.declared.values.Value.{Value}
 use Rattle.fx_expr.specs.Meaning.{no_value}
 use Rattle.fx_graph_model.specs.declared.entries.Entry.{Entry}
-use Rattle.fx_graph_model.specs.Numbers.{name_of}
+use Rattle.fx_base.specs.Names.{name_of}
 use Rattle.fx_graph_model.specs.Uses.{entry_of, Ranked}
 use Rattle.fx_graph_model.specs.Equality.{same_value}
 use Rattle.fx_graph_model.specs.Eager.{value_of_definition, eager}

@@ -11,7 +11,7 @@ use Rattle.fx_graph_model.proofs.Members.{map_contains}
 use Rattle.fx_base.specs.declared.keys.Name.{Name}
 use Rattle.fx_base.specs.declared.values.Value.{Value}
 use Rattle.fx_graph_model.specs.declared.entries.Entry.{Entry}
-use Rattle.fx_graph_model.specs.Numbers.{numbers}
+use Rattle.fx_base.specs.Names.{numbers}
 use Rattle.fx_graph_model.specs.Eager.{eager}
 use Rattle.fx_graph_model.specs.Unread.{marked, after_reading, after_reads, bound_unread, evaluations, evaluations_of, is_reached, IsClosed}
 use Rattle.fx_graph_model.specs.Sound.{IsSettled}

@@ -7,7 +7,7 @@ use Rattle.fx_base.specs.declared.values.Value.{Value}
 use Rattle.fx_graph_model.specs.declared.entries.Entry.{Entry}
 use Rattle.fx_graph_model.specs.declared.entries.Definition.{Definition}
 use Rattle.fx_graph_model.specs.declared.entries.Definition.TheVariants.{Base, Bound, Forgotten}
-use Rattle.fx_graph_model.specs.Numbers.{numbers, name_of}
+use Rattle.fx_base.specs.Names.{numbers, name_of}
 use Rattle.fx_graph_model.specs.Uses.{Ranked, nothing, entry_of, operands_in, uses, bound_in}
 use Rattle.fx_graph_model.specs.Sound.{AreSound, HasKind}
 use Rattle.fx_graph_model.specs.Eager.{eager}

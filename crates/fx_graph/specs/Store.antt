@@ -4,7 +4,7 @@ use Rattle.fx_base.specs.declared.keys.Name.{Name}
 use Rattle.fx_base.specs.declared.values.Value.{Value}
 use Rattle.fx_graph_model.specs.declared.entries.Entry.{Entry}
 use Rattle.fx_graph_model.specs.declared.entries.Origin.{Origin}
-use Rattle.fx_graph_model.specs.Numbers.{numbers}
+use Rattle.fx_base.specs.Names.{numbers}
 use Rattle.fx_graph_model.specs.Uses.{Ranked, entry_of, unknown_in}
 use Rattle.fx_graph_model.specs.Sound.{AreSound, IsSettled}
 use Rattle.fx_graph_model.specs.Users.{Row, Mirrors}

@@ -2,14 +2,14 @@
 //! The refusals and the graph's readers stand on them.
 ghost use Rattle.std.specs.Prelude.{◌≡◌, ◌<◌, false, length, IfOk};
 ghost use Rattle.fx_graph_model.specs.declared.entries.Definition.TheVariants as defined;
-ghost use Rattle.fx_graph_model.specs.Uses.{is_gone, bound_in, entry_of, unknown_in};
+ghost use Rattle.fx_graph_model.specs.Uses.{is_binding, is_gone, bound_in, entry_of, unknown_in};
 ghost use Rattle.fx_graph_model.specs.Eager.{eager};
 ghost use Rattle.fx_graph_model.specs.Unread.{marked};
 ghost use Rattle.fx_graph_model.specs.Refusals.{read_only_in, unknown_name};
 ghost use Rattle.fx_graph.specs.Store.{origin_in, origin_if};
 
 use fx_base::{Name, Value};
-use fx_graph_model::{Entry, GraphError, Origin};
+use fx_graph_model::{Definition, Entry, GraphError, Origin};
 use std::alloc::{AllocError, Global};
 
 /// Whether the name was never declared, or was forgotten.
@@ -80,11 +80,22 @@ fn known_origin(entry: &Entry) -> Option<Origin>
     Some(entry.origin)
 }
 
+/// A copy of the value, if this is one.
+fn copy_of(alloc: Global, definition: &Definition) -> Result<Value, AllocError>
+    ensures { IfOk result (λ value. is_binding definition.now ≡ false → is_gone definition.now ≡ false → definition.now ≡ defined.Base value) }
+{
+    match definition {
+        Definition::Base(value) => value.copy(alloc),
+        Definition::Bound(_, _) => Ok(Value::Bool(false)),
+        Definition::Forgotten => Ok(Value::Bool(false)),
+    }
+}
+
 fn own_at(alloc: Global, entries: &[Entry], place: usize) -> Result<Value, AllocError>
     requires { place < length entries.now }
     ensures { IfOk result (λ value. bound_in entries.now place ≡ false → unknown_in entries.now place ≡ false → (entry_of entries.now place).definition ≡ defined.Base value) }
 {
-    entries[place].definition.own_value(alloc)
+    copy_of(alloc, &entries[place].definition)
 }
 
 /// The value of a known property that isn't bound.

@@ -4,18 +4,19 @@ ghost use Rattle.fx_base.specs.declared.keys.Name.{Name as Named};
 ghost use Rattle.fx_expr.specs.declared.tree.Expr.{Expr as Expression};
 ghost use Rattle.fx_expr.specs.Tree.{tree, is_within};
 ghost use Rattle.fx_graph_model.specs.declared.errors.GraphError.TheVariants as error;
-ghost use Rattle.fx_graph_model.specs.Numbers.{numbers};
+ghost use Rattle.fx_base.specs.Names.{numbers};
 ghost use Rattle.fx_graph_model.specs.Uses.{Ranked, uses, leads};
 ghost use Rattle.fx_graph_model.specs.Unread.{marked, after_marking, newly_marked, IsClosed};
 ghost use Rattle.fx_graph_model.specs.Changes.{with_binding};
-ghost use Rattle.fx_graph_model.specs.Refusals.{kind_at, fits, refused_first, operand_count, fit_refusal, link_refusal, bind_refusal};
+ghost use Rattle.fx_base.specs.Answers.{refused_first};
+ghost use Rattle.fx_graph_model.specs.Refusals.{kind_at, fits, operand_count, fit_refusal, link_refusal, bind_refusal};
 ghost use Rattle.fx_graph_model.specs.Users.{Mirrors};
 
 use crate::asking::{is_marked, is_read_only, is_unknown, unknown_among};
 use crate::refusals::{is_same_kind, kind_of};
 use fx_base::{Kind, Name};
-use fx_graph_edges::{Users, finish, mark_one, operands_at, relink, spread};
 use fx_expr::{Expr, KindError, type_of};
+use fx_graph_edges::{Users, finish, mark_one, operands_at, relink, spread};
 use fx_graph_model::{Definition, Entry, GraphError, Operands, Origin};
 use std::alloc::{AllocError, Global};
 

@@ -2,7 +2,7 @@
 //! them but that they were declared.
 ghost use Rattle.std.specs.Prelude.{ℕ, ◌≡◌, ◌≤◌, ◌<◌, false, Contains, length, slice_set, MatchBool, MatchOption, None};
 ghost use Rattle.fx_expr.specs.Meaning.{no_value};
-ghost use Rattle.fx_graph_model.specs.Numbers.{numbers};
+ghost use Rattle.fx_base.specs.Names.{numbers};
 ghost use Rattle.fx_graph_model.specs.Uses.{entry_of};
 ghost use Rattle.fx_graph_model.specs.Refusals.{IsFree, IsForgetRefusal, unknown_name, operand_count};
 ghost use Rattle.fx_graph_model.specs.Changes.{forgotten, forget_all, clear_all};

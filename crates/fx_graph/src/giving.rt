@@ -6,7 +6,7 @@ ghost use Rattle.fx_base.specs.declared.values.Value.{Value as Content};
 ghost use Rattle.fx_expr.specs.Meaning.{no_value};
 ghost use Rattle.fx_graph_model.specs.declared.entries.Origin.{Origin as Source};
 ghost use Rattle.fx_graph_model.specs.declared.entries.Origin.TheVariants as source;
-ghost use Rattle.fx_graph_model.specs.Numbers.{numbers};
+ghost use Rattle.fx_base.specs.Names.{numbers};
 ghost use Rattle.fx_graph_model.specs.Uses.{Ranked, entry_of, is_binding, bound_in, unknown_in};
 ghost use Rattle.fx_graph_model.specs.Equality.{same_value};
 ghost use Rattle.fx_graph_model.specs.Eager.{value_of_definition, eager};

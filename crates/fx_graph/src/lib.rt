@@ -17,20 +17,21 @@ ghost use Rattle.fx_base.specs.declared.keys.Name.{Name as Named};
 ghost use Rattle.fx_base.specs.declared.values.Value.{Value as Content};
 ghost use Rattle.fx_base.specs.Printing.{kind_of};
 ghost use Rattle.fx_expr.specs.Tree.{tree, is_within};
-ghost use Rattle.fx_graph_model.specs.Numbers.{numbers};
+ghost use Rattle.fx_base.specs.Names.{numbers};
 ghost use Rattle.fx_graph_model.specs.Uses.{Ranked, bound_in, unknown_in};
 ghost use Rattle.fx_graph_model.specs.Unread.{marked, IsClosed, bound_unread, evaluations, evaluations_of};
 ghost use Rattle.fx_graph_model.specs.Eager.{eager};
 ghost use Rattle.fx_graph_model.specs.Equality.{same_kind};
 ghost use Rattle.fx_graph_model.specs.Sound.{AreSound, IsAcyclic};
 ghost use Rattle.fx_graph_model.specs.Changes.{empty, after_declare, after_read, after_read_all, after_values, after_bind, after_unbind, after_forget, AreKnown, IsReadInPart, IsSomeRead};
-ghost use Rattle.fx_graph_model.specs.Refusals.{kind_at, read_only_in, IsAnswer, IsFirmAnswer, declare_refusal, unknown_refusal, set_refusal, publish_refusal, fit_refusal, bind_refusal, unknown_name, IsFree, IsForgetAnswer};
+ghost use Rattle.fx_base.specs.Answers.{IsAnswer, IsFirmAnswer};
+ghost use Rattle.fx_graph_model.specs.Refusals.{kind_at, read_only_in, declare_refusal, unknown_refusal, set_refusal, publish_refusal, fit_refusal, bind_refusal, unknown_name, IsFree, IsForgetAnswer};
 ghost use Rattle.fx_graph.specs.Given.{ArePlain, AreBase, AreReadOnly};
 ghost use Rattle.fx_graph.specs.Store.{origin_in};
 
 use fx_base::{Kind, Ledgers, Name, Value, Work};
-use fx_graph_edges::{Users, operands_at};
 use fx_expr::Expr;
+use fx_graph_edges::{Users, operands_at};
 use fx_graph_model::{Definition, Entry, GraphError, Origin};
 use std::alloc::{AllocError, Global};
 use std::marker::Model;
@@ -102,7 +103,7 @@ impl Graph {
         value: Value,
     ) -> Result<Name, GraphError>
         requires { kind_of value ≡ kind }
-        ensures answer { IsAnswer (declare_refusal self.old.entries) result }
+        ensures answer { IsAnswer GraphError.Memory (declare_refusal self.old.entries) result }
         ensures name { IfOk result (λ name. name.0 ≡ length self.old.entries) }
         ensures ok { OnOk result (self.new ≡ after_declare kind read_only value self.old) }
         ensures err { OnErr result (self.new ≡ self.old) }
@@ -145,7 +146,7 @@ impl Graph {
     /// memory.
     pub fn set_group(&mut self, alloc: Global, pairs: &[(Name, Value)]) -> Result<(), GraphError>
         requires { AllPairs (λ (one other : Named × Content). one.0 ≢ other.0) pairs.now }
-        ensures answer { IsAnswer (set_refusal pairs.now self.old.entries) result }
+        ensures answer { IsAnswer GraphError.Memory (set_refusal pairs.now self.old.entries) result }
         ensures firm { ArePlain pairs.now → IsFirmAnswer (set_refusal pairs.now self.old.entries) result }
         ensures ok { OnOk result (self.new ≡ after_values true pairs.now self.old) }
         ensures err { OnErr result (self.new ≡ self.old) }
@@ -164,11 +165,18 @@ impl Graph {
         refusals::of_set(self.entries.as_slice(), pairs)
     }
 
+    /// Why these may not be published, if they may not.
+    pub fn refuses_publish(&self, pairs: &[(Name, Value)]) -> Option<GraphError>
+        ensures { result ≡ publish_refusal pairs.now self.now.entries }
+    {
+        refusals::of_publish(self.entries.as_slice(), pairs)
+    }
+
     /// Gives read-only properties values, all or none. Their origins stay.
     pub fn publish(&mut self, alloc: Global, pairs: &[(Name, Value)]) -> Result<(), GraphError>
         requires distinct { AllPairs (λ (one other : Named × Content). one.0 ≢ other.0) pairs.now }
         requires read_only { AreReadOnly self.old.entries pairs.now }
-        ensures answer { IsAnswer (publish_refusal pairs.now self.old.entries) result }
+        ensures answer { IsAnswer GraphError.Memory (publish_refusal pairs.now self.old.entries) result }
         ensures firm { ArePlain pairs.now → IsFirmAnswer (publish_refusal pairs.now self.old.entries) result }
         ensures ok { OnOk result (self.new ≡ after_values false pairs.now self.old) }
         ensures err { OnErr result (self.new ≡ self.old) }
@@ -216,7 +224,7 @@ impl Graph {
         operands: Vec<Name>,
     ) -> Result<(), GraphError>
         requires { is_within (tree expr) (length operands.items) ≡ true }
-        ensures answer { IsAnswer (bind_refusal name expr operands.items self.old.entries) result }
+        ensures answer { IsAnswer GraphError.Memory (bind_refusal name expr operands.items self.old.entries) result }
         ensures ok { OnOk result (self.new ≡ after_bind name.0 expr (numbers operands.items) self.old) }
         ensures err { OnErr result (self.new ≡ self.old) }
     {
@@ -244,7 +252,7 @@ impl Graph {
     }
 
     /// Why the property may not be bound so, if it may not.
-    fn refuses_bind(
+    pub fn refuses_bind(
         &mut self,
         alloc: Global,
         name: Name,
@@ -267,7 +275,8 @@ impl Graph {
         )
     }
 
-    fn make_binding(
+    /// Binds the property where nothing speaks against it, so that nobody tests twice.
+    pub fn make_binding(
         &mut self,
         name: Name,
         expr: Expr,
@@ -304,7 +313,7 @@ impl Graph {
         name: Name,
         work: &mut Work<L>,
     ) -> Result<Value, GraphError>
-        ensures answer { IsAnswer (unknown_refusal name self.old.entries) result }
+        ensures answer { IsAnswer GraphError.Memory (unknown_refusal name self.old.entries) result }
         ensures value { IfOk result (λ value. value ≡ eager self.old.entries name.0) }
         ensures again { marked self.old.unread name.0 ≡ false → self.new ≡ self.old }
         ensures ok { OnOk result (self.new ≡ after_read name.0 self.old) }
@@ -389,7 +398,7 @@ impl Graph {
         name: Name,
         work: &mut Work<L>,
     ) -> Result<(), GraphError>
-        ensures answer { IsAnswer (unknown_refusal name self.old.entries) result }
+        ensures answer { IsAnswer GraphError.Memory (unknown_refusal name self.old.entries) result }
         ensures ok { OnOk result (self.new ≡ after_unbind name.0 self.old) }
         ensures memory { result ≡ Err GraphError.Memory → IsReadInPart name.0 self.old self.new }
         ensures refused { IfErr result (λ error. error ≢ GraphError.Memory → self.new ≡ self.old) }

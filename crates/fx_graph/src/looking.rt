@@ -1,6 +1,6 @@
 //! Several names at once: read one after another, or looked at, so that all stay as unread as they were.
 ghost use Rattle.std.specs.Prelude.{ℕ, ◌≡◌, ◌≤◌, ◌<◌, ◌+◌, true, false, Contains, length, map, IfOk, OnOk, if◌then◌else◌};
-ghost use Rattle.fx_graph_model.specs.Numbers.{numbers};
+ghost use Rattle.fx_base.specs.Names.{numbers};
 ghost use Rattle.fx_graph_model.specs.Uses.{Ranked};
 ghost use Rattle.fx_graph_model.specs.Eager.{eager};
 ghost use Rattle.fx_graph_model.specs.Unread.{marked, after_reads, evaluations_of};

@@ -1,7 +1,7 @@
 //! Reading: a walk downwards over what is unread, with a stack of its own, so that a long chain of bindings takes no
 //! deep recursion. Each value is kept, and counted once.
 ghost use Rattle.std.specs.Prelude.{ℕ, ◌≡◌, ◌≤◌, ◌<◌, ◌+◌, cond, Contains, length, map, slice_set, IfOk, OnOk, true, false};
-ghost use Rattle.fx_graph_model.specs.Numbers.{numbers};
+ghost use Rattle.fx_base.specs.Names.{numbers};
 ghost use Rattle.fx_graph_model.specs.Uses.{Ranked, entry_of, uses, bound_in, operands_in, is_binding};
 ghost use Rattle.fx_graph_model.specs.Eager.{value_of_definition, eager};
 ghost use Rattle.fx_graph_model.specs.Unread.{marked, after_reading, bound_unread, evaluations, IsPartRead};

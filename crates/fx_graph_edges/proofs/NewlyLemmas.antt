@@ -9,7 +9,7 @@ use Rattle.std.proofs.lemmas.List.Sorted.{IsPermutation-sym, Contains-permutatio
 use Rattle.std.proofs.lemmas.Map.Keys.{IsDistinct-IsPermutation, IsDistinct-from_apart, apart_from_distinct}
 use Rattle.fx_base.specs.declared.keys.Name.{Name}
 use Rattle.fx_graph_model.specs.declared.entries.Entry.{Entry}
-use Rattle.fx_graph_model.specs.Numbers.{numbers, name_of}
+use Rattle.fx_base.specs.Names.{numbers, name_of}
 use Rattle.fx_graph_model.specs.Unread.{marked, leads_to_any, after_marking, newly_marked}
 use Rattle.fx_graph_model.specs.Marking.{at, Listed}
 use Rattle.fx_graph_model.proofs.Members.{none_in_nil, contains_first, contains_later, contains_cases, contains_filter, filter_contains, in_range, below_range}

@@ -4,7 +4,7 @@ use Rattle.std.proofs.lemmas.List.{get_or_read, map-append, take_more}
 use Rattle.std.proofs.lemmas.List.Elements.{Contains-get_or}
 use Rattle.fx_base.specs.declared.keys.Name.{Name}
 use Rattle.fx_graph_model.specs.declared.entries.Entry.{Entry}
-use Rattle.fx_graph_model.specs.Numbers.{numbers}
+use Rattle.fx_base.specs.Names.{numbers}
 use Rattle.fx_graph_model.specs.Uses.{Ranked}
 use Rattle.fx_graph_model.specs.Unread.{unmarked}
 use Rattle.fx_graph_model.specs.Marking.{IsClosedBut, MarksAll}

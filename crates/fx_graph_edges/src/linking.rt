@@ -1,7 +1,7 @@
 //! Edges of one binding: room for them, their end and their making. A binding makes room first, so that what follows
 //! can't fail.
 ghost use Rattle.std.specs.Prelude.{ℕ, ◌≡◌, ◌≤◌, ◌<◌, ◌+◌, ◌++◌, ◌∷◌, [], ◌==◌, not, filter, slice_set, Contains, length, OnOk, OnErr};
-ghost use Rattle.fx_graph_model.specs.Numbers.{numbers};
+ghost use Rattle.fx_base.specs.Names.{numbers};
 ghost use Rattle.fx_graph_model.specs.declared.entries.Entry.{Entry as Stored};
 ghost use Rattle.fx_graph_model.specs.Uses.{operands_in, uses};
 ghost use Rattle.fx_graph_model.specs.Users.{users_of, room_of, Mirrors, Unlinks, Links, Roomier};

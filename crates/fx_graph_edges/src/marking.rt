@@ -1,7 +1,7 @@
 //! Marking: what is to be read anew after a change. It goes upwards along the edges, and stops at what is unread
 //! already. Every change of a value or a binding ends with it.
 ghost use Rattle.std.specs.Prelude.{◌≡◌, ◌+◌, ◌<◌, ◌≤◌, ℕ, List, Bool, true, false, All, length, take, slice_set, if◌then◌else◌};
-ghost use Rattle.fx_graph_model.specs.Numbers.{numbers};
+ghost use Rattle.fx_base.specs.Names.{numbers};
 ghost use Rattle.fx_graph_model.specs.Uses.{Ranked};
 ghost use Rattle.fx_graph_model.specs.Unread.{marked, unmarked, after_marking, newly_marked};
 ghost use Rattle.fx_graph_model.specs.Marking.{Listed, MarksAll, IsClosedBut};

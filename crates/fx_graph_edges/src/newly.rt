@@ -2,7 +2,7 @@
 //! in place: no memory is taken, and no other name is looked at. The store of listeners reads them.
 ghost use Rattle.std.specs.Prelude.{◌≡◌, ◌<◌, ◌≤◌, ◌^◌, ℕ, All, length, take, slice_set};
 ghost use Rattle.std.specs.List.Sorted.{IsPermutation, IsNonDecreasing};
-ghost use Rattle.fx_graph_model.specs.Numbers.{numbers, name_of};
+ghost use Rattle.fx_base.specs.Names.{numbers, name_of};
 ghost use Rattle.fx_graph_model.specs.Marking.{at};
 
 use fx_base::Name;

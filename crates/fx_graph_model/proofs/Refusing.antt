@@ -16,8 +16,9 @@ use Rattle.fx_graph_model.specs.declared.errors.GraphError.TheVariants.{Unknown,
 use Rattle.fx_graph_model.specs.Changes.{with_binding}
 use Rattle.fx_graph_model.specs.Equality.{same_kind}
 use Rattle.fx_graph_model.specs.Marking.{IsClosedBut}
-use Rattle.fx_graph_model.specs.Numbers.{numbers}
-use Rattle.fx_graph_model.specs.Refusals.{or_else, refused_first, unknown_name, read_only_in, kind_at, pair_names, wrong_kind, set_refusal, publish_refusal, fit_refusal, link_refusal, bind_refusal, is_of, operand_count}
+use Rattle.fx_base.specs.Names.{numbers}
+use Rattle.fx_base.specs.Answers.{or_else, refused_first}
+use Rattle.fx_graph_model.specs.Refusals.{unknown_name, read_only_in, kind_at, pair_names, wrong_kind, set_refusal, publish_refusal, fit_refusal, link_refusal, bind_refusal, is_of, operand_count}
 use Rattle.fx_graph_model.specs.Unread.{marked, leads_to_any, after_marking}
 use Rattle.fx_graph_model.specs.Uses.{bound_in, unknown_in, leads}
 use Rattle.fx_graph_model.proofs.Same.{Decides-kind}
@@ -25,14 +26,14 @@ use Rattle.fx_graph_model.proofs.Members.{none_in_nil, contains_first, contains_
 use Rattle.fx_graph_model.proofs.Walks.{any-one}
 use Rattle.fx_graph_model.proofs.Changed.{marked-marking}
 
-pub or_else_none : (one other : Option GraphError) → or_else one other ≡ None → (one ≡ None) × (other ≡ None)
+pub or_else_none : {E : Type 0} (one other : Option E) → or_else one other ≡ None → (one ≡ None) × (other ≡ None)
 or_else_none None other e = (refl, e)
 or_else_none (Some refusal) other e = absurd (cc)
 
-pub refused_none : {X : Type 0} (error : X → GraphError) (test : X → Bool) (xs : List X) → refused_first error test xs ≡ None
+pub refused_none : {X E : Type 0} (error : X → E) (test : X → Bool) (xs : List X) → refused_first error test xs ≡ None
     → (x : X) → Contains xs x → test x ≡ false
 refused_none error test [] e x c = absurd (none_in_nil x c)
-refused_none {X} error test (y ∷ ys) e x c = by_first (refused_none error test ys) (cases_Bool (test y)) (contains_cases y ys x c)
+refused_none {X} {E} error test (y ∷ ys) e x c = by_first (refused_none error test ys) (cases_Bool (test y)) (contains_cases y ys x c)
   where
     opened : (b : Bool) → test y ≡ b → cond b (Some (error y)) (refused_first error test ys) ≡ None
     opened b h = subst (λ (t : Bool). cond t (Some (error y)) (refused_first error test ys) ≡ None) h e
@@ -43,7 +44,7 @@ refused_none {X} error test (y ∷ ys) e x c = by_first (refused_none error test
     by_first rest (inr fails) (inl here) = ap test (sym here) ∙ fails
     by_first rest (inr fails) (inr later) = rest (opened false fails) x later
 
-pub refused_none_from : {X : Type 0} (error : X → GraphError) (test : X → Bool) (xs : List X)
+pub refused_none_from : {X E : Type 0} (error : X → E) (test : X → Bool) (xs : List X)
     → ((x : X) → Contains xs x → test x ≡ false) → refused_first error test xs ≡ None
 refused_none_from error test [] none = refl
 refused_none_from error test (x ∷ xs) none =
@@ -51,20 +52,20 @@ refused_none_from error test (x ∷ xs) none =
     ∙ refused_none_from error test xs (λ z c. none z (contains_later x xs z c))
 
 -- two tests that agree on the list
-pub refused_same : {X : Type 0} (error : X → GraphError) (test other : X → Bool) (xs : List X)
+pub refused_same : {X E : Type 0} (error : X → E) (test other : X → Bool) (xs : List X)
     → ((x : X) → Contains xs x → test x ≡ other x) → refused_first error test xs ≡ refused_first error other xs
 refused_same error test other [] same = refl
-refused_same error test other (x ∷ xs) same =
+refused_same {X} {E} error test other (x ∷ xs) same =
     ap (λ (b : Bool). cond b (Some (error x)) (refused_first error test xs)) (same x (contains_first x xs))
-    ∙ ap (λ (o : Option GraphError). cond (other x) (Some (error x)) o)
+    ∙ ap (λ (o : Option E). cond (other x) (Some (error x)) o)
     (refused_same error test other xs (λ z c. same z (contains_later x xs z c)))
 
 -- a test of the names of pairs, over the pairs
-pub refused_map : {X Y : Type 0} (error : Y → GraphError) (test : Y → Bool) (f : X → Y) (xs : List X)
+pub refused_map : {X Y E : Type 0} (error : Y → E) (test : Y → Bool) (f : X → Y) (xs : List X)
     → refused_first error test (map f xs) ≡ refused_first (λ x. error (f x)) (λ x. test (f x)) xs
 refused_map error test f [] = refl
-refused_map error test f (x ∷ xs) =
-    ap (λ (o : Option GraphError). cond (test (f x)) (Some (error (f x))) o) (refused_map error test f xs)
+refused_map {X} {Y} {E} error test f (x ∷ xs) =
+    ap (λ (o : Option E). cond (test (f x)) (Some (error (f x))) o) (refused_map error test f xs)
 
 kinds_agree : (found wanted : Kind) → not (same_kind found wanted) ≡ false → found ≡ wanted
 kinds_agree found wanted e = (Decides-kind found wanted).0 (not-false _ e)

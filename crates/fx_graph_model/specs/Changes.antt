@@ -1,5 +1,5 @@
 -- What each call makes of the store. Source: JavaFX 21 properties (javafx.beans.property, javafx.beans.binding).
-use Rattle.std.specs.Prelude.{ℕ, ◌≡◌, Bool, true, false, All, length, cond, not, List, [], ◌∷◌, ◌++◌, map, filter, slice_set}
+use Rattle.std.specs.Prelude.{ℕ, ◌≡◌, Bool, true, false, All, length, not, if◌then◌else◌, List, [], ◌∷◌, ◌++◌, map, filter, slice_set}
 use Rattle.fx_base.specs.declared.keys.Name.{Name}
 use Rattle.fx_base.specs.declared.kinds.Kind.{Kind}
 use Rattle.fx_base.specs.declared.values.Value.{Value}
@@ -21,22 +21,24 @@ pub record State : Type 0 where
 abbrev pub empty : State
 empty = record { entries = []; unread = []; newly = [] }
 
+abbrev pub new_entry : Kind → Bool → Value → Entry
+new_entry kind read_only value =
+    record { kind = kind; read_only = read_only; origin = origin.Initial; definition = Base value }
+
 abbrev pub after_declare : Kind → Bool → Value → State → State
 after_declare kind read_only value state =
-    record {
-      entries = state.entries ++ record { kind = kind; read_only = read_only; origin = origin.Initial; definition = Base value } ∷ [];
+    record state {
+      entries = state.entries ++ new_entry kind read_only value ∷ [];
       unread = state.unread ++ false ∷ [];
-      newly = state.newly;
     }
 
 abbrev pub after_read : ℕ → State → State
-after_read name state =
-    record { entries = state.entries; unread = after_reading state.entries name state.unread; newly = state.newly }
+after_read name state = record state { unread = after_reading state.entries name state.unread }
 
 -- the entry with this value; set by code it says so, and published it keeps its origin
 abbrev pub given : Bool → Value → Entry → Entry
 given sets value entry =
-    record { kind = entry.kind; read_only = entry.read_only; origin = cond sets origin.Code entry.origin; definition = Base value }
+    record entry { origin = if sets then origin.Code else entry.origin; definition = Base value }
 
 -- each name of the pairs has its value
 abbrev pub with_values : Bool → List (Name × Value) → List Entry → List Entry
@@ -63,8 +65,7 @@ abbrev pub after_values : Bool → List (Name × Value) → State → State
 after_values sets pairs state = after_change (with_values sets pairs state.entries) (changed pairs state.entries) state
 
 abbrev pub bound_to : Expr → List ℕ → Entry → Entry
-bound_to expr operands entry =
-    record { kind = entry.kind; read_only = entry.read_only; origin = origin.Bound; definition = Bound expr operands }
+bound_to expr operands entry = record entry { origin = origin.Bound; definition = Bound expr operands }
 
 abbrev pub with_binding : ℕ → Expr → List ℕ → List Entry → List Entry
 with_binding name expr operands entries = slice_set entries name (bound_to expr operands (entry_of entries name))
@@ -76,16 +77,15 @@ after_bind name expr operands state =
 -- a bound name is read and keeps its value, set by code; another one stays as it is
 abbrev pub after_unbind : ℕ → State → State
 after_unbind name state =
-    cond (bound_in state.entries name)
-    (record {
+    if bound_in state.entries name
+    then record state {
       entries = slice_set state.entries name (given true (eager state.entries name) (entry_of state.entries name));
       unread = after_reading state.entries name state.unread;
-      newly = state.newly;
-    })
-    state
+    }
+    else state
 
 abbrev pub forgotten : Entry → Entry
-forgotten entry = record { kind = entry.kind; read_only = entry.read_only; origin = entry.origin; definition = Forgotten }
+forgotten entry = record entry { definition = Forgotten }
 
 abbrev pub forget_all : List ℕ → List Entry → List Entry
 forget_all [] entries = entries
@@ -97,7 +97,7 @@ clear_all (name ∷ names) flags = clear_all names (slice_set flags name false)
 
 abbrev pub after_forget : List ℕ → State → State
 after_forget names state =
-    record { entries = forget_all names state.entries; unread = clear_all names state.unread; newly = state.newly }
+    record state { entries = forget_all names state.entries; unread = clear_all names state.unread }
 
 -- memory was wanting in a read: some of the names that it needs were read
 pub record IsReadInPart (name : ℕ) (before now : State) : Type 0 where
@@ -111,8 +111,7 @@ AreKnown entries names = All (λ (name : Name). unknown_in entries name.0 ≡ fa
 
 -- all these names are read
 abbrev pub after_read_all : List ℕ → State → State
-after_read_all names state =
-    record { entries = state.entries; unread = after_reads state.entries names state.unread; newly = state.newly }
+after_read_all names state = record state { unread = after_reads state.entries names state.unread }
 
 -- some names were read, and nothing else changed
 pub record IsSomeRead (before now : State) : Type 0 where

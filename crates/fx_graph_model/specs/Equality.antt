@@ -33,7 +33,8 @@ same_color one other = (one.r == other.r) && ((one.g == other.g) && ((one.b == o
 
 abbrev pub same_sides : Insets → Insets → Bool
 same_sides one other =
-    int_eq one.top other.top && (int_eq one.right other.right && (int_eq one.bottom other.bottom && int_eq one.left other.left))
+    int_eq one.top other.top
+    && (int_eq one.right other.right && (int_eq one.bottom other.bottom && int_eq one.left other.left))
 
 unfoldable pub same_value : Value → Value → Bool
 same_value (Int one) (Int other) = int_eq one other

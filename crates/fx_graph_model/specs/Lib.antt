@@ -3,7 +3,6 @@ pub mod Eager
 pub mod Equality
 pub mod Laws
 pub mod Marking
-pub mod Numbers
 pub mod Refusals
 pub mod Sound
 pub mod Unread

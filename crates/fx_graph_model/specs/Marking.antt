@@ -15,15 +15,19 @@ pub record Listed (before now : List Bool) (work : List ℕ) (count : ℕ) : Typ
   pub kept : (name : ℕ) → marked before name ≡ true → marked now name ≡ true
   pub listed : (i : ℕ) → i < count
       → (at work i < length before) × (marked before (at work i) ≡ false) × (marked now (at work i) ≡ true)
-  pub each : (name : ℕ) → marked before name ≡ false → marked now name ≡ true → (i : ℕ) × (i < count) × (at work i ≡ name)
+  pub each : (name : ℕ) → marked before name ≡ false → marked now name ≡ true
+      → (i : ℕ) × (i < count) × (at work i ≡ name)
   pub once : (i j : ℕ) → i < j → j < count → at work i ≢ at work j
 
 -- a list that began anywhere is still such a list
 abbrev pub GoesOn : List Bool → List ℕ → ℕ → List Bool → List ℕ → ℕ → Type 0
-GoesOn flags work count flags' work' count' = (before : List Bool) → Listed before flags work count → Listed before flags' work' count'
+GoesOn flags work count flags' work' count' =
+    (before : List Bool) → Listed before flags work count → Listed before flags' work' count'
 
 -- just these names were marked besides, and those that are new stand behind the first so many of the work list
-pub record MarksAll (names : List ℕ) (before : List Bool) (work : List ℕ) (count : ℕ) (now : List Bool) (after : List ℕ) (end : ℕ) : Type 0 where
+pub record MarksAll
+    (names : List ℕ) (before : List Bool) (work : List ℕ) (count : ℕ) (now : List Bool) (after : List ℕ) (end : ℕ)
+    : Type 0 where
   pub flags : length now ≡ length before
   pub places : length after ≡ length work
   pub room : end + unmarked now ≡ count + unmarked before

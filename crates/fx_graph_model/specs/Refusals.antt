@@ -1,5 +1,7 @@
 -- When each call is refused, and with which error. The errors are tested in their order, each over all names.
-use Rattle.std.specs.Prelude.{ℕ, ◌≡◌, ◌+◌, ◌⊎◌, nat_lt, Bool, false, cond, not, List, [], ◌∷◌, length, map, Option, Some, None, Result, Ok, Err, Contains}
+use Rattle.std.specs.Prelude.{ℕ, ◌≡◌, ◌+◌, nat_lt, Bool, false, not, if◌then◌else◌, List, [], ◌∷◌, length, map, Option, Some, None, Result, Ok, Err, Contains}
+use Rattle.fx_base.specs.Answers.{or_else, refused_first}
+use Rattle.fx_base.specs.Names.{numbers}
 use Rattle.fx_base.specs.Printing.{kind_of}
 use Rattle.fx_base.specs.declared.keys.Name.{Name}
 use Rattle.fx_base.specs.declared.kinds.Kind.{Kind}
@@ -9,35 +11,10 @@ use Rattle.fx_expr.specs.Tree.{tree}
 use Rattle.fx_expr.specs.Typing.{kind_in}
 use Rattle.fx_graph_model.specs.declared.entries.Entry.{Entry}
 use Rattle.fx_graph_model.specs.declared.errors.GraphError.{GraphError}
-use Rattle.fx_graph_model.specs.declared.errors.GraphError.TheVariants.{Unknown, ReadOnly, WrongKind, Bound, Cycle, Full, InUse, Memory}
+use Rattle.fx_graph_model.specs.declared.errors.GraphError.TheVariants.{Unknown, ReadOnly, WrongKind, Bound, Cycle, Full, InUse}
 use Rattle.fx_graph_model.specs.Changes.{with_binding}
 use Rattle.fx_graph_model.specs.Equality.{same_kind}
-use Rattle.fx_graph_model.specs.Numbers.{numbers}
 use Rattle.fx_graph_model.specs.Uses.{entry_of, operands_in, uses, bound_in, unknown_in, leads}
-
--- the call is refused just as said, and takes no memory
-abbrev pub IsFirmAnswer : {T : Type 0} → Option GraphError → Result T GraphError → Type 0
-IsFirmAnswer None (Ok value) = Unit {0}
-IsFirmAnswer None (Err error) = ⊥
-IsFirmAnswer (Some refusal) (Ok value) = ⊥
-IsFirmAnswer (Some refusal) (Err error) = error ≡ refusal
-
--- the call is refused just as said; memory may be wanting
-abbrev pub IsAnswer : {T : Type 0} → Option GraphError → Result T GraphError → Type 0
-IsAnswer None (Ok value) = Unit {0}
-IsAnswer None (Err error) = error ≡ Memory
-IsAnswer (Some refusal) (Ok value) = ⊥
-IsAnswer (Some refusal) (Err error) = (error ≡ refusal) ⊎ (error ≡ Memory)
-
--- the first refusal, and else the second
-abbrev pub or_else : Option GraphError → Option GraphError → Option GraphError
-or_else None others = others
-or_else (Some refusal) others = Some refusal
-
--- this error of the first that passes the test
-abbrev pub refused_first : {X : Type 0} → (X → GraphError) → (X → Bool) → List X → Option GraphError
-refused_first error test [] = None
-refused_first error test (x ∷ xs) = cond (test x) (Some (error x)) (refused_first error test xs)
 
 abbrev pub unknown_name : List Entry → List Name → Option GraphError
 unknown_name entries names = refused_first Unknown (λ (name : Name). unknown_in entries name.0) names
@@ -60,7 +37,7 @@ wrong_kind entries pairs =
     pairs
 
 abbrev pub declare_refusal : List Entry → Option GraphError
-declare_refusal entries = cond (nat_lt (length entries) 4000000) None (Some Full)
+declare_refusal entries = if nat_lt (length entries) 4000000 then None else Some Full
 
 unfoldable pub set_refusal : List (Name × Value) → List Entry → Option GraphError
 set_refusal pairs entries =
@@ -90,14 +67,14 @@ operand_count (entry ∷ entries) = length (operands_in entry.definition) + oper
 unfoldable pub fit_refusal : Name → Expr → List Name → List Entry → Option GraphError
 fit_refusal name expr operands entries =
     or_else (unknown_name entries (name ∷ operands))
-    (or_else (cond (read_only_in entries name.0) (Some (ReadOnly name)) None)
-    (cond (fits entries name.0 expr (numbers operands)) None (Some (WrongKind name))))
+    (or_else (if read_only_in entries name.0 then Some (ReadOnly name) else None)
+    (if fits entries name.0 expr (numbers operands) then None else Some (WrongKind name)))
 
 -- no operand reads the property, and there is room for the operands
 unfoldable pub link_refusal : Name → Expr → List Name → List Entry → Option GraphError
 link_refusal name expr operands entries =
     or_else (refused_first Cycle (λ (operand : Name). leads entries operand.0 name.0) operands)
-    (cond (nat_lt 1000000 (operand_count (with_binding name.0 expr (numbers operands) entries))) (Some Full) None)
+    (if nat_lt 1000000 (operand_count (with_binding name.0 expr (numbers operands) entries)) then Some Full else None)
 
 unfoldable pub bind_refusal : Name → Expr → List Name → List Entry → Option GraphError
 bind_refusal name expr operands entries =
@@ -105,11 +82,12 @@ bind_refusal name expr operands entries =
 
 -- of a read or an unbinding
 abbrev pub unknown_refusal : Name → List Entry → Option GraphError
-unknown_refusal name entries = cond (unknown_in entries name.0) (Some (Unknown name)) None
+unknown_refusal name entries = if unknown_in entries name.0 then Some (Unknown name) else None
 
 -- who uses one of the names is one of them
 abbrev pub IsFree : List ℕ → List Entry → Type 0
-IsFree names entries = (user used : ℕ) → Contains names used → Contains (uses entries user) used → Contains names user
+IsFree names entries =
+    (user used : ℕ) → Contains names used → Contains (uses entries user) used → Contains names user
 
 -- all names are known, and this one, which isn't among them, uses one of them
 abbrev pub IsForgetRefusal : List Name → List Entry → GraphError → Type 0

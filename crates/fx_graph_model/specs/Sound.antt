@@ -17,7 +17,8 @@ use Rattle.fx_graph_model.specs.Uses.{entry_of, uses, bound_in, unknown_in, reac
 abbrev pub HasKind : List Entry → Entry → Definition → Type 0
 HasKind entries entry (Base value) = kind_of value ≡ entry.kind
 HasKind entries entry (Bound expr operands) =
-    (kind_in (tree expr) (map (kind_at entries) operands) ≡ Some entry.kind) × (is_within (tree expr) (length operands) ≡ true)
+    (kind_in (tree expr) (map (kind_at entries) operands) ≡ Some entry.kind)
+    × (is_within (tree expr) (length operands) ≡ true)
 HasKind entries entry Forgotten = Unit {0}
 
 -- each entry has its kind, no operand is unknown, and no read-only name is bound

@@ -1,5 +1,5 @@
 -- The properties whose value wasn't read since it may have changed, as flags, one for each name.
-use Rattle.std.specs.Prelude.{ℕ, ◌+◌, ◌≡◌, Bool, true, false, cond, not, ◌&&◌, ◌||◌, List, [], ◌∷◌, length, map, filter, slice_index_or, Contains}
+use Rattle.std.specs.Prelude.{ℕ, ◌+◌, ◌≡◌, Bool, true, false, not, if◌then◌else◌, ◌&&◌, ◌||◌, List, [], ◌∷◌, length, map, filter, slice_index_or, Contains}
 use Rattle.std.specs.List.{list_any, range_with_len}
 use Rattle.fx_graph_model.specs.declared.entries.Entry.{Entry}
 use Rattle.fx_graph_model.specs.Uses.{uses, bound_in, leads}
@@ -19,7 +19,8 @@ after_marking entries names flags =
 -- those that weren't unread before, rising
 abbrev pub newly_marked : List Entry → List ℕ → List Bool → List ℕ
 newly_marked entries names flags =
-    filter (λ (name : ℕ). not (marked flags name) && leads_to_any entries names name) (range_with_len 0 (length flags))
+    filter (λ (name : ℕ). not (marked flags name) && leads_to_any entries names name)
+    (range_with_len 0 (length flags))
 
 -- the name and all that it reaches are read
 abbrev pub after_reading : List Entry → ℕ → List Bool → List Bool
@@ -38,7 +39,7 @@ after_reads entries names flags =
 -- how many of these pass the test
 abbrev pub tally : {X : Type 0} → (X → Bool) → List X → ℕ
 tally test [] = 0
-tally test (x ∷ xs) = cond (test x) 1 0 + tally test xs
+tally test (x ∷ xs) = (if test x then 1 else 0) + tally test xs
 
 -- how many names aren't unread
 unfoldable pub unmarked : List Bool → ℕ
@@ -70,4 +71,5 @@ IsClosed entries flags =
 pub record IsPartRead (entries : List Entry) (name : ℕ) (before now : List Bool) : Type 0 where
   pub flags : length now ≡ length before
   pub fewer : (other : ℕ) → marked now other ≡ true → marked before other ≡ true
-  pub needed : (other : ℕ) → marked before other ≡ true → marked now other ≡ false → leads entries name other ≡ true
+  pub needed : (other : ℕ) → marked before other ≡ true → marked now other ≡ false
+      → leads entries name other ≡ true

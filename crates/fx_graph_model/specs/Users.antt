@@ -25,7 +25,8 @@ pub record Unlinks (user : ℕ) (names : List ℕ) (before now : List Row) : Typ
   pub rows : length now ≡ length before
   pub fewer : (name other : ℕ) → Contains (users_of now name) other → Contains (users_of before name) other
   pub gone : (name : ℕ) → Contains names name → Contains (users_of now name) user → ⊥
-  pub kept : (name other : ℕ) → Contains (users_of before name) other → (other ≡ user → ⊥) ⊎ (Contains names name → ⊥)
+  pub kept : (name other : ℕ) → Contains (users_of before name) other
+      → (other ≡ user → ⊥) ⊎ (Contains names name → ⊥)
       → Contains (users_of now name) other
 
 -- the user is put into the rows of these names

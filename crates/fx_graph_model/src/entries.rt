@@ -1,14 +1,12 @@
 //! The entries of a store of properties (JavaFX `javafx.beans.property`): what defines a property, and where its
 //! value came from last. The property graph keeps one entry for each name.
-ghost use Rattle.std.specs.Prelude.{◌≡◌, false, IfOk};
-ghost use Rattle.fx_graph_model.specs.declared.entries.Definition.TheVariants as defined;
+ghost use Rattle.std.specs.Prelude.{◌≡◌};
 ghost use Rattle.fx_graph_model.specs.Uses.{is_binding, is_gone};
-ghost use Rattle.fx_graph_model.specs.Numbers.{numbers};
+ghost use Rattle.fx_base.specs.Names.{numbers};
 ghost use Rattle.fx_graph_model.specs.Equality.{same_value};
 
 use fx_base::{Kind, Name, Value};
 use fx_expr::Expr;
-use std::alloc::{AllocError, Global};
 use std::marker::Model;
 
 /// Where the present definition of a property came from.
@@ -31,7 +29,7 @@ pub struct Operands {
 
 impl Model for Operands {
     ghost use Rattle.std.specs.Prelude.{ℕ, List};
-    ghost use Rattle.fx_graph_model.specs.Numbers.{numbers};
+    ghost use Rattle.fx_base.specs.Names.{numbers};
 
     ghost Value = { List ℕ };
 
@@ -51,14 +49,6 @@ impl Operands {
         ensures { numbers result.now ≡ self.now }
     {
         self.names.as_slice()
-    }
-
-    /// The same names.
-    pub fn copy(&self, alloc: Global) -> Result<Operands, AllocError>
-        ensures { IfOk result (λ copy. copy ≡ self.now) }
-    {
-        let names = Vec::from_slice(alloc, self.as_slice())?;
-        Ok(Operands::from_vec(names))
     }
 }
 
@@ -92,17 +82,6 @@ impl Definition {
             Definition::Base(_) => false,
             Definition::Bound(_, _) => false,
             Definition::Forgotten => true,
-        }
-    }
-
-    /// A copy of the value, if this is one and no binding.
-    pub fn own_value(&self, alloc: Global) -> Result<Value, AllocError>
-        ensures { IfOk result (λ value. is_binding self.now ≡ false → is_gone self.now ≡ false → self.now ≡ defined.Base value) }
-    {
-        match self {
-            Definition::Base(value) => value.copy(alloc),
-            Definition::Bound(_, _) => Ok(Value::Bool(false)),
-            Definition::Forgotten => Ok(Value::Bool(false)),
         }
     }
 }

@@ -8,8 +8,7 @@ fn keeps_operands_in_order(rt: HostRuntime) -> Result<(), Fail> {
     let alloc = rt.alloc();
     let names = [Name(3), Name(1), Name(3), Name(2)];
     let operands = Operands::from_vec(Vec::from_slice(alloc, &names)?);
-    let copy = operands.copy(alloc)?;
-    assert!(rt; copy.as_slice() == names.as_slice());
+    assert!(rt; operands.as_slice() == names.as_slice());
     Ok(())
 }
 
@@ -46,10 +45,8 @@ fn tells_values_apart(rt: HostRuntime) -> Result<(), Fail> {
 
 #[test]
 fn asks_definitions(rt: HostRuntime) -> Result<(), Fail> {
-    let alloc = rt.alloc();
     let base = Definition::Base(Value::Int(3));
     assert!(rt; !base.is_binding() && !base.is_gone());
-    assert!(rt; base.own_value(alloc)? == Value::Int(3));
     assert!(rt; Definition::Forgotten.is_gone());
     Ok(())
 }

@@ -28,7 +28,8 @@ EachNumberOnce =
 abbrev pub PruningIsSilent : Type 0
 PruningIsSilent =
     (living later : List Owner) (entries : List Listener)
-    → ((listener : Listener) → Contains entries listener → is_live later listener ≡ true → is_live living listener ≡ true)
+    → ((listener : Listener) → Contains entries listener → is_live later listener ≡ true
+    → is_live living listener ≡ true)
     → living_in later (pruned living entries) ≡ living_in later entries
 
 -- a live listener is placed among the living as among all
@@ -55,7 +56,8 @@ abbrev pub ReleaseEndsItsOwn : Type 0
 ReleaseEndsItsOwn =
     (register : Register) (owner : Owner) (entries : List Listener)
     → living_in (after_release register owner).living entries
-    ≡ filter (λ (listener : Listener). not (same_owner listener.owner (Some owner))) (living_in register.living entries)
+    ≡ filter (λ (listener : Listener). not (same_owner listener.owner (Some owner)))
+    (living_in register.living entries)
 
 -- the listener has no owner, or one whose birth number was given
 abbrev pub HasBornOwner : ℕ → Listener → Type 0

@@ -1,12 +1,12 @@
--- The listeners of properties: who is told of a change, by property and then by number. A listener may have an owner, and
--- is dead where its owner is. Source: JavaFX 21 (`InvalidationListener`, `ChangeListener` and their weak forms), with release
--- in the place of garbage collection.
-use Rattle.std.specs.Prelude.{ℕ, ◌*◌, ◌==◌, ◌≡◌, ◌<◌, ◌≤◌, ◌⊎◌, nat_lt, nat_le, Bool, true, false, cond, not, ◌&&◌, ◌||◌, List, [], ◌∷◌, ◌++◌, length, map, filter, All, AllPairs, Option, Some, None, Result, Ok, Err}
+-- The listeners of properties: who is told of a change, by property and then by number. A listener may have an owner,
+-- and is dead where its owner is. Source: JavaFX 21 (`InvalidationListener`, `ChangeListener` and their weak forms), with
+-- release in the place of garbage collection.
+use Rattle.std.specs.Prelude.{ℕ, ◌*◌, ◌==◌, ◌≡◌, ◌<◌, ◌≤◌, ◌⊎◌, nat_lt, nat_le, Bool, true, false, if◌then◌else◌, not, ◌&&◌, ◌||◌, List, [], ◌∷◌, ◌++◌, length, map, filter, All, AllPairs, Option, Some, None}
 use Rattle.std.specs.List.{list_any}
 use Rattle.fx_handles.specs.declared.Owner.{Owner}
 use Rattle.fx_handles.specs.Living.{is_same}
 use Rattle.fx_listen.specs.declared.ListenError.{ListenError}
-use Rattle.fx_listen.specs.declared.ListenError.TheVariants.{StaleOwner, Full, Memory}
+use Rattle.fx_listen.specs.declared.ListenError.TheVariants.{StaleOwner, Full}
 use Rattle.fx_listen.specs.declared.entries.ListenKind.{ListenKind}
 use Rattle.fx_listen.specs.declared.entries.ListenKind.TheVariants.{Invalid, Change}
 use Rattle.fx_listen.specs.declared.entries.Listener.{Listener}
@@ -61,7 +61,7 @@ placed listener entries =
 -- without the dead, where these are more than half
 abbrev pub pruned : List Owner → List Listener → List Listener
 pruned living entries =
-    cond (nat_lt (2 * length (living_in living entries)) (length entries)) (living_in living entries) entries
+    if nat_lt (2 * length (living_in living entries)) (length entries) then living_in living entries else entries
 
 abbrev pub after_add : List Owner → Listener → Table → Table
 after_add living listener table =
@@ -70,10 +70,10 @@ after_add living listener table =
 -- the first that passes the test is gone
 abbrev pub without_first : (Listener → Bool) → List Listener → List Listener
 without_first test [] = []
-without_first test (listener ∷ entries) = cond (test listener) entries (listener ∷ without_first test entries)
+without_first test (listener ∷ entries) = if test listener then entries else listener ∷ without_first test entries
 
 abbrev pub after_remove : (Listener → Bool) → Table → Table
-after_remove test table = record { entries = without_first test table.entries; given = table.given }
+after_remove test table = record table { entries = without_first test table.entries }
 
 -- it tells of another property
 abbrev pub is_elsewhere : ℕ → Listener → Bool
@@ -81,21 +81,16 @@ is_elsewhere name listener = not (listener.name.0 == name)
 
 -- nobody listens to the property any more
 abbrev pub after_forget : ℕ → Table → Table
-after_forget name table = record { entries = filter (is_elsewhere name) table.entries; given = table.given }
+after_forget name table = record table { entries = filter (is_elsewhere name) table.entries }
 
 -- the owner must be alive; and then 10,000 may be live, and numbers end
 abbrev pub add_refusal : List Owner → Option Owner → Table → Option ListenError
 add_refusal living owner table =
-    cond (has_life living owner)
-    (cond (nat_le 10000 (length (living_in living table.entries)) || nat_le 4294967295 table.given) (Some Full) None)
-    (Some StaleOwner)
-
--- refused just as said; memory may be wanting
-abbrev pub IsAnswer : {T : Type 0} → Option ListenError → Result T ListenError → Type 0
-IsAnswer None (Ok value) = Unit {0}
-IsAnswer None (Err error) = error ≡ Memory
-IsAnswer (Some refusal) (Ok value) = ⊥
-IsAnswer (Some refusal) (Err error) = (error ≡ refusal) ⊎ (error ≡ Memory)
+    if has_life living owner
+    then (if nat_le 10000 (length (living_in living table.entries)) || nat_le 4294967295 table.given
+    then Some Full
+    else None)
+    else Some StaleOwner
 
 abbrev pub numbers_of : List Listener → List ℕ
 numbers_of listeners = map (λ (listener : Listener). listener.number) listeners

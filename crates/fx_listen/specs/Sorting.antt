@@ -36,4 +36,5 @@ is_heard living kind listener = same_kind listener.kind kind && is_live living l
 pub record IsFirst (test : Listener → Bool) (listeners : List Listener) (place : ℕ) : Type 0 where
   pub within : place < length listeners
   pub passes : (other : Listener) → test (slice_index_or listeners place other) ≡ true
-  pub before : (earlier : ℕ) (other : Listener) → earlier < place → test (slice_index_or listeners earlier other) ≡ false
+  pub before : (earlier : ℕ) (other : Listener) → earlier < place
+      → test (slice_index_or listeners earlier other) ≡ false

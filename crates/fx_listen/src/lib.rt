@@ -6,7 +6,8 @@ mod entries;
 mod laws;
 
 ghost use Rattle.fx_listen.specs.declared.ListenError.TheVariants.{Memory};
-ghost use Rattle.fx_listen.specs.Listening.{IsAnswer, IsSound, add_refusal, after_add, after_forget, after_remove, is_equal, is_live, nobody, numbers_of, same_kind, tells};
+ghost use Rattle.fx_base.specs.Answers.{IsAnswer};
+ghost use Rattle.fx_listen.specs.Listening.{IsSound, add_refusal, after_add, after_forget, after_remove, is_equal, is_live, nobody, numbers_of, same_kind, tells};
 ghost use Rattle.std.specs.List.{list_any};
 ghost use Rattle.std.specs.Prelude.{◌≡◌, ◌==◌, ◌&&◌, ◌+◌, filter, IfOk, OnErr, OnOk};
 
@@ -93,7 +94,7 @@ impl Listeners {
         owner: Option<Owner>,
         tag: u32,
     ) -> Result<u32, ListenError>
-        ensures answer { IsAnswer (add_refusal owners.now.living owner self.old) result }
+        ensures answer { IsAnswer ListenError.Memory (add_refusal owners.now.living owner self.old) result }
         ensures number { IfOk result (λ number. number ≡ self.old.given + 1) }
         ensures ok { OnOk result (self.new ≡ after_add owners.now.living (record { number = self.old.given + 1; name = name; kind = kind; owner = owner; tag = tag }) self.old) }
         ensures err { OnErr result (self.new ≡ self.old) }

@@ -1,13 +1,13 @@
 -- How a change ends: refused, short of memory, or made and read; and what it may cost.
-use Rattle.std.proofs.Common.{◌≡◌, ℕ, ◌+◌, ◌≤◌, List, Contains, Ok, Err, Option, Some, None, arith, refl, sym, subst, ap, inl, inr, ◌∙◌, ◌≢◌}
+use Rattle.std.proofs.Common.{◌≡◌, ℕ, ◌+◌, ◌≤◌, List, Contains, Ok, Err, Option, Some, None, arith, refl, sym, subst, ap, inl, inr, ◌∙◌}
 use Rattle.fx_store_model.specs.declared.changes.Change.{Change}
 use Rattle.fx_store_model.specs.declared.changes.Change.TheVariants.{Set, Publish, Bind, Unbind, Pair, Unpair, Listen, Unlisten, Forget}
 use Rattle.fx_store_model.specs.declared.changes.Notices.{Notices}
 use Rattle.fx_store_model.specs.declared.errors.StoreError.{StoreError}
 use Rattle.fx_store_model.specs.declared.errors.StoreError.TheVariants as error
 use Rattle.fx_store_model.specs.Applied.{Applied}
-use Rattle.fx_store_model.specs.Refusals.{IsAnswer, IsChangeAnswer, refusal}
-use Rattle.fx_store_model.specs.Step.{IsReadSome, IsUnfinished, Tells, after, before_reads, cost, due, read_before}
+use Rattle.fx_store_model.specs.Refusals.{IsAllowed, IsChangeAnswer, refusal}
+use Rattle.fx_store_model.specs.Step.{IsReadSome, IsUnfinished, Tells, after, before_reads, cost, due}
 use Rattle.fx_store_model.specs.Stored.{Stored, after_watching, watched_names, with_unread}
 use Rattle.fx_handles.specs.Living.{Register}
 use Rattle.fx_listen.specs.Listening.{Table, living_in}
@@ -18,6 +18,7 @@ use Rattle.fx_graph_model.proofs.ManyReads.{evaluations_same, reads_same}
 use Rattle.fx_listen.specs.declared.entries.Listener.{Listener}
 use Rattle.fx_store.specs.Kept.{AreOnKnown, ArePaired, stored_of}
 use Rattle.fx_store.specs.Watching.{watch_list}
+use Rattle.fx_store.proofs.Answering.{ok_as, wanting}
 use Rattle.fx_store.proofs.Watched.{watch_watched, watch_within, watched_watch}
 
 -- the state after reads
@@ -90,23 +91,16 @@ some_after first second third one other = record {
 pub unmade_as_was : (change : Change) (before now : Stored) → now ≡ before → IsUnfinished change before now
 unmade_as_was change before now same = inl (subst (IsReadSome before) (sym same) (nothing_read before))
 
-pub unmade_read : (change : Change) (before : Stored) (graph now : State) (pairs : List (ℕ × ℕ)) (table : Table) (owners : Register)
-    → stored_of graph pairs table owners ≡ before → IsSomeRead graph now
-    → IsUnfinished change before (stored_of now pairs table owners)
-unmade_read change before graph now pairs table owners was some =
-    inl (subst (λ (stored : Stored). IsReadSome stored (stored_of now pairs table owners)) was
-    (some_read graph now pairs table owners some))
-
 -- memory was wanting behind the change
 pub made_some_read : (change : Change) (before : Stored) (graph now : State) (pairs : List (ℕ × ℕ)) (table : Table) (owners : Register)
-    → stored_of graph pairs table owners ≡ before_reads change before → IsSomeRead graph now
+    → IsAllowed change before → stored_of graph pairs table owners ≡ before_reads change before → IsSomeRead graph now
     → IsUnfinished change before (stored_of now pairs table owners)
-made_some_read change before graph now pairs table owners made some =
-    inr (subst (λ (stored : Stored). IsReadSome stored (stored_of now pairs table owners)) made
-    (some_read graph now pairs table owners some))
-
-pub made_unread : (change : Change) (before now : Stored) → now ≡ before_reads change before → IsUnfinished change before now
-made_unread change before now made = inr (subst (IsReadSome (before_reads change before)) (sym made) (nothing_read (before_reads change before)))
+made_some_read change before graph now pairs table owners allowed made some =
+    inr (
+      allowed,
+      subst (λ (stored : Stored). IsReadSome stored (stored_of now pairs table owners)) made
+          (some_read graph now pairs table owners some),
+    )
 
 -- what it costs
 
@@ -118,23 +112,10 @@ due_by stored graph pairs table owners names same watched =
     evaluations_same graph.entries names (watched_names (stored_of graph pairs table owners)) graph.unread watched.only watched.all
     ∙ ap due same
 
--- reads of what was due, of what the change itself reads, and of what is due behind it
-pub cost_read : (change : Change) (before : Stored) (evaluated first second third : ℕ) → first ≤ evaluated + due before
-    → second ≤ first + read_before change before → third ≤ second + due (before_reads change before)
-    → third ≤ evaluated + cost change before
-unfolding cost
-cost_read change before evaluated first second third one two three = omega arith
-
 pub cost_made : (change : Change) (before : Stored) (evaluated first second : ℕ) → first ≤ evaluated + due before
     → second ≤ first + due (before_reads change before) → second ≤ evaluated + cost change before
 unfolding cost
 cost_made change before evaluated first second one two = omega arith
-
--- the change was not yet read
-pub cost_unread : (change : Change) (before : Stored) (evaluated first second : ℕ) → first ≤ evaluated + due before
-    → second ≤ first + read_before change before → second ≤ evaluated + cost change before
-unfolding cost
-cost_unread change before evaluated first second one two = omega arith
 
 pub cost_unmade : (change : Change) (before : Stored) (evaluated first : ℕ) → first ≤ evaluated + due before
     → first ≤ evaluated + cost change before
@@ -143,41 +124,52 @@ cost_unmade change before evaluated first one = omega arith
 
 -- the ends
 
--- memory may want in each change
-wanting : (refused : Option StoreError) → IsAnswer {T = Notices} refused (Err error.Memory)
-wanting None = refl
-wanting (Some cause) = inr refl
-
 pub memory_answer : (change : Change) (before : Stored) → IsChangeAnswer {T = Notices} change before (Err error.Memory)
-memory_answer (Set name value) before = wanting (refusal (Set name value) before)
-memory_answer (Publish pairs) before = wanting (refusal (Publish pairs) before)
-memory_answer (Bind name expr operands) before = wanting (refusal (Bind name expr operands) before)
-memory_answer (Unbind name) before = wanting (refusal (Unbind name) before)
-memory_answer (Pair one other) before = wanting (refusal (Pair one other) before)
-memory_answer (Unpair one other) before = wanting (refusal (Unpair one other) before)
-memory_answer (Listen name kind owner tag) before = wanting (refusal (Listen name kind owner tag) before)
-memory_answer (Unlisten name kind owner tag) before = wanting (refusal (Unlisten name kind owner tag) before)
+memory_answer (Set name value) before = wanting Notices (refusal (Set name value) before)
+memory_answer (Publish pairs) before = wanting Notices (refusal (Publish pairs) before)
+memory_answer (Bind name expr operands) before = wanting Notices (refusal (Bind name expr operands) before)
+memory_answer (Unbind name) before = wanting Notices (refusal (Unbind name) before)
+memory_answer (Pair one other) before = wanting Notices (refusal (Pair one other) before)
+memory_answer (Unpair one other) before = wanting Notices (refusal (Unpair one other) before)
+memory_answer (Listen name kind owner tag) before = wanting Notices (refusal (Listen name kind owner tag) before)
+memory_answer (Unlisten name kind owner tag) before = wanting Notices (refusal (Unlisten name kind owner tag) before)
 memory_answer (Forget names) before = inr refl
 
-pub applied_refused : (change : Change) (before now : Stored) (cause : StoreError) (evaluated evaluations : ℕ)
-    → IsChangeAnswer {T = Notices} change before (Err cause) → cause ≢ error.Memory → now ≡ before
-    → evaluations ≤ evaluated + due before → Applied change before now (Err cause) evaluated evaluations
-applied_refused change before now cause evaluated evaluations answer other same few = record {
+-- an answer without refusal, of one call as of another
+pub answer_as : (T U : Type 0) (one : T) (other : U) (change : Change) (before : Stored)
+    → IsChangeAnswer {T = T} change before (Ok one) → IsChangeAnswer {T = U} change before (Ok other)
+answer_as T U one other (Set name value) before = ok_as T U (refusal (Set name value) before) one other
+answer_as T U one other (Publish pairs) before = ok_as T U (refusal (Publish pairs) before) one other
+answer_as T U one other (Bind name expr operands) before = ok_as T U (refusal (Bind name expr operands) before) one other
+answer_as T U one other (Unbind name) before = ok_as T U (refusal (Unbind name) before) one other
+answer_as T U one other (Pair first second) before = ok_as T U (refusal (Pair first second) before) one other
+answer_as T U one other (Unpair first second) before = ok_as T U (refusal (Unpair first second) before) one other
+answer_as T U one other (Listen name kind owner tag) before = ok_as T U (refusal (Listen name kind owner tag) before) one other
+answer_as T U one other (Unlisten name kind owner tag) before = ok_as T U (refusal (Unlisten name kind owner tag) before) one other
+answer_as T U one other (Forget names) before = λ answer. answer
+
+-- it was refused, or memory was wanting before anything was looked at
+pub step_failed : (change : Change) (before now : Stored) (cause : StoreError) (evaluated : ℕ)
+    → IsChangeAnswer {T = Notices} change before (Err cause) → now ≡ before → Applied change before now (Err cause) evaluated evaluated
+step_failed change before now cause evaluated answer same = record {
   answer = answer;
   notices = tt;
   ok = tt;
   refused = λ _. same;
-  memory = λ e. let c : cause ≡ error.Memory = cc in absurd (other c);
-  evaluations_few = cost_unmade change before evaluated evaluations few;
+  still = λ _. (same, refl);
+  memory = λ _. unmade_as_was change before now same;
+  evaluations_few = omega arith;
 }
 
-pub applied_short : (change : Change) (before now : Stored) (evaluated evaluations : ℕ) → IsUnfinished change before now
-    → evaluations ≤ evaluated + cost change before → Applied change before now (Err error.Memory) evaluated evaluations
-applied_short change before now evaluated evaluations unfinished few = record {
+pub applied_short : (change : Change) (before now : Stored) (evaluated evaluations : ℕ) → IsAllowed change before
+    → IsUnfinished change before now → evaluations ≤ evaluated + cost change before
+    → Applied change before now (Err error.Memory) evaluated evaluations
+applied_short change before now evaluated evaluations allowed unfinished few = record {
   answer = memory_answer change before;
   notices = tt;
   ok = tt;
   refused = λ other. absurd (other refl);
+  still = λ not. absurd (not allowed);
   memory = λ _. unfinished;
   evaluations_few = few;
 }
@@ -190,6 +182,7 @@ applied_made change before now notices evaluated evaluations answer tells made f
   notices = tells;
   ok = made;
   refused = tt;
+  still = λ not. absurd (not (answer_as Notices (Unit {0}) notices tt change before answer));
   memory = λ e. absurd (cc);
   evaluations_few = few;
 }

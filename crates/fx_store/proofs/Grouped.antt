@@ -11,7 +11,7 @@ use Rattle.fx_store_pairs.specs.Pairs.{joined}
 use Rattle.fx_graph_model.specs.declared.entries.Entry.{Entry}
 use Rattle.fx_graph_model.specs.declared.entries.Definition.{Definition}
 use Rattle.fx_graph_model.specs.Eager.{eager}
-use Rattle.fx_graph_model.specs.Numbers.{numbers}
+use Rattle.fx_base.specs.Names.{numbers}
 use Rattle.fx_graph_model.specs.Refusals.{kind_at, set_refusal}
 use Rattle.fx_graph_model.specs.Sound.{AreSound, HasKind}
 use Rattle.fx_graph_model.specs.Uses.{entry_of}

@@ -19,7 +19,7 @@ use Rattle.fx_store_pairs.specs.Pairs.{joined}
 use Rattle.fx_graph_model.specs.declared.entries.Entry.{Entry}
 use Rattle.fx_graph_model.specs.Changes.{State, after_bind, after_change, after_values, changed, with_values}
 use Rattle.fx_graph_model.specs.Eager.{eager}
-use Rattle.fx_graph_model.specs.Numbers.{numbers}
+use Rattle.fx_base.specs.Names.{numbers}
 use Rattle.fx_graph_model.specs.Unread.{newly_marked}
 use Rattle.fx_graph_model.proofs.Marks.{marking_same, newly_same}
 use Rattle.fx_store.specs.Kept.{ArePaired, stored_of}

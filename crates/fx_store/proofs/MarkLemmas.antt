@@ -3,11 +3,9 @@ use Rattle.std.proofs.Common.{◌≡◌, ℕ, ◌+◌, ◌≤◌, true, false, L
 use Rattle.fx_base.specs.declared.values.Value.{Value}
 use Rattle.fx_store_model.specs.declared.changes.Change.{Change}
 use Rattle.fx_store_model.specs.declared.changes.Notices.{Notices}
-use Rattle.fx_store_model.specs.declared.errors.StoreError.{StoreError}
 use Rattle.fx_store_model.specs.declared.errors.StoreError.TheVariants as error
 use Rattle.fx_store_model.specs.Applied.{Applied}
-use Rattle.fx_store_model.specs.Refusals.{IsChangeAnswer}
-use Rattle.fx_store_model.specs.Step.{changed_notices, due, invalid_notices}
+use Rattle.fx_store_model.specs.Step.{changed_notices, invalid_notices}
 use Rattle.fx_store_model.specs.Stored.{Stored}
 use Rattle.fx_handles.specs.Living.{Register}
 use Rattle.fx_listen.specs.declared.entries.Listener.{Listener}
@@ -18,7 +16,7 @@ use Rattle.fx_graph_model.specs.Unread.{evaluations_of}
 use Rattle.fx_store.specs.Kept.{IsKept, stored_of}
 use Rattle.fx_store.specs.UnderWay.{IsUnderWay}
 use Rattle.fx_store.specs.Watching.{values_of, watch_list}
-use Rattle.fx_store.proofs.Ending.{cost_unmade, unmade_as_was}
+use Rattle.fx_store.proofs.Ending.{answer_as}
 use Rattle.fx_store.proofs.Lasting.{kept_read}
 use Rattle.fx_store.proofs.Made.{IsMade}
 use Rattle.fx_store.proofs.Stepping.{kept_watched, step_done, step_short}
@@ -41,7 +39,7 @@ pub finish_short : (change : Change) (before : Stored) (graph now : State) (pair
     → IsUnderWay change before graph pairs table owners names heard values began looked
     → Applied change before (stored_of now pairs table owners) (Err error.Memory) began spent
 finish_short change before graph now pairs table owners names heard values began looked spent some cost under =
-    step_short change before graph now pairs table owners names began looked spent
+    step_short change before graph now pairs table owners names began looked spent under.allowed
     (under_made change before graph pairs table owners names heard values began looked under)
     (kept_watched graph pairs table owners true names under.kept under.watched) some under.few cost
 
@@ -56,21 +54,8 @@ pub finish_done : (change : Change) (before : Stored) (graph now : State) (pairs
     → Applied change before (stored_of now pairs table owners) (Ok notices) began spent
 finish_done change before graph now pairs table owners names heard values notices began looked spent read added invalid changed cost under =
     step_done change before graph now pairs table owners names notices heard values began looked spent
-    (under.allowed notices) under.silent
+    (answer_as (Unit {0}) Notices tt notices change before under.allowed) under.silent
     (under_made change before graph pairs table owners names heard values began looked under)
     (kept_watched graph pairs table owners true names under.kept under.watched) read
     (record { added = added; invalid = invalid; values_before = under.values_before; changed = changed })
     under.few cost
-
--- it was refused, or memory was wanting before it was made
-pub step_failed : (change : Change) (before now : Stored) (cause : StoreError) (began looked : ℕ)
-    → IsChangeAnswer {T = Notices} change before (Err cause) → now ≡ before → looked ≤ began + due before
-    → Applied change before now (Err cause) began looked
-step_failed change before now cause began looked answer same few = record {
-  answer = answer;
-  notices = tt;
-  ok = tt;
-  refused = λ _. same;
-  memory = λ _. unmade_as_was change before now same;
-  evaluations_few = cost_unmade change before began looked few;
-}

@@ -1,12 +1,12 @@
 -- How a change that marks no name ends: it fails before it is made, wants memory for the reads behind it, or is done.
-use Rattle.std.proofs.Common.{◌≡◌, ◌≢◌, ℕ, ◌+◌, ◌≤◌, Bool, false, List, All, Ok, Err, arith, refl, sym, subst, ap, inl, inr, ◌∙◌}
+use Rattle.std.proofs.Common.{◌≡◌, ℕ, ◌+◌, ◌≤◌, Bool, false, List, All, Ok, Err, arith, refl, sym, subst, ap, inl, inr, ◌∙◌}
 use Rattle.fx_store_model.specs.declared.changes.Change.{Change}
 use Rattle.fx_store_model.specs.declared.changes.Notices.{Notices}
 use Rattle.fx_store_model.specs.declared.errors.StoreError.{StoreError}
 use Rattle.fx_store_model.specs.declared.errors.StoreError.TheVariants as error
 use Rattle.fx_store_model.specs.Applied.{Applied}
 use Rattle.fx_store_model.specs.Making.{made}
-use Rattle.fx_store_model.specs.Refusals.{IsChangeAnswer}
+use Rattle.fx_store_model.specs.Refusals.{IsAllowed, IsChangeAnswer}
 use Rattle.fx_store_model.specs.Step.{IsReadSome, Tells, before_reads, cost, due, read_before}
 use Rattle.fx_store_model.specs.Stored.{Stored, after_watching}
 use Rattle.fx_handles.specs.Living.{Register}
@@ -16,7 +16,7 @@ use Rattle.fx_graph_model.specs.Unread.{IsClosed}
 use Rattle.fx_graph_model.specs.Uses.{unknown_in}
 use Rattle.fx_store.specs.Kept.{IsKept, stored_of}
 use Rattle.fx_store.specs.Watching.{watch_list}
-use Rattle.fx_store.proofs.Ending.{applied_made, applied_short, memory_answer, nothing_read, reads_watching}
+use Rattle.fx_store.proofs.Ending.{applied_made, applied_short, reads_watching}
 use Rattle.fx_store.proofs.Silent.{IsQuiet, quiet_before}
 use Rattle.fx_store.proofs.Staying.{known_living}
 use Rattle.fx_store.proofs.Stepping.{kept_watched}
@@ -24,45 +24,25 @@ use Rattle.fx_store.proofs.Watched.{watch_known, watching_again}
 
 -- the ends of a change
 
--- nothing was made; where memory was wanting some names may be read
-pub quiet_failed : (change : Change) (before now : Stored) (cause : StoreError) (evaluated evaluations : ℕ)
-    → IsChangeAnswer {T = Notices} change before (Err cause)
-    → (cause ≡ error.Memory → IsReadSome before now) → (cause ≢ error.Memory → now ≡ before)
-    → evaluations ≤ evaluated + read_before change before → Applied change before now (Err cause) evaluated evaluations
-unfolding cost
-quiet_failed change before now cause evaluated evaluations answer short other few = record {
-  answer = answer;
-  notices = tt;
-  ok = tt;
-  refused = other;
-  memory = λ e. let c : cause ≡ error.Memory = cc in inl (short c);
-  evaluations_few = omega arith;
-}
-
--- it was refused, and nothing was read
-pub quiet_refused : (change : Change) (before : Stored) (cause : StoreError) (evaluated : ℕ)
-    → IsChangeAnswer {T = Notices} change before (Err cause) → Applied change before before (Err cause) evaluated evaluated
-quiet_refused change before cause evaluated answer =
-    quiet_failed change before before cause evaluated evaluated answer (λ _. nothing_read before) (λ _. refl) (omega arith)
-
 -- memory was wanting, and some names may be read
-pub quiet_unmade : (change : Change) (before now : Stored) (cause : StoreError) (evaluated evaluations : ℕ) → cause ≡ error.Memory
-    → IsReadSome before now → evaluations ≤ evaluated + read_before change before
+pub quiet_unmade : (change : Change) (before now : Stored) (cause : StoreError) (evaluated evaluations : ℕ) → IsAllowed change before
+    → cause ≡ error.Memory → IsReadSome before now → evaluations ≤ evaluated + read_before change before
     → Applied change before now (Err cause) evaluated evaluations
-quiet_unmade change before now cause evaluated evaluations memory some few =
+unfolding cost
+quiet_unmade change before now cause evaluated evaluations allowed memory some few =
     subst (λ (c : StoreError). Applied change before now (Err c) evaluated evaluations) (sym memory)
-    (quiet_failed change before now error.Memory evaluated evaluations (memory_answer change before) (λ _. some)
-    (λ other. absurd (other refl)) few)
+    (applied_short change before now evaluated evaluations allowed (inl some) (omega arith))
 
 -- it was made, and some names were read
 pub quiet_short : (change : Change) (before mid now : Stored) (evaluated first second : ℕ) → IsQuiet change before
-    → mid ≡ made change before → IsReadSome mid now → first ≤ evaluated + read_before change before → second ≤ first + due mid
+    → IsAllowed change before → mid ≡ made change before → IsReadSome mid now → first ≤ evaluated + read_before change before → second ≤ first + due mid
     → Applied change before now (Err error.Memory) evaluated second
 unfolding cost
-quiet_short change before mid now evaluated first second quiet is some one two =
+quiet_short change before mid now evaluated first second quiet allowed is some one two =
     let same : mid ≡ before_reads change before = is ∙ sym (quiet_before change before quiet) in
     let behind : due mid ≡ due (before_reads change before) = ap due same in
-    applied_short change before now evaluated second (inr (subst (λ (s : Stored). IsReadSome s now) same some)) (omega arith)
+    applied_short change before now evaluated second allowed (inr (allowed, subst (λ (s : Stored). IsReadSome s now) same some))
+    (omega arith)
 
 -- it was made, and every watched name was read
 pub quiet_made : (change : Change) (before mid now : Stored) (notices : Notices) (evaluated first second : ℕ) → IsQuiet change before

@@ -16,7 +16,7 @@ use Rattle.fx_listen.specs.declared.entries.ListenKind.{ListenKind}
 use Rattle.fx_store_pairs.specs.Pairs.{is_among}
 use Rattle.fx_graph_model.specs.declared.entries.Entry.{Entry}
 use Rattle.fx_graph_model.specs.Eager.{eager}
-use Rattle.fx_graph_model.specs.Numbers.{numbers}
+use Rattle.fx_base.specs.Names.{numbers}
 use Rattle.fx_graph_model.specs.Refusals.{IsFree}
 use Rattle.fx_graph_model.specs.Unread.{after_marking, after_reading, newly_marked}
 use Rattle.fx_graph_model.specs.Uses.{Ranked, bound_in}

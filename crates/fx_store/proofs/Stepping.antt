@@ -6,7 +6,7 @@ use Rattle.fx_store_model.specs.declared.changes.Change.{Change}
 use Rattle.fx_store_model.specs.declared.changes.Notices.{Notices}
 use Rattle.fx_store_model.specs.declared.errors.StoreError.TheVariants as error
 use Rattle.fx_store_model.specs.Applied.{Applied}
-use Rattle.fx_store_model.specs.Refusals.{IsChangeAnswer}
+use Rattle.fx_store_model.specs.Refusals.{IsAllowed, IsChangeAnswer}
 use Rattle.fx_store_model.specs.Step.{added_by, before_reads, changed_notices, due, invalid_notices}
 use Rattle.fx_store_model.specs.Stored.{Stored}
 use Rattle.fx_handles.specs.Living.{Register}
@@ -39,10 +39,10 @@ kept_due graph pairs table owners behind kept =
     (kept_watched graph pairs table owners behind names kept refl)
 
 -- memory was wanting before the change was made
-pub step_unmade : (change : Change) (before now : Stored) (began looked : ℕ) → now ≡ before → looked ≤ began + due before
-    → Applied change before now (Err error.Memory) began looked
-step_unmade change before now began looked same few =
-    applied_short change before now began looked (unmade_as_was change before now same) (cost_unmade change before began looked few)
+pub step_unmade : (change : Change) (before now : Stored) (began looked : ℕ) → IsAllowed change before → now ≡ before
+    → looked ≤ began + due before → Applied change before now (Err error.Memory) began looked
+step_unmade change before now began looked allowed same few =
+    applied_short change before now began looked allowed (unmade_as_was change before now same) (cost_unmade change before began looked few)
 
 -- what tells of a change, as a call over the graph says it
 pub record AreNotices (before : List Entry) (graph : State) (listeners heard : List Listener) (values : List Value) (notices : Notices) : Type 0 where
@@ -75,11 +75,11 @@ module _ (change : Change) (before : Stored) (graph now : State) (pairs : List (
       (cost_made change before began looked spent look (reads_few looked spent is watched cost))
 
   -- memory was wanting behind the change
-  pub step_short : (began looked spent : ℕ) → IsMade change before graph pairs table owners
+  pub step_short : (began looked spent : ℕ) → IsAllowed change before → IsMade change before graph pairs table owners
       → AreWatched names (stored_of graph pairs table owners) → IsSomeRead graph now
       → looked ≤ began + due before → spent ≤ looked + evaluations_of graph.entries names graph.unread
       → Applied change before (stored_of now pairs table owners) (Err error.Memory) began spent
-  step_short began looked spent is watched some look cost =
-      applied_short change before (stored_of now pairs table owners) began spent
-      (made_some_read change before graph now pairs table owners is.whole some)
+  step_short began looked spent allowed is watched some look cost =
+      applied_short change before (stored_of now pairs table owners) began spent allowed
+      (made_some_read change before graph now pairs table owners allowed is.whole some)
       (cost_made change before began looked spent look (reads_few looked spent is watched cost))

@@ -1,23 +1,27 @@
 -- What is seen of the store at the calls that change or ask one part of it.
-use Rattle.std.proofs.Common.{◌≡◌, ℕ, ◌+◌, ◌||◌, ◌&&◌, Bool, true, false, cond, List, [], ◌∷◌, All, refl, ap, ◌∙◌}
+use Rattle.std.proofs.Common.{◌≡◌, ℕ, ◌+◌, ◌≤◌, ◌||◌, ◌&&◌, Bool, true, false, cond, List, [], ◌∷◌, All, refl, ap, ◌∙◌}
 use Rattle.std.specs.List.{list_any}
+use Rattle.std.proofs.lemmas.List.Elements.{All-filter}
+use Rattle.std.proofs.lemmas.List.Kept.{AllPairs-filter}
 use Rattle.fx_store_model.specs.Making.{with_owners}
-use Rattle.fx_store_model.specs.Stored.{Stored, after_end}
+use Rattle.fx_store_model.specs.Stored.{Stored, after_end, watched_names}
 use Rattle.fx_handles.specs.declared.Owner.{Owner}
 use Rattle.fx_handles.specs.Living.{Register, after_make, after_release}
 use Rattle.fx_listen.specs.declared.entries.Listener.{Listener}
 use Rattle.fx_listen.specs.Laws.{HasBornOwner}
-use Rattle.fx_listen.specs.Listening.{Table, is_live, living_in}
+use Rattle.fx_listen.specs.Listening.{IsBefore, IsSound, Table, is_live, living_in}
 use Rattle.fx_listen.proofs.LivingLemmas.{living_in-made, living_in-released}
 use Rattle.fx_store_pairs.specs.Pairs.{is_paired, joined}
 use Rattle.fx_graph_model.specs.declared.entries.Entry.{Entry}
 use Rattle.fx_graph_model.specs.Changes.{State}
 use Rattle.fx_graph_model.specs.Eager.{eager}
 use Rattle.fx_graph_model.specs.Refusals.{kind_at, read_only_in}
+use Rattle.fx_graph_model.specs.Unread.{marked}
 use Rattle.fx_graph_model.specs.Uses.{bound_in, unknown_in}
 use Rattle.fx_graph_model.proofs.Members.{filter_contains}
-use Rattle.fx_store.specs.Kept.{ArePaired, stored_of}
+use Rattle.fx_store.specs.Kept.{AreAllRead, ArePaired, stored_of}
 use Rattle.fx_store.proofs.Twins.{all_from, joined_eager, joined_kind, joined_own, own_known, own_unbound, paired_own}
+use Rattle.fx_store.proofs.Watched.{watched_watch}
 
 -- laws
 
@@ -39,6 +43,19 @@ pub all_live : (living : List Owner) (entries : List Listener)
 all_live living entries =
     all_from (λ (listener : Listener). is_live living listener ≡ true) (living_in living entries)
     (λ l c. (filter_contains (is_live living) entries l c).1)
+
+pub living_sound : (living : List Owner) (table : Table) → IsSound table
+    → IsSound (record { entries = living_in living table.entries; given = table.given })
+living_sound living table sound = record {
+  sorted = AllPairs-filter IsBefore (is_live living) table.entries sound.sorted;
+  given = All-filter (is_live living) (λ (listener : Listener). listener.number ≤ table.given) table.entries sound.given;
+}
+
+pub watched_read : (stored : Stored) → AreAllRead stored.pairs stored.listeners stored.unread
+    → All (λ (name : ℕ). marked stored.unread name ≡ false) (watched_names stored)
+watched_read stored read =
+    all_from (λ (name : ℕ). marked stored.unread name ≡ false) (watched_names stored)
+    (λ name c. read name (watched_watch stored name c))
 
 -- a listener among the living
 

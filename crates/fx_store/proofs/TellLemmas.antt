@@ -15,7 +15,7 @@ use Rattle.fx_listen.proofs.Cuts.{and-comm, filter-filter}
 use Rattle.fx_graph_model.specs.declared.entries.Entry.{Entry}
 use Rattle.fx_graph_model.specs.Eager.{eager}
 use Rattle.fx_graph_model.specs.Equality.{same_value}
-use Rattle.fx_graph_model.specs.Numbers.{name_of, numbers}
+use Rattle.fx_base.specs.Names.{name_of, numbers}
 use Rattle.fx_store_model.specs.Step.{changed_notice, changed_notices, invalid_notices}
 use Rattle.fx_store_model.proofs.Telling.{told, told_turn}
 use Rattle.fx_store.specs.Watching.{ends_of, heard_of, names_of, values_of, watch_list}

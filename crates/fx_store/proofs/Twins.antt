@@ -13,7 +13,7 @@ use Rattle.fx_graph_model.specs.declared.entries.Entry.{Entry}
 use Rattle.fx_graph_model.specs.declared.entries.Definition.TheVariants.{Base}
 use Rattle.fx_graph_model.specs.Eager.{eager}
 use Rattle.fx_graph_model.specs.Equality.{same_kind}
-use Rattle.fx_graph_model.specs.Numbers.{name_of}
+use Rattle.fx_base.specs.Names.{name_of}
 use Rattle.fx_graph_model.specs.Refusals.{kind_at, pair_names, read_only_in, set_refusal}
 use Rattle.fx_graph_model.specs.Uses.{bound_in, entry_of, is_binding, is_gone, unknown_in}
 use Rattle.fx_graph_model.proofs.Changed.{base_definition, known_within}

@@ -10,7 +10,8 @@ use Rattle.fx_store_model.specs.declared.errors.StoreError.{StoreError}
 use Rattle.fx_store_model.specs.declared.errors.StoreError.TheVariants as error
 use Rattle.fx_store_model.specs.Applied.{Applied}
 use Rattle.fx_store_model.specs.Causes.{of_graph}
-use Rattle.fx_store_model.specs.Refusals.{IsAnswer, IsChangeAnswer, bind_refusal, of_graph_refusal, pair_refusal, refusal}
+use Rattle.fx_base.specs.Answers.{IsAnswer}
+use Rattle.fx_store_model.specs.Refusals.{IsAllowed, IsChangeAnswer, bind_refusal, of_graph_refusal, pair_refusal, refusal}
 use Rattle.fx_store_model.specs.Step.{IsFit, due}
 use Rattle.fx_store_model.specs.Stored.{Stored}
 use Rattle.fx_store_model.proofs.Grouping.{IsGroup}
@@ -22,8 +23,9 @@ use Rattle.fx_store_pairs.specs.Pairs.{is_paired, joined}
 use Rattle.fx_graph_model.specs.declared.errors.GraphError.{GraphError}
 use Rattle.fx_graph_model.specs.Changes.{AreKnown, State, after_bind, after_values}
 use Rattle.fx_graph_model.specs.Eager.{eager}
-use Rattle.fx_graph_model.specs.Numbers.{numbers}
+use Rattle.fx_base.specs.Names.{numbers}
 use Rattle.fx_graph_model.specs.Refusals.{publish_refusal, read_only_in, set_refusal}
+use Rattle.fx_graph_model.specs.declared.errors.GraphError.TheVariants as graph_error
 use Rattle.fx_graph_model.specs.Refusals as graph_refusals
 use Rattle.fx_graph_model.specs.Sound.{AreSound}
 use Rattle.fx_graph_model.specs.Uses.{unknown_in}
@@ -31,12 +33,11 @@ use Rattle.fx_store.specs.Groups.{AreJoinedWith}
 use Rattle.fx_store.specs.Kept.{IsKept, stored_of}
 use Rattle.fx_store.specs.UnderWay.{IsUnderWay}
 use Rattle.fx_store.specs.Watching.{IsWatch, watch_list}
-use Rattle.fx_store.proofs.Answering.{ArePairable, answer_err, answer_ok, bind_free, graph_err, graph_short, pairable, published_only}
-use Rattle.fx_store.proofs.Ending.{memory_answer}
+use Rattle.fx_store.proofs.Answering.{ArePairable, answer_err, answer_ok, bind_free, graph_short, pairable, published_only}
+use Rattle.fx_store.proofs.Ending.{memory_answer, step_failed}
 use Rattle.fx_store.proofs.Grouped.{all_but, joined_group, pair_group, pair_unrefused, with_value_of}
 use Rattle.fx_store.proofs.Lasting.{kept_bound, kept_paired, kept_published, kept_set}
 use Rattle.fx_store.proofs.Made.{made_bind, made_pair_group, made_publish, made_set_group}
-use Rattle.fx_store.proofs.MarkLemmas.{step_failed}
 use Rattle.fx_store.proofs.Pairing.{pair_test}
 use Rattle.fx_store.proofs.Staying.{known_living}
 use Rattle.fx_store.proofs.Stepping.{step_unmade}
@@ -105,7 +106,7 @@ module _ (graph : State) (pairs : List (ℕ × ℕ)) (table : Table) (owners : R
       by_equals (Publish words) before now (after_values false words.items graph) pairs names heard values began looked view
       (made ∙ ap (λ ws. after_values false ws graph) loan)
       (record {
-        allowed = λ notices. answer_ok Notices (of_graph_refusal (publish_refusal words.items graph.entries)) notices (ap of_graph_refusal none);
+        allowed = answer_ok (Unit {0}) (of_graph_refusal (publish_refusal words.items graph.entries)) tt (ap of_graph_refusal none);
         silent = refl;
         kept = kept_published pairs table owners graph behind kept words.items (fit_only before words view fit none);
         whole = is.whole;
@@ -129,8 +130,7 @@ module _ (graph : State) (pairs : List (ℕ × ℕ)) (table : Table) (owners : R
       by_equals (Bind name expr operands) before now (after_bind name.0 expr (numbers operands.items) graph) pairs names heard values began looked
       view made
       (record {
-        allowed = λ notices.
-            answer_ok Notices (bind_refusal name expr operands.items graph.entries pairs) notices
+        allowed = answer_ok (Unit {0}) (bind_refusal name expr operands.items graph.entries pairs) tt
             (bind_free name expr operands.items graph.entries pairs free ∙ ap of_graph_refusal none);
         silent = refl;
         kept = kept_bound pairs table owners graph behind kept name.0 expr (numbers operands.items) free;
@@ -154,8 +154,7 @@ module _ (graph : State) (pairs : List (ℕ × ℕ)) (table : Table) (owners : R
       let is = made_set_group graph pairs table owners name value group kept.twins g in
       by_equals (Set name value) before now (after_values true group graph) pairs names heard values began looked view made
       (record {
-        allowed = λ notices.
-            answer_ok Notices (of_graph_refusal (set_refusal ((name, value) ∷ []) graph.entries)) notices (ap of_graph_refusal none);
+        allowed = answer_ok (Unit {0}) (of_graph_refusal (set_refusal ((name, value) ∷ []) graph.entries)) tt (ap of_graph_refusal none);
         silent = refl;
         kept = kept_set pairs table owners graph behind kept name.0 value group g;
         whole = is.whole;
@@ -198,7 +197,7 @@ module _ (graph : State) (pairs : List (ℕ × ℕ)) (table : Table) (owners : R
       (by_equals (Pair one other) before now (after_values true group graph) (pairs ++ (one.0, other.0) ∷ []) more heard values began looked
       view made
       (record {
-        allowed = λ notices. answer_ok Notices (pair_refusal one other graph.entries pairs) notices none;
+        allowed = answer_ok (Unit {0}) (pair_refusal one other graph.entries pairs) tt none;
         silent = refl;
         kept = kept_paired pairs table owners graph behind kept one.0 other.0 able group g;
         whole = is.whole;
@@ -210,42 +209,15 @@ module _ (graph : State) (pairs : List (ℕ × ℕ)) (table : Table) (owners : R
 
   -- where a change fails
 
-  pub failed_publish : (before : Stored) (words : Vec (Name × Value) Global) (lent : List (Name × Value)) (cause : GraphError) (now : State)
-      (began looked : ℕ) → seen ≡ before → lent ≡ words.items
-      → graph_refusals.IsAnswer {T = Unit {0}} (publish_refusal lent graph.entries) (Err cause) → now ≡ graph → looked ≤ began + due before
-      → Applied (Publish words) before (stored_of now pairs table owners) (Err (of_graph cause)) began looked
-  unfolding refusal
-  failed_publish before words lent cause now began looked view loan answer same few =
-      step_failed (Publish words) before (stored_of now pairs table owners) (of_graph cause) began looked
-      (subst (λ (stored : Stored). IsAnswer {T = Notices} (of_graph_refusal (publish_refusal words.items stored.entries)) (Err (of_graph cause))) view
-      (graph_err (Unit {0}) Notices (publish_refusal words.items graph.entries) cause
-      (subst (λ ws. graph_refusals.IsAnswer {T = Unit {0}} (publish_refusal ws graph.entries) (Err cause)) loan answer)))
-      (ap (λ (state : State). stored_of state pairs table owners) same ∙ view) few
-
-  pub failed_bind : (before : Stored) (name : Name) (expr : Expr) (operands : Vec Name Global) (cause : GraphError) (now : State)
-      (began looked : ℕ) → seen ≡ before → is_paired before.pairs name.0 ≡ false
-      → graph_refusals.IsAnswer {T = Unit {0}} (graph_refusals.bind_refusal name expr operands.items graph.entries) (Err cause) → now ≡ graph
-      → looked ≤ began + due before
-      → Applied (Bind name expr operands) before (stored_of now pairs table owners) (Err (of_graph cause)) began looked
-  unfolding refusal
-  failed_bind before name expr operands cause now began looked view unpaired answer same few =
-      let free : is_paired pairs name.0 ≡ false = ap (λ (stored : Stored). is_paired stored.pairs name.0) view ∙ unpaired in
-      step_failed (Bind name expr operands) before (stored_of now pairs table owners) (of_graph cause) began looked
-      (subst (λ (stored : Stored). IsAnswer {T = Notices} (bind_refusal name expr operands.items stored.entries stored.pairs) (Err (of_graph cause))) view
-      (subst (λ (refused : Option StoreError). IsAnswer {T = Notices} refused (Err (of_graph cause)))
-      (sym (bind_free name expr operands.items graph.entries pairs free))
-      (graph_err (Unit {0}) Notices (graph_refusals.bind_refusal name expr operands.items graph.entries) cause answer)))
-      (ap (λ (state : State). stored_of state pairs table owners) same ∙ view) few
-
-  -- a group that isn't refused wants memory
-  pub failed_set : (change : Change) (before : Stored) (lent : List (Name × Value)) (cause : GraphError) (now : State) (began looked : ℕ)
-      → seen ≡ before → set_refusal lent graph.entries ≡ None
-      → graph_refusals.IsAnswer {T = Unit {0}} (set_refusal lent graph.entries) (Err cause) → now ≡ graph → looked ≤ began + due before
+  -- what isn't refused wants memory
+  pub failed_made : (change : Change) (before : Stored) (refused : Option GraphError) (cause : GraphError) (now : State) (began looked : ℕ)
+      → seen ≡ before → IsAllowed change before → refused ≡ None
+      → IsAnswer {T = Unit {0}} graph_error.Memory refused (Err cause) → now ≡ graph → looked ≤ began + due before
       → Applied change before (stored_of now pairs table owners) (Err (of_graph cause)) began looked
-  failed_set change before lent cause now began looked view none answer same few =
+  failed_made change before refused cause now began looked view allowed none answer same few =
       subst (λ (e : StoreError). Applied change before (stored_of now pairs table owners) (Err e) began looked)
-      (sym (graph_short (Unit {0}) (set_refusal lent graph.entries) cause none answer))
-      (step_unmade change before (stored_of now pairs table owners) began looked
+      (sym (graph_short (Unit {0}) refused cause none answer))
+      (step_unmade change before (stored_of now pairs table owners) began looked allowed
       (ap (λ (state : State). stored_of state pairs table owners) same ∙ view) few)
 
   pub refused_set : (before : Stored) (name : Name) (value : Value) (refused : GraphError) (cause : StoreError) (began : ℕ) → seen ≡ before
@@ -253,20 +225,31 @@ module _ (graph : State) (pairs : List (ℕ × ℕ)) (table : Table) (owners : R
       → Applied (Set name value) before before (Err cause) began began
   unfolding refusal
   refused_set before name value refused cause began view some same =
-      step_failed (Set name value) before before cause began began
-      (subst (λ (stored : Stored). IsAnswer {T = Notices} (of_graph_refusal (set_refusal ((name, value) ∷ []) stored.entries)) (Err cause)) view
+      step_failed (Set name value) before before cause began
+      (subst (λ (stored : Stored). IsAnswer {T = Notices} error.Memory (of_graph_refusal (set_refusal ((name, value) ∷ []) stored.entries)) (Err cause)) view
       (answer_err Notices (of_graph_refusal (set_refusal ((name, value) ∷ []) graph.entries)) cause
       (ap of_graph_refusal some ∙ ap Some (sym same))))
-      refl (omega arith)
+      refl
+
+  pub refused_publish : (before : Stored) (words : Vec (Name × Value) Global) (lent : List (Name × Value)) (refused : GraphError)
+      (cause : StoreError) (began : ℕ) → seen ≡ before → lent ≡ words.items → publish_refusal lent graph.entries ≡ Some refused
+      → cause ≡ of_graph refused → Applied (Publish words) before before (Err cause) began began
+  unfolding refusal
+  refused_publish before words lent refused cause began view loan some same =
+      step_failed (Publish words) before before cause began
+      (subst (λ (stored : Stored). IsAnswer {T = Notices} error.Memory (of_graph_refusal (publish_refusal words.items stored.entries)) (Err cause)) view
+      (answer_err Notices (of_graph_refusal (publish_refusal words.items graph.entries)) cause
+      (ap of_graph_refusal (subst (λ ws. publish_refusal ws graph.entries ≡ Some refused) loan some) ∙ ap Some (sym same))))
+      refl
 
   pub refused_pair : (before : Stored) (one other : Name) (cause : StoreError) (began : ℕ) → seen ≡ before
       → pair_refusal one other graph.entries pairs ≡ Some cause → Applied (Pair one other) before before (Err cause) began began
   unfolding refusal
   refused_pair before one other cause began view some =
-      step_failed (Pair one other) before before cause began began
-      (subst (λ (stored : Stored). IsAnswer {T = Notices} (pair_refusal one other stored.entries stored.pairs) (Err cause)) view
+      step_failed (Pair one other) before before cause began
+      (subst (λ (stored : Stored). IsAnswer {T = Notices} error.Memory (pair_refusal one other stored.entries stored.pairs) (Err cause)) view
       (answer_err Notices (pair_refusal one other graph.entries pairs) cause some))
-      refl (omega arith)
+      refl
 
   -- the names that are joined, each with the value, as they were found
 
@@ -314,13 +297,42 @@ module _ (graph : State) (pairs : List (ℕ × ℕ)) (table : Table) (owners : R
       pair_unrefused graph.entries pairs kept.twins sound one.0 other.0 able.one_own able.other_own able.kind lent group
 
   pub failed_pair : (before : Stored) (one other : Name) (cause : StoreError) (now : State) (some : List (ℕ × ℕ)) (began looked : ℕ)
-      → seen ≡ before → cause ≡ error.Memory → now ≡ graph → some ≡ pairs → looked ≤ began + due before
+      → seen ≡ before → IsAllowed (Pair one other) before → cause ≡ error.Memory → now ≡ graph → some ≡ pairs → looked ≤ began + due before
       → Applied (Pair one other) before (stored_of now some table owners) (Err cause) began looked
-  failed_pair before one other cause now some began looked view short same still few =
+  failed_pair before one other cause now some began looked view allowed short same still few =
       subst (λ (e : StoreError). Applied (Pair one other) before (stored_of now some table owners) (Err e) began looked) (sym short)
-      (step_unmade (Pair one other) before (stored_of now some table owners) began looked
+      (step_unmade (Pair one other) before (stored_of now some table owners) began looked allowed
       (ap (λ (state : State). stored_of state some table owners) same
       ∙ ap (λ (ps : List (ℕ × ℕ)). stored_of graph ps table owners) still ∙ view) few)
+
+-- nothing speaks against them
+
+pub allowed_set : (before : Stored) (name : Name) (value : Value) → set_refusal ((name, value) ∷ []) before.entries ≡ None
+    → IsAllowed (Set name value) before
+unfolding refusal
+allowed_set before name value none =
+    answer_ok (Unit {0}) (of_graph_refusal (set_refusal ((name, value) ∷ []) before.entries)) tt (ap of_graph_refusal none)
+
+pub allowed_publish : (before : Stored) (words : Vec (Name × Value) Global) (lent : List (Name × Value)) → lent ≡ words.items
+    → publish_refusal lent before.entries ≡ None → IsAllowed (Publish words) before
+unfolding refusal
+allowed_publish before words lent loan none =
+    answer_ok (Unit {0}) (of_graph_refusal (publish_refusal words.items before.entries)) tt
+    (ap of_graph_refusal (subst (λ ws. publish_refusal ws before.entries ≡ None) loan none))
+
+pub allowed_bind : (before : Stored) (name : Name) (expr : Expr) (operands : Vec Name Global) (lent : List Name) → lent ≡ operands.items
+    → is_paired before.pairs name.0 ≡ false → graph_refusals.bind_refusal name expr lent before.entries ≡ None
+    → IsAllowed (Bind name expr operands) before
+unfolding refusal
+allowed_bind before name expr operands lent loan free none =
+    answer_ok (Unit {0}) (bind_refusal name expr operands.items before.entries before.pairs) tt
+    (bind_free name expr operands.items before.entries before.pairs free
+    ∙ ap of_graph_refusal (subst (λ ns. graph_refusals.bind_refusal name expr ns before.entries ≡ None) loan none))
+
+pub allowed_pair : (before : Stored) (one other : Name) → pair_refusal one other before.entries before.pairs ≡ None
+    → IsAllowed (Pair one other) before
+unfolding refusal
+allowed_pair before one other none = answer_ok (Unit {0}) (pair_refusal one other before.entries before.pairs) tt none
 
 pub refused_bind : (before : Stored) (name : Name) (expr : Expr) (operands : Vec Name Global) (lent : List Name) (cause : StoreError) (began : ℕ)
     → lent ≡ operands.items
@@ -328,7 +340,7 @@ pub refused_bind : (before : Stored) (name : Name) (expr : Expr) (operands : Vec
     → Applied (Bind name expr operands) before before (Err cause) began began
 unfolding refusal
 refused_bind before name expr operands lent cause began loan why =
-    step_failed (Bind name expr operands) before before cause began began
+    step_failed (Bind name expr operands) before before cause began
     (elim why [
       | inl short ↦
           subst (λ (e : StoreError). IsChangeAnswer {T = Notices} (Bind name expr operands) before (Err e)) (sym short)
@@ -337,7 +349,7 @@ refused_bind before name expr operands lent cause began loan why =
           answer_err Notices (bind_refusal name expr operands.items before.entries before.pairs) cause
           (ap (λ (ns : List Name). bind_refusal name expr ns before.entries before.pairs) (sym loan) ∙ sym some)
     ])
-    refl (omega arith)
+    refl
 
 pub not_some : {X : Type 0} (found : Option X) → ((x : X) → found ≡ Some x → ⊥) → found ≡ None
 not_some None never = refl

@@ -7,7 +7,8 @@ use Rattle.std.proofs.lemmas.List.Elements.{All-contains, filter_agree}
 use Rattle.std.proofs.lemmas.List.Folds.{list_any-append}
 use Rattle.fx_base.specs.declared.keys.Name.{Name}
 use Rattle.fx_store_model.specs.Making.{with_listeners}
-use Rattle.fx_store_model.specs.Refusals.{listen_refusal, of_graph_refusal, or_else, refused_if}
+use Rattle.fx_base.specs.Answers.{or_else}
+use Rattle.fx_store_model.specs.Refusals.{listen_refusal, of_graph_refusal, refused_if}
 use Rattle.fx_store_model.specs.declared.errors.StoreError.TheVariants as error
 use Rattle.fx_handles.specs.declared.Owner.{Owner}
 use Rattle.fx_handles.specs.Living.{IsSound, Register, is_same}
@@ -21,7 +22,7 @@ use Rattle.fx_store_pairs.specs.Pairs.{is_among}
 use Rattle.fx_graph_model.specs.declared.entries.Entry.{Entry}
 use Rattle.fx_graph_model.specs.declared.errors.GraphError.TheVariants as graph
 use Rattle.fx_graph_model.specs.Changes.{State}
-use Rattle.fx_graph_model.specs.Numbers.{numbers}
+use Rattle.fx_base.specs.Names.{numbers}
 use Rattle.fx_graph_model.specs.Uses.{unknown_in}
 use Rattle.fx_graph_model.proofs.Flags.{same_test}
 use Rattle.fx_graph_model.proofs.Members.{any_from}

@@ -14,7 +14,7 @@ use Rattle.fx_listen.proofs.Cuts.{and-comm, filter-filter}
 use Rattle.fx_graph_model.specs.declared.entries.Entry.{Entry}
 use Rattle.fx_graph_model.specs.Changes.{AreKnown}
 use Rattle.fx_graph_model.specs.Eager.{eager}
-use Rattle.fx_graph_model.specs.Numbers.{numbers}
+use Rattle.fx_base.specs.Names.{numbers}
 use Rattle.fx_graph_model.specs.Uses.{unknown_in}
 use Rattle.fx_graph_model.specs.Unread.{evaluations_of}
 use Rattle.fx_graph_model.proofs.ManyReads.{evaluations_more}

@@ -2,7 +2,7 @@
 use Rattle.std.specs.Prelude.{ℕ, ◌≡◌, ◌≢◌, ◌↔◌, true, List, AllPairs, Contains}
 use Rattle.fx_base.specs.declared.keys.Name.{Name}
 use Rattle.fx_store_pairs.specs.Pairs.{joined}
-use Rattle.fx_graph_model.specs.Numbers.{numbers}
+use Rattle.fx_base.specs.Names.{numbers}
 
 -- these are the names that are joined with this one, each once
 pub record AreJoinedWith (pairs : List (ℕ × ℕ)) (name : ℕ) (names : List Name) : Type 0 where

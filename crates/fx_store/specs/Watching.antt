@@ -8,7 +8,7 @@ use Rattle.fx_listen.specs.declared.entries.ListenKind.TheVariants.{Change}
 use Rattle.fx_listen.specs.Listening.{same_kind}
 use Rattle.fx_graph_model.specs.declared.entries.Entry.{Entry}
 use Rattle.fx_graph_model.specs.Eager.{eager}
-use Rattle.fx_graph_model.specs.Numbers.{numbers}
+use Rattle.fx_base.specs.Names.{numbers}
 
 -- the change listeners among these
 abbrev pub heard_of : List Listener → List Listener

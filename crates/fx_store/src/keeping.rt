@@ -4,12 +4,13 @@ ghost use Rattle.std.specs.Prelude.{◌≡◌, ◌≢◌, ◌≤◌, ◌+◌, []
 ghost use Rattle.fx_handles.specs.Living.{IsSound};
 ghost use Rattle.fx_listen.specs.declared.entries.Listener.{Listener as Heard};
 ghost use Rattle.fx_listen.specs.Listening.{placed};
-ghost use Rattle.fx_graph_model.specs.Numbers.{numbers};
+ghost use Rattle.fx_base.specs.Names.{numbers};
 ghost use Rattle.fx_graph_model.specs.Unread.{evaluations, marked};
 ghost use Rattle.fx_store_model.specs.Applied.{Applied};
 ghost use Rattle.fx_store_model.specs.declared.changes.Change.TheVariants as change;
 ghost use Rattle.fx_store_model.specs.Making.{made_forget, made_unbind, made_unlisten, new_listener, with_listeners, with_pairs};
-ghost use Rattle.fx_store_model.specs.Refusals.{IsAnswer, IsForgetAnswer, listen_refusal, unknown_of};
+ghost use Rattle.fx_base.specs.Answers.{IsAnswer};
+ghost use Rattle.fx_store_model.specs.Refusals.{IsForgetAnswer, listen_refusal, unknown_of};
 ghost use Rattle.fx_store_model.specs.Step.{IsReadSome, due};
 ghost use Rattle.fx_store_model.specs.Stored.{after_watching};
 ghost use Rattle.fx_store_pairs.specs.Pairs.{is_among, without_pair};
@@ -18,9 +19,9 @@ use crate::refusing::{of_listen, of_unlisten, of_unpair};
 use crate::store::Store;
 use crate::watching::read_watched;
 use fx_base::{Ledgers, Name, Work};
-use fx_store_model::{Notices, StoreError};
 use fx_handles::{Owner, Owners};
 use fx_listen::{ListenKind, Listeners};
+use fx_store_model::{Notices, StoreError};
 use std::alloc::{AllocError, Global};
 
 /// What tells of nothing but a listener that was added.
@@ -67,7 +68,7 @@ impl Store {
         name: Name,
         work: &mut Work<L>,
     ) -> Result<(), StoreError>
-        ensures answer { IsAnswer (unknown_of (name ∷ []) self.old.entries) result }
+        ensures answer { IsAnswer StoreError.Memory (unknown_of (name ∷ []) self.old.entries) result }
         ensures ok { OnOk result (self.new ≡ made_unbind name.0 self.old) }
         ensures memory { result ≡ Err StoreError.Memory → IsReadSome self.old self.new }
         ensures refused { IfErr result (λ error. error ≢ StoreError.Memory → self.new ≡ self.old) }
@@ -87,6 +88,9 @@ impl Store {
         ensures applied { Applied (change.Unbind name) self.old self.new result work.old.evaluated work.new.evaluated }
         ensures others { work.new ≡ record work.old { evaluated = work.new.evaluated } }
     {
+        if self.graph.is_unknown(name) {
+            return Err(StoreError::Unknown(name));
+        }
         self.graph.laws();
         self.end_binding(alloc, name, work)?;
         self.catch_up(alloc, work)?;

@@ -9,13 +9,14 @@ ghost use Rattle.fx_store_pairs.specs.Pairs.{is_paired};
 ghost use Rattle.fx_graph_model.specs.declared.entries.Entry.{Entry};
 ghost use Rattle.fx_graph_model.specs.Changes.{AreKnown, after_values};
 ghost use Rattle.fx_graph_model.specs.Eager.{eager};
-ghost use Rattle.fx_graph_model.specs.Numbers.{numbers};
+ghost use Rattle.fx_base.specs.Names.{numbers};
 ghost use Rattle.fx_graph_model.specs.Refusals.{set_refusal};
 ghost use Rattle.fx_graph_model.specs.Uses.{bound_in, unknown_in};
 ghost use Rattle.fx_store_model.specs.Applied.{Applied};
 ghost use Rattle.fx_store_model.specs.declared.changes.Change.{Change as Changing};
 ghost use Rattle.fx_store_model.specs.declared.changes.Change.TheVariants as change;
-ghost use Rattle.fx_store_model.specs.Refusals.{bind_refusal, of_graph_refusal, or_else};
+ghost use Rattle.fx_base.specs.Answers.{or_else};
+ghost use Rattle.fx_store_model.specs.Refusals.{bind_refusal, of_graph_refusal};
 ghost use Rattle.fx_store_model.specs.Step.{IsFit, due};
 ghost use Rattle.fx_store_model.specs.Stored.{Stored};
 ghost use Rattle.fx_store.specs.Groups.{AreJoinedWith};
@@ -28,13 +29,13 @@ use crate::store::Store;
 use crate::telling::tell;
 use crate::watching::{Watched, push_two, watch};
 use fx_base::{Ledgers, Name, Value, Work};
-use fx_store_model::{Notices, StoreError};
 use fx_expr::Expr;
 use fx_graph::Graph;
+use fx_graph_model::GraphError;
 use fx_handles::Owners;
 use fx_listen::Listeners;
+use fx_store_model::{Notices, StoreError};
 use fx_store_pairs::Pairs;
-use fx_graph_model::GraphError;
 use std::alloc::{AllocError, Global};
 
 /// The value for each of the names.
@@ -172,6 +173,16 @@ fn unfit_or_mixed(refusal: Option<GraphError>, name: Name) -> StoreError
     }
 }
 
+/// The refusal in the words of the store.
+fn as_of_store(refusal: Option<GraphError>) -> Option<StoreError>
+    ensures { result ≡ of_graph_refusal refusal }
+{
+    match refusal {
+        Some(refusal) => Some(StoreError::from(refusal)),
+        None => None,
+    }
+}
+
 impl Store {
     /// Looks at what a change may tell of; nothing is read.
     fn look<L: Ledgers>(&mut self, alloc: Global, work: &mut Work<L>) -> Result<Watched, AllocError>
@@ -228,8 +239,12 @@ impl Store {
         ensures applied { Applied (change.Publish pairs) self.old self.new result work.old.evaluated work.new.evaluated }
         ensures others { work.new ≡ record work.old { evaluated = work.new.evaluated } }
     {
+        let given = pairs.as_slice();
+        if let Some(refusal) = self.graph.refuses_publish(given) {
+            return Err(StoreError::from(refusal));
+        }
         let watch = self.look(alloc, work)?;
-        self.graph.publish(alloc, pairs.as_slice())?;
+        self.graph.publish(alloc, given)?;
         finish(
             alloc,
             &mut self.graph,
@@ -253,11 +268,13 @@ impl Store {
         ensures applied { Applied (change.Bind name expr operands) self.old self.new result work.old.evaluated work.new.evaluated }
         ensures others { work.new ≡ record work.old { evaluated = work.new.evaluated } }
     {
-        if self.pairs.is_paired(name) {
-            return Err(self.mixed(alloc, name, &expr, operands.as_slice()));
+        let refusal = self.refuses_bind(alloc, name, &expr, operands.as_slice())?;
+        match refusal {
+            Some(refusal) => return Err(refusal),
+            None => {}
         }
         let watch = self.look(alloc, work)?;
-        self.graph.bind(alloc, name, expr, operands)?;
+        self.graph.make_binding(name, expr, operands)?;
         finish(
             alloc,
             &mut self.graph,
@@ -269,16 +286,24 @@ impl Store {
         )
     }
 
-    /// Why a paired property may not be bound: what doesn't fit comes first.
-    fn mixed(&self, alloc: Global, name: Name, expr: &Expr, operands: &[Name]) -> StoreError
-        requires within { is_within (tree expr.now) (length operands.now) ≡ true }
-        requires paired { is_paired self.now.pairs name.0 ≡ true }
-        ensures { (result ≡ StoreError.Memory) ⊎ (Some result ≡ bind_refusal name expr.now operands.now self.now.entries self.now.pairs) }
+    /// Why the property may not be bound so, if it may not: what doesn't fit comes before a pair.
+    fn refuses_bind(
+        &mut self,
+        alloc: Global,
+        name: Name,
+        expr: &Expr,
+        operands: &[Name],
+    ) -> Result<Option<StoreError>, AllocError>
+        requires { is_within (tree expr.now) (length operands.now) ≡ true }
+        ensures same { self.new ≡ self.old }
+        ensures refusal { IfOk result (λ refusal. refusal ≡ bind_refusal name expr.now operands.now self.old.entries self.old.pairs) }
     {
-        match self.graph.refuses_operands(alloc, name, expr, operands) {
-            Err(error) => StoreError::from(error),
-            Ok(refusal) => unfit_or_mixed(refusal, name),
+        if self.pairs.is_paired(name) {
+            let unfit = self.graph.refuses_operands(alloc, name, expr, operands)?;
+            return Ok(Some(unfit_or_mixed(unfit, name)));
         }
+        let refusal = self.graph.refuses_bind(alloc, name, expr, operands)?;
+        Ok(as_of_store(refusal))
     }
 
     pub(crate) fn pair<L: Ledgers>(

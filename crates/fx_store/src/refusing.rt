@@ -4,10 +4,10 @@ ghost use Rattle.fx_listen.specs.Listening.{living_in};
 ghost use Rattle.fx_store_model.specs.Refusals.{listen_refusal, pair_refusal, unlisten_refusal, unpair_refusal};
 
 use fx_base::Name;
-use fx_store_model::StoreError;
 use fx_graph::Graph;
 use fx_handles::{Owner, Owners};
 use fx_listen::{Listeners, has_life};
+use fx_store_model::StoreError;
 use fx_store_pairs::Pairs;
 
 /// The most pairs that there are at once.

@@ -1,27 +1,29 @@
 //! The store itself: its parts, what contracts see of them, and the calls that change nothing but one part.
-ghost use Rattle.std.specs.Prelude.{ℕ, ◌≡◌, ◌≢◌, ◌≤◌, ◌+◌, ◌↔◌, ◌==◌, ◌⊎◌, [], ◌∷◌, true, All, Contains, Err, IfErr, IfOk, IsTrue, OnErr, OnOk, length};
+ghost use Rattle.std.specs.Prelude.{ℕ, ◌≡◌, ◌≢◌, ◌≤◌, ◌+◌, ◌↔◌, ◌==◌, ◌⊎◌, [], ◌∷◌, false, true, All, Contains, Err, IfErr, IfOk, IsTrue, OnErr, OnOk, length};
 ghost use Rattle.std.specs.List.{list_any};
 ghost use Rattle.fx_base.specs.Printing.{kind_of};
 ghost use Rattle.fx_graph.specs.Store.{origin_in};
 ghost use Rattle.fx_handles.specs.Living.{after_make};
-ghost use Rattle.fx_listen.specs.Listening.{is_live};
+ghost use Rattle.fx_listen.specs.Listening.{IsSound, is_live};
 ghost use Rattle.fx_graph_model.specs.Eager.{eager};
 ghost use Rattle.fx_graph_model.specs.Refusals.{declare_refusal, read_only_in};
-ghost use Rattle.fx_graph_model.specs.Unread.{after_reading, evaluations, marked};
+ghost use Rattle.fx_graph_model.specs.Unread.{IsClosed, after_reading, evaluations, marked};
+ghost use Rattle.fx_graph_model.specs.Sound.{AreSound, IsAcyclic};
 ghost use Rattle.fx_graph_model.specs.Uses.{bound_in};
 ghost use Rattle.fx_store_model.specs.Applied.{Applied};
 ghost use Rattle.fx_store_model.specs.Making.{with_owners, after_declared};
-ghost use Rattle.fx_store_model.specs.Refusals.{IsAnswer, of_graph_refusal, unknown_of};
+ghost use Rattle.fx_base.specs.Answers.{IsAnswer};
+ghost use Rattle.fx_store_model.specs.Refusals.{of_graph_refusal, owner_refusal, unknown_of};
 ghost use Rattle.fx_store_model.specs.Step.{IsFit, IsReadSome};
-ghost use Rattle.fx_store_model.specs.Stored.{AreJoinedAlike, after_end, empty, with_unread};
+ghost use Rattle.fx_store_model.specs.Stored.{AreJoinedAlike, after_end, empty, watched_names, with_unread};
 
 use fx_base::{Kind, Ledgers, Name, Value, Work};
-use fx_store_model::{Change, Notices, StoreError};
 use fx_graph::Graph;
+use fx_graph_model::Origin;
 use fx_handles::{Owner, Owners};
 use fx_listen::Listeners;
+use fx_store_model::{Change, Notices, StoreError};
 use fx_store_pairs::Pairs;
-use fx_graph_model::Origin;
 use std::alloc::Global;
 use std::marker::Model;
 
@@ -76,7 +78,7 @@ impl Store {
         value: Value,
     ) -> Result<Name, StoreError>
         requires { kind_of value ≡ kind }
-        ensures answer { IsAnswer (of_graph_refusal (declare_refusal self.old.entries)) result }
+        ensures answer { IsAnswer StoreError.Memory (of_graph_refusal (declare_refusal self.old.entries)) result }
         ensures name { IfOk result (λ name. name.0 ≡ length self.old.entries) }
         ensures ok { OnOk result (self.new ≡ after_declared kind read_only value self.old) }
         ensures err { OnErr result (self.new ≡ self.old) }
@@ -121,7 +123,7 @@ impl Store {
         name: Name,
         work: &mut Work<L>,
     ) -> Result<Value, StoreError>
-        ensures answer { IsAnswer (unknown_of (name ∷ []) self.old.entries) result }
+        ensures answer { IsAnswer StoreError.Memory (unknown_of (name ∷ []) self.old.entries) result }
         ensures value { IfOk result (λ value. value ≡ eager self.old.entries name.0) }
         ensures ok { OnOk result (self.new ≡ with_unread (after_reading self.old.entries name.0 self.old.unread) self.old) }
         ensures memory { result ≡ Err StoreError.Memory → IsReadSome self.old self.new }
@@ -137,6 +139,7 @@ impl Store {
     pub fn make_owner(&mut self, alloc: Global) -> Result<Owner, StoreError>
         ensures birth { IfOk result (λ owner. owner.birth ≡ self.old.owners.born + 1) }
         ensures made { IfOk result (λ owner. self.new ≡ with_owners (after_make self.old.owners owner) self.old) }
+        ensures answer { IsAnswer StoreError.Memory (owner_refusal self.old.owners) result }
         ensures full { (result ≡ Err StoreError.Full) ↔ ((length self.old.owners.living ≡ 10000) ⊎ (self.old.owners.born ≡ u32.MAX)) }
         ensures err { OnErr result (self.new ≡ self.old) }
     {
@@ -187,12 +190,29 @@ impl Store {
         self.listeners.is_listening(&self.owners, number)
     }
 
-    /// What is true at all times: joined properties are unbound, written by code, of one kind and of one value, and each
-    /// listener that is seen has no owner or a living one.
+    /// Whether memory was wanting in a change, so that a watched property may be unread.
+    pub fn is_behind(&self) -> bool
+        ensures { result ≡ false → All (λ (name : ℕ). marked self.now.unread name ≡ false) (watched_names self.now) }
+    {
+        self.behind
+    }
+
+    /// What is true at all times: each property has a flag, who reads an unread one is unread, and none reads itself;
+    /// joined properties are unbound, written by code, of one kind and of one value; and each listener that is seen has
+    /// no owner or a living one, and stands by its property and then by its number.
     pub fn laws(&self)
+        ensures flags { length self.now.unread ≡ length self.now.entries }
+        ensures closed { IsClosed self.now.entries self.now.unread }
+        ensures acyclic { IsAcyclic self.now.entries }
+        ensures sound { AreSound self.now.entries }
+        ensures few { length self.now.entries ≤ 4000000 }
+        ensures few_pairs { length self.now.pairs ≤ 10000 }
         ensures joined { AreJoinedAlike self.now }
         ensures living { All (λ listener. is_live self.now.owners.living listener ≡ true) self.now.listeners }
+        ensures listeners { IsSound (record { entries = self.now.listeners; given = self.now.given }) }
     {
+        self.graph.laws();
+        self.listeners.laws();
         let _behind = self.behind;
     }
 }

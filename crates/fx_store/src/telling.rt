@@ -5,18 +5,18 @@ ghost use Rattle.fx_store_model.specs.Step.{changed_notice, changed_notices, inv
 ghost use Rattle.fx_listen.specs.Listening.{living_in};
 ghost use Rattle.fx_graph_model.specs.declared.entries.Entry.{Entry};
 ghost use Rattle.fx_graph_model.specs.Equality.{same_value};
-ghost use Rattle.fx_graph_model.specs.Numbers.{numbers};
+ghost use Rattle.fx_base.specs.Names.{numbers};
 ghost use Rattle.fx_graph_model.specs.Unread.{evaluations_of};
 ghost use Rattle.fx_graph_model.specs.Changes.{AreKnown, after_read_all, IsSomeRead};
 ghost use Rattle.fx_store.specs.Watching.{IsWatch, values_of};
 
 use crate::watching::Watched;
 use fx_base::{Ledgers, Name, Value, Work};
-use fx_store_model::Notices;
 use fx_graph::Graph;
+use fx_graph_model::are_same;
 use fx_handles::Owners;
 use fx_listen::{ListenKind, Listener, Listeners};
-use fx_graph_model::are_same;
+use fx_store_model::Notices;
 use std::alloc::{AllocError, Global};
 
 /// One notice for each of these listeners of the property.

@@ -1,7 +1,7 @@
 //! What a change step looks at before the change, and the reads after it.
 ghost use Rattle.std.specs.Prelude.{ℕ, ◌≡◌, ◌++◌, ◌∷◌, ◌≤◌, ◌+◌, [], false, All, IfOk, OnOk};
 ghost use Rattle.fx_listen.specs.Listening.{living_in};
-ghost use Rattle.fx_graph_model.specs.Numbers.{numbers};
+ghost use Rattle.fx_base.specs.Names.{numbers};
 ghost use Rattle.fx_graph_model.specs.Uses.{unknown_in};
 ghost use Rattle.fx_graph_model.specs.Unread.{evaluations_of};
 ghost use Rattle.fx_graph_model.specs.Changes.{after_read_all, IsSomeRead};

@@ -10,7 +10,7 @@ use Rattle.fx_graph_model.specs.declared.entries.Entry.{Entry}
 use Rattle.fx_graph_model.specs.Changes.{given, with_values, changed}
 use Rattle.fx_graph_model.specs.Eager.{eager}
 use Rattle.fx_graph_model.specs.Equality.{same_value}
-use Rattle.fx_graph_model.specs.Numbers.{numbers}
+use Rattle.fx_base.specs.Names.{numbers}
 use Rattle.fx_graph_model.specs.Uses.{nothing, entry_of}
 use Rattle.fx_graph_model.proofs.Given.{targets, Distinct, length-given, entry-given, entry-given_other}
 use Rattle.fx_graph_model.proofs.Kept.{eager-own}

@@ -1,6 +1,6 @@
 -- What each change makes of the definitions, and which names it changes. Source: JavaFX 21 properties
 -- (javafx.beans.property).
-use Rattle.std.specs.Prelude.{ℕ, ◌+◌, ◌==◌, Bool, true, false, cond, not, ◌&&◌, ◌||◌, List, [], ◌∷◌, ◌++◌, length, map, filter, Option}
+use Rattle.std.specs.Prelude.{ℕ, ◌+◌, ◌==◌, Bool, true, false, if◌then◌else◌, not, ◌&&◌, ◌||◌, List, [], ◌∷◌, ◌++◌, length, map, filter, Option}
 use Rattle.std.specs.List.{list_any, range_with_len}
 use Rattle.fx_base.specs.declared.keys.Name.{Name}
 use Rattle.fx_base.specs.declared.kinds.Kind.{Kind}
@@ -11,12 +11,10 @@ use Rattle.fx_listen.specs.declared.entries.Listener.{Listener}
 use Rattle.fx_listen.specs.declared.entries.ListenKind.{ListenKind}
 use Rattle.fx_listen.specs.Listening.{is_equal, placed, without_first}
 use Rattle.fx_graph_model.specs.declared.entries.Entry.{Entry}
-use Rattle.fx_graph_model.specs.declared.entries.Definition.TheVariants.{Base}
-use Rattle.fx_graph_model.specs.declared.entries.Origin.TheVariants as origin
-use Rattle.fx_graph_model.specs.Changes.{after_unbind, changed, clear_all, forget_all, given, with_binding, with_values}
+use Rattle.fx_graph_model.specs.Changes.{changed, clear_all, forget_all, given, new_entry, with_binding, with_values}
 use Rattle.fx_graph_model.specs.Eager.{eager}
 use Rattle.fx_graph_model.specs.Equality.{same_value}
-use Rattle.fx_graph_model.specs.Numbers.{numbers}
+use Rattle.fx_base.specs.Names.{numbers}
 use Rattle.fx_graph_model.specs.Unread.{after_reading}
 use Rattle.fx_graph_model.specs.Uses.{entry_of, bound_in}
 use Rattle.fx_store_model.specs.declared.changes.Change.{Change}
@@ -27,58 +25,29 @@ use Rattle.fx_store_model.specs.Stored.{Stored, with_unread}
 -- the names that pass the test are set by code to the value
 abbrev pub with_group : (ℕ → Bool) → Value → List Entry → List Entry
 with_group test value entries =
-    map (λ (name : ℕ). cond (test name) (given true value (entry_of entries name)) (entry_of entries name))
+    map
+    (λ (name : ℕ). if test name then given true value (entry_of entries name) else entry_of entries name)
     (range_with_len 0 (length entries))
 
 abbrev pub with_entries : List Entry → Stored → Stored
-with_entries entries stored =
-    record {
-      entries = entries;
-      unread = stored.unread;
-      pairs = stored.pairs;
-      listeners = stored.listeners;
-      owners = stored.owners;
-      given = stored.given;
-    }
+with_entries entries stored = record stored { entries = entries }
 
 abbrev pub with_pairs : List (ℕ × ℕ) → Stored → Stored
-with_pairs pairs stored =
-    record {
-      entries = stored.entries;
-      unread = stored.unread;
-      pairs = pairs;
-      listeners = stored.listeners;
-      owners = stored.owners;
-      given = stored.given;
-    }
+with_pairs pairs stored = record stored { pairs = pairs }
 
 abbrev pub with_listeners : List Listener → ℕ → Stored → Stored
-with_listeners listeners given stored =
-    record {
-      entries = stored.entries;
-      unread = stored.unread;
-      pairs = stored.pairs;
-      listeners = listeners;
-      owners = stored.owners;
-      given = given;
-    }
+with_listeners listeners given stored = record stored { listeners = listeners; given = given }
 
 abbrev pub with_owners : Register → Stored → Stored
-with_owners owners stored =
-    record {
-      entries = stored.entries;
-      unread = stored.unread;
-      pairs = stored.pairs;
-      listeners = stored.listeners;
-      owners = owners;
-      given = stored.given;
-    }
+with_owners owners stored = record stored { owners = owners }
 
 -- a further property with this value, which isn't unread
 abbrev pub after_declared : Kind → Bool → Value → Stored → Stored
 after_declared kind read_only value stored =
-    with_entries (stored.entries ++ record { kind = kind; read_only = read_only; origin = origin.Initial; definition = Base value } ∷ [])
-    (with_unread (stored.unread ++ false ∷ []) stored)
+    record stored {
+      entries = stored.entries ++ new_entry kind read_only value ∷ [];
+      unread = stored.unread ++ false ∷ [];
+    }
 
 -- the property and all that are joined with it have the value
 abbrev pub made_set : ℕ → Value → Stored → Stored
@@ -87,18 +56,21 @@ made_set name value stored = with_entries (with_group (joined stored.pairs name)
 -- read, and set by code to the value that it had
 abbrev pub made_unbind : ℕ → Stored → Stored
 made_unbind name stored =
-    cond (bound_in stored.entries name)
-    (with_entries (with_group (λ (other : ℕ). other == name) (eager stored.entries name) stored.entries)
-    (with_unread (after_reading stored.entries name stored.unread) stored))
-    stored
+    if bound_in stored.entries name
+    then record stored {
+      entries = with_group (λ (other : ℕ). other == name) (eager stored.entries name) stored.entries;
+      unread = after_reading stored.entries name stored.unread;
+    }
+    else stored
 
 -- the first and all that are joined with it, but for the second, have the second one's value, and the pair goes last
 abbrev pub made_pair : ℕ → ℕ → Stored → Stored
 made_pair one other stored =
-    with_pairs (stored.pairs ++ (one, other) ∷ [])
-    (with_entries
-    (with_group (λ (name : ℕ). joined stored.pairs one name && not (name == other)) (eager stored.entries other) stored.entries)
-    stored)
+    record stored {
+      entries = with_group (λ (name : ℕ). joined stored.pairs one name && not (name == other))
+          (eager stored.entries other) stored.entries;
+      pairs = stored.pairs ++ (one, other) ∷ [];
+    }
 
 abbrev pub new_listener : ℕ → Name → ListenKind → Option Owner → ℕ → Listener
 new_listener number name kind owner tag = record { number = number; name = name; kind = kind; owner = owner; tag = tag }
@@ -116,19 +88,18 @@ made_unlisten name kind owner tag stored =
 -- nothing is left of the names but that they were declared
 abbrev pub made_forget : List ℕ → Stored → Stored
 made_forget names stored =
-    record {
+    record stored {
       entries = forget_all names stored.entries;
       unread = clear_all names stored.unread;
       pairs = filter (λ (pair : ℕ × ℕ). not (is_among names pair.0 || is_among names pair.1)) stored.pairs;
       listeners = filter (λ (listener : Listener). not (is_among names listener.name.0)) stored.listeners;
-      owners = stored.owners;
-      given = stored.given;
     }
 
 unfoldable pub made : Change → Stored → Stored
 made (Set name value) stored = made_set name.0 value stored
 made (Publish pairs) stored = with_entries (with_values false pairs.items stored.entries) stored
-made (Bind name expr operands) stored = with_entries (with_binding name.0 expr (numbers operands.items) stored.entries) stored
+made (Bind name expr operands) stored =
+    with_entries (with_binding name.0 expr (numbers operands.items) stored.entries) stored
 made (Unbind name) stored = made_unbind name.0 stored
 made (Pair one other) stored = made_pair one.0 other.0 stored
 made (Unpair one other) stored = with_pairs (without_pair one.0 other.0 stored.pairs) stored
@@ -139,7 +110,7 @@ made (Forget names) stored = made_forget (numbers names.items) stored
 -- all that are joined with the name, where it has another value
 abbrev pub moved : ℕ → Value → Stored → List ℕ
 moved name value stored =
-    cond (same_value (eager stored.entries name) value) [] (group stored.pairs (length stored.entries) name)
+    if same_value (eager stored.entries name) value then [] else group stored.pairs (length stored.entries) name
 
 unfoldable pub changed_by : Change → Stored → List ℕ
 changed_by (Set name value) stored = moved name.0 value stored

@@ -1,16 +1,18 @@
 -- When each change is refused, and with which error: in the order of the script's refusal words, each over all names.
-use Rattle.std.specs.Prelude.{ℕ, ◌≡◌, ◌==◌, ◌⊎◌, nat_le, Bool, true, false, cond, ◌||◌, List, [], ◌∷◌, length, map, Option, Some, None, Result, Ok, Err, Contains}
+use Rattle.std.specs.Prelude.{ℕ, ◌≡◌, ◌==◌, ◌⊎◌, nat_le, Bool, true, false, if◌then◌else◌, ◌||◌, List, [], ◌∷◌, length, map, Option, Some, None, Result, Ok, Err, Contains}
 use Rattle.std.specs.Option.{option_map}
+use Rattle.fx_base.specs.Answers.{IsAnswer, or_else}
+use Rattle.fx_base.specs.Names.{numbers}
 use Rattle.fx_base.specs.declared.keys.Name.{Name}
 use Rattle.fx_expr.specs.declared.tree.Expr.{Expr}
 use Rattle.fx_handles.specs.declared.Owner.{Owner}
+use Rattle.fx_handles.specs.Living.{Register}
 use Rattle.fx_listen.specs.declared.entries.Listener.{Listener}
 use Rattle.fx_listen.specs.Listening.{has_life}
 use Rattle.fx_store_pairs.specs.Pairs.{is_paired}
 use Rattle.fx_graph_model.specs.declared.entries.Entry.{Entry}
 use Rattle.fx_graph_model.specs.declared.errors.GraphError.{GraphError}
 use Rattle.fx_graph_model.specs.Equality.{same_kind}
-use Rattle.fx_graph_model.specs.Numbers.{numbers}
 use Rattle.fx_graph_model.specs.Refusals.{IsFree, IsForgetRefusal, declare_refusal, fit_refusal, kind_at, link_refusal, publish_refusal, read_only_in, set_refusal, unknown_name, unknown_refusal}
 use Rattle.fx_graph_model.specs.Uses.{bound_in}
 use Rattle.fx_store_model.specs.declared.changes.Change.{Change}
@@ -20,37 +22,26 @@ use Rattle.fx_store_model.specs.declared.errors.StoreError.TheVariants as error
 use Rattle.fx_store_model.specs.Causes.{of_graph}
 use Rattle.fx_store_model.specs.Stored.{Stored}
 
--- refused just as said; memory may be wanting
-abbrev pub IsAnswer : {T : Type 0} → Option StoreError → Result T StoreError → Type 0
-IsAnswer None (Ok value) = Unit {0}
-IsAnswer None (Err cause) = cause ≡ error.Memory
-IsAnswer (Some refusal) (Ok value) = ⊥
-IsAnswer (Some refusal) (Err cause) = (cause ≡ refusal) ⊎ (cause ≡ error.Memory)
-
--- the first refusal, and else the second
-abbrev pub or_else : Option StoreError → Option StoreError → Option StoreError
-or_else None others = others
-or_else (Some refusal) others = Some refusal
-
 abbrev pub of_graph_refusal : Option GraphError → Option StoreError
 of_graph_refusal refusal = option_map of_graph refusal
 
 -- the error, if it is so
 abbrev pub refused_if : Bool → StoreError → Option StoreError
-refused_if so cause = cond so (Some cause) None
+refused_if so cause = if so then Some cause else None
 
 abbrev pub unknown_of : List Name → List Entry → Option StoreError
 unknown_of names entries = of_graph_refusal (unknown_name entries names)
 
 -- of one or the other the first that is so
 abbrev pub refused_pair : (Name → StoreError) → (ℕ → Bool) → Name → Name → Option StoreError
-refused_pair cause test one other = or_else (refused_if (test one.0) (cause one)) (refused_if (test other.0) (cause other))
+refused_pair cause test one other =
+    or_else (refused_if (test one.0) (cause one)) (refused_if (test other.0) (cause other))
 
 unfoldable pub pair_refusal : Name → Name → List Entry → List (ℕ × ℕ) → Option StoreError
 pair_refusal one other entries pairs =
     or_else (unknown_of (one ∷ other ∷ []) entries)
     (or_else (refused_pair error.ReadOnly (read_only_in entries) one other)
-    (or_else (cond (same_kind (kind_at entries one.0) (kind_at entries other.0)) None (Some (error.WrongKind other)))
+    (or_else (if same_kind (kind_at entries one.0) (kind_at entries other.0) then None else Some (error.WrongKind other))
     (or_else (refused_pair error.Mixed (bound_in entries) one other)
     (or_else (refused_if (one.0 == other.0) error.Same)
     (refused_if (nat_le 10000 (length pairs)) error.Full)))))
@@ -60,15 +51,16 @@ unpair_refusal one other entries =
     or_else (unknown_of (one ∷ other ∷ []) entries) (refused_if (one.0 == other.0) error.Same)
 
 -- the listeners are living ones
-unfoldable pub listen_refusal : Name → Option Owner → List Entry → List Owner → List Listener → ℕ → Option StoreError
+unfoldable pub listen_refusal : Name → Option Owner → List Entry → List Owner → List Listener → ℕ
+    → Option StoreError
 listen_refusal name owner entries living listeners given =
     or_else (unknown_of (name ∷ []) entries)
-    (or_else (cond (has_life living owner) None (Some error.StaleOwner))
+    (or_else (if has_life living owner then None else Some error.StaleOwner)
     (refused_if (nat_le 10000 (length listeners) || nat_le 4294967295 given) error.Full))
 
 unfoldable pub unlisten_refusal : Name → Option Owner → List Entry → List Owner → Option StoreError
 unlisten_refusal name owner entries living =
-    or_else (unknown_of (name ∷ []) entries) (cond (has_life living owner) None (Some error.StaleOwner))
+    or_else (unknown_of (name ∷ []) entries) (if has_life living owner then None else Some error.StaleOwner)
 
 unfoldable pub bind_refusal : Name → Expr → List Name → List Entry → List (ℕ × ℕ) → Option StoreError
 bind_refusal name expr operands entries pairs =
@@ -93,8 +85,18 @@ refusal (Forget names) stored = None
 abbrev pub IsForgetAnswer : {T : Type 0} → List Name → List Entry → Result T StoreError → Type 0
 IsForgetAnswer names entries (Ok value) = (unknown_name entries names ≡ None) × IsFree (numbers names) entries
 IsForgetAnswer names entries (Err cause) =
-    ((refused : GraphError) × IsForgetRefusal names entries refused × (cause ≡ of_graph refused)) ⊎ (cause ≡ error.Memory)
+    ((refused : GraphError) × IsForgetRefusal names entries refused × (cause ≡ of_graph refused))
+    ⊎ (cause ≡ error.Memory)
 
 abbrev pub IsChangeAnswer : {T : Type 0} → Change → Stored → Result T StoreError → Type 0
 IsChangeAnswer (Forget names) stored result = IsForgetAnswer names.items stored.entries result
-IsChangeAnswer change stored result = IsAnswer (refusal change stored) result
+IsChangeAnswer change stored result = IsAnswer error.Memory (refusal change stored) result
+
+-- the change isn't refused
+abbrev pub IsAllowed : Change → Stored → Type 0
+IsAllowed change stored = IsChangeAnswer {T = Unit {0}} change stored (Ok tt)
+
+-- at most 10,000 owners are alive, and their numbers end
+abbrev pub owner_refusal : Register → Option StoreError
+owner_refusal owners =
+    refused_if ((length owners.living == 10000) || (owners.born == 4294967295)) error.Full

@@ -1,6 +1,6 @@
 -- One change step: the change is made, what changed is unread with all that uses it, and listeners are told: first of
 -- what became unread, and then, as every watched name is read, of what has another value.
-use Rattle.std.specs.Prelude.{ℕ, ◌+◌, ◌≡◌, ◌⊎◌, Bool, true, false, All, AllPairs, ◌≢◌, cond, not, ◌&&◌, List, [], ◌∷◌, length, map, filter, Option, Some, None}
+use Rattle.std.specs.Prelude.{ℕ, ◌+◌, ◌≡◌, ◌⊎◌, Bool, true, false, All, AllPairs, ◌≢◌, if◌then◌else◌, not, ◌&&◌, List, [], ◌∷◌, length, map, filter, Option, Some, None}
 use Rattle.std.specs.List.{flat_map, list_any, range_with_len}
 use Rattle.fx_base.specs.declared.keys.Name.{Name}
 use Rattle.fx_base.specs.declared.values.Value.{Value}
@@ -11,7 +11,7 @@ use Rattle.fx_graph_model.specs.declared.entries.Entry.{Entry}
 use Rattle.fx_graph_model.specs.Eager.{eager}
 use Rattle.fx_graph_model.specs.Equality.{same_value}
 use Rattle.fx_expr.specs.Tree.{is_within, tree}
-use Rattle.fx_graph_model.specs.Numbers.{name_of}
+use Rattle.fx_base.specs.Names.{name_of}
 use Rattle.fx_graph_model.specs.Refusals.{read_only_in}
 use Rattle.fx_graph_model.specs.Uses.{unknown_in}
 use Rattle.fx_graph_model.specs.Unread.{after_marking, evaluations, evaluations_of, marked, newly_marked}
@@ -19,6 +19,7 @@ use Rattle.fx_store_model.specs.declared.changes.Change.{Change}
 use Rattle.fx_store_model.specs.declared.changes.Change.TheVariants.{Bind, Listen, Publish, Unbind}
 use Rattle.fx_store_model.specs.declared.changes.Notices.{Notices}
 use Rattle.fx_store_model.specs.Making.{changed_by, made}
+use Rattle.fx_store_model.specs.Refusals.{IsAllowed}
 use Rattle.fx_store_model.specs.Stored.{Stored, after_watching, watched_names, with_unread}
 
 -- these names changed
@@ -35,18 +36,23 @@ after change stored = after_watching (before_reads change stored)
 -- each of these names, rising, tells its invalidation listeners, by number
 abbrev pub invalid_notices : List ℕ → List Listener → List (Name × ℕ)
 invalid_notices names listeners =
-    flat_map (λ (name : ℕ). map (λ (listener : Listener). (name_of name, listener.number)) (filter (tells name listening.Invalid) listeners)) names
+    flat_map
+    (λ (name : ℕ).
+    map (λ (listener : Listener). (name_of name, listener.number)) (filter (tells name listening.Invalid) listeners))
+    names
 
 -- a change listener is told where its property has another value
 abbrev pub changed_notice : List Entry → List Entry → Listener → List (Name × ℕ × Value × Value)
 changed_notice before now listener =
     let name = listener.name in
-    cond (same_value (eager before name.0) (eager now name.0)) []
-    ((name, listener.number, eager before name.0, eager now name.0) ∷ [])
+    if same_value (eager before name.0) (eager now name.0)
+    then []
+    else (name, listener.number, eager before name.0, eager now name.0) ∷ []
 
 abbrev pub changed_notices : List Entry → List Entry → List Listener → List (Name × ℕ × Value × Value)
 changed_notices before now listeners =
-    flat_map (changed_notice before now) (filter (λ (listener : Listener). same_kind listener.kind listening.Change) listeners)
+    flat_map (changed_notice before now)
+    (filter (λ (listener : Listener). same_kind listener.kind listening.Change) listeners)
 
 abbrev pub newly : Change → Stored → List ℕ
 newly change stored = newly_marked (made change stored).entries (changed_by change stored) (made change stored).unread
@@ -59,7 +65,8 @@ added_by _ stored = None
 pub record Tells (change : Change) (stored : Stored) (notices : Notices) : Type 0 where
   pub added : notices.added ≡ added_by change stored
   pub invalid : notices.invalid.items ≡ invalid_notices (newly change stored) (made change stored).listeners
-  pub changed : notices.changed.items ≡ changed_notices stored.entries (made change stored).entries (made change stored).listeners
+  pub changed : notices.changed.items
+      ≡ changed_notices stored.entries (made change stored).entries (made change stored).listeners
 
 -- how many unread bound names the watched ones need
 abbrev pub due : Stored → ℕ
@@ -81,15 +88,18 @@ pub record IsReadSome (before now : Stored) : Type 0 where
   pub flags : length now.unread ≡ length before.unread
   pub fewer : (name : ℕ) → marked now.unread name ≡ true → marked before.unread name ≡ true
 
--- memory was wanting: the change is wholly made or not at all, but for reads of some names
+-- memory was wanting: the change is not made, or it is allowed and wholly made, but for reads of some names
 abbrev pub IsUnfinished : Change → Stored → Stored → Type 0
-IsUnfinished change before now = IsReadSome before now ⊎ IsReadSome (before_reads change before) now
+IsUnfinished change before now =
+    IsReadSome before now ⊎ (IsAllowed change before × IsReadSome (before_reads change before) now)
 
--- what a change needs of its words: a publication names read-only properties, each once, and a binding has an operand for each
--- place of its expression
+-- what a change needs of its words: a publication names read-only properties, each once, and a binding has an operand
+-- for each place of its expression
 abbrev pub IsFit : Change → Stored → Type 0
 IsFit (Publish pairs) stored =
     AllPairs (λ (one other : Name × Value). one.0 ≢ other.0) pairs.items
-    × All (λ (pair : Name × Value). unknown_in stored.entries pair.0.0 ≡ false → read_only_in stored.entries pair.0.0 ≡ true) pairs.items
+    × All
+    (λ (pair : Name × Value). unknown_in stored.entries pair.0.0 ≡ false → read_only_in stored.entries pair.0.0 ≡ true)
+    pairs.items
 IsFit (Bind name expr operands) stored = is_within (tree expr) (length operands.items) ≡ true
 IsFit change stored = Unit {0}

@@ -13,8 +13,8 @@ use Rattle.fx_graph_model.specs.Unread.{after_reads}
 use Rattle.fx_graph_model.specs.Uses.{bound_in, unknown_in}
 use Rattle.fx_store_pairs.specs.Pairs.{is_paired, joined}
 
--- properties with a flag each that says whether it is unread, the pairs in the order of their making, the living listeners
--- by property and then by number, the owners, and the last listener number that was given
+-- properties with a flag each that says whether it is unread, the pairs in the order of their making, the living
+-- listeners by property and then by number, the owners, and the last listener number that was given
 pub record Stored : Type 0 where
   pub entries : List Entry
   pub unread : List Bool
@@ -38,15 +38,7 @@ abbrev pub watched_names : Stored → List ℕ
 watched_names stored = filter (is_watched stored) (range_with_len 0 (length stored.entries))
 
 abbrev pub with_unread : List Bool → Stored → Stored
-with_unread unread stored =
-    record {
-      entries = stored.entries;
-      unread = unread;
-      pairs = stored.pairs;
-      listeners = stored.listeners;
-      owners = stored.owners;
-      given = stored.given;
-    }
+with_unread unread stored = record stored { unread = unread }
 
 -- every watched name is read, with all that it needs
 abbrev pub after_watching : Stored → Stored
@@ -55,18 +47,15 @@ after_watching stored = with_unread (after_reads stored.entries (watched_names s
 -- the owner is dead, and so are its listeners
 abbrev pub after_end : Owner → Stored → Stored
 after_end owner stored =
-    record {
-      entries = stored.entries;
-      unread = stored.unread;
-      pairs = stored.pairs;
+    record stored {
       listeners = filter (λ (listener : Listener). not (same_owner listener.owner (Some owner))) stored.listeners;
       owners = after_release stored.owners owner;
-      given = stored.given;
     }
 
 -- joined properties are known, unbound and written by code, of one kind and of one value
 abbrev pub AreJoinedAlike : Stored → Type 0
 AreJoinedAlike stored =
     (one other : ℕ) → is_paired stored.pairs one ≡ true → joined stored.pairs one other ≡ true
-    → (unknown_in stored.entries other ≡ false) × (bound_in stored.entries other ≡ false) × (read_only_in stored.entries other ≡ false)
-    × (kind_at stored.entries other ≡ kind_at stored.entries one) × (eager stored.entries other ≡ eager stored.entries one)
+    → (unknown_in stored.entries other ≡ false) × (bound_in stored.entries other ≡ false)
+    × (read_only_in stored.entries other ≡ false) × (kind_at stored.entries other ≡ kind_at stored.entries one)
+    × (eager stored.entries other ≡ eager stored.entries one)

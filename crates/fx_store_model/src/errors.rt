@@ -4,9 +4,9 @@ ghost use Rattle.fx_store_model.specs.declared.errors.StoreError.TheVariants.{Me
 ghost use Rattle.fx_store_model.specs.Causes.{of_graph, of_listen, of_owner};
 
 use fx_base::Name;
+use fx_graph_model::GraphError;
 use fx_handles::OwnerError;
 use fx_listen::ListenError;
-use fx_graph_model::GraphError;
 use std::alloc::{AllocError, AllocFailed};
 use thiserror::Error;
 

@@ -18,7 +18,8 @@ PairsAreJoined =
 
 abbrev pub JoiningIsLeast : Type 0
 JoiningIsLeast =
-    (pairs : List (ℕ × ℕ)) (test : ℕ → ℕ → Bool) → IsEquivalence (λ (one other : ℕ). test one other ≡ true)
+    (pairs : List (ℕ × ℕ)) (test : ℕ → ℕ → Bool)
+    → IsEquivalence (λ (one other : ℕ). test one other ≡ true)
     → ((pair : ℕ × ℕ) → Contains pairs pair → test pair.0 pair.1 ≡ true)
     → (one other : ℕ) → joined pairs one other ≡ true → test one other ≡ true
 

@@ -1,10 +1,7 @@
 -- Properties that are joined by pairs, so that they change together. Source: JavaFX 21 `bindBidirectional`.
-use Rattle.std.specs.Prelude.{ℕ, ◌==◌, Bool, cond, ◌&&◌, ◌||◌, List, [], ◌∷◌, filter, map}
+use Rattle.std.specs.Prelude.{ℕ, ◌==◌, Bool, if◌then◌else◌, ◌&&◌, ◌||◌, List, [], ◌∷◌, filter, map}
 use Rattle.std.specs.List.{list_any, range_with_len}
 use Rattle.fx_base.specs.declared.keys.Name.{Name}
-
-abbrev pub numbers : List Name → List ℕ
-numbers names = map (λ (name : Name). name.0) names
 
 abbrev pub is_among : List ℕ → ℕ → Bool
 is_among names name = list_any (λ (other : ℕ). other == name) names
@@ -19,7 +16,8 @@ unfoldable pub joined : List (ℕ × ℕ) → ℕ → ℕ → Bool
 joined [] one other = one == other
 joined (pair ∷ pairs) one other =
     joined pairs one other
-    || ((joined pairs one pair.0 && joined pairs pair.1 other) || (joined pairs one pair.1 && joined pairs pair.0 other))
+    || ((joined pairs one pair.0 && joined pairs pair.1 other)
+    || (joined pairs one pair.1 && joined pairs pair.0 other))
 
 -- those of so many names that are joined with this one, itself among them, rising
 abbrev pub group : List (ℕ × ℕ) → ℕ → ℕ → List ℕ
@@ -38,7 +36,7 @@ is_pair one other pair = ((pair.0 == one) && (pair.1 == other)) || ((pair.0 == o
 -- the first pair of the two is gone
 abbrev pub without_pair : ℕ → ℕ → List (ℕ × ℕ) → List (ℕ × ℕ)
 without_pair one other [] = []
-without_pair one other (pair ∷ pairs) = cond (is_pair one other pair) pairs (pair ∷ without_pair one other pairs)
+without_pair one other (pair ∷ pairs) = if is_pair one other pair then pairs else pair ∷ without_pair one other pairs
 
 -- one of the pair's ends is among the names
 abbrev pub is_touched : List ℕ → ℕ × ℕ → Bool

@@ -1,7 +1,8 @@
 //! Groups: from one name over the pairs to all that are joined with it.
 ghost use Rattle.std.specs.Prelude.{◌≡◌, ◌≢◌, ◌↔◌, ℕ, AllPairs, Contains, IfOk, OnOk, true};
 ghost use Rattle.fx_base.specs.declared.keys.Name.{Name as Named};
-ghost use Rattle.fx_store_pairs.specs.Pairs.{numbers, pairs_of, joined};
+ghost use Rattle.fx_base.specs.Names.{numbers};
+ghost use Rattle.fx_store_pairs.specs.Pairs.{pairs_of, joined};
 ghost use Rattle.fx_store_pairs.specs.Gathering.{with_name, with_partner, with_partners};
 
 use crate::walking::is_among;

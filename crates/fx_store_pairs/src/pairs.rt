@@ -1,7 +1,8 @@
 //! The pairs in the order of their making.
 ghost use Rattle.std.specs.Prelude.{◌≡◌, ◌≢◌, ◌↔◌, ◌++◌, ◌∷◌, [], ℕ, List, AllPairs, Contains, IfOk, OnOk, OnErr, filter, length, not, true};
 ghost use Rattle.fx_base.specs.declared.keys.Name.{Name as Named};
-ghost use Rattle.fx_store_pairs.specs.Pairs.{numbers, pairs_of, is_touched, joined, without_pair};
+ghost use Rattle.fx_base.specs.Names.{numbers};
+ghost use Rattle.fx_store_pairs.specs.Pairs.{pairs_of, is_touched, joined, without_pair};
 ghost use Rattle.fx_store_pairs.specs.Pairs.{is_paired as has_partner};
 
 use crate::grouping::joined_names;

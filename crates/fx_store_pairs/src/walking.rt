@@ -1,7 +1,8 @@
 //! Walks over the list of pairs: where names stand, and what goes with them.
 ghost use Rattle.std.specs.Prelude.{◌≡◌, ℕ, filter, not};
 ghost use Rattle.std.specs.List.{position_or_len};
-ghost use Rattle.fx_store_pairs.specs.Pairs.{numbers, is_pair, pairs_of, is_touched};
+ghost use Rattle.fx_base.specs.Names.{numbers};
+ghost use Rattle.fx_store_pairs.specs.Pairs.{is_pair, pairs_of, is_touched};
 ghost use Rattle.fx_store_pairs.specs.Pairs.{is_among as stands_among, is_end as is_end_of, is_paired as has_partner};
 
 use fx_base::Name;

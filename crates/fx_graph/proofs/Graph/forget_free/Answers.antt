@@ -1,6 +1,6 @@
 use Rattle.std.proofs.Common.{◌≡◌, None, ◌∙◌}
 use Rattle.std.proofs.lemmas.List.{with_items_is}
-use Rattle.fx_graph_model.specs.Numbers.{numbers}
+use Rattle.fx_base.specs.Names.{numbers}
 use Rattle.fx_graph_model.specs.Refusals.{unknown_name, IsFree}
 use Rattle.fx_graph.proofs.ForgetLemmas.{known_names, store_forgotten}
 use Rattle.fx_graph.proofs.Graph.forget_free.Goals as goal

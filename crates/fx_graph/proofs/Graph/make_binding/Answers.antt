@@ -2,7 +2,7 @@ use Rattle.std.proofs.Common.{◌≡◌, true, length, ap, ◌∙◌, arith}
 use Rattle.std.proofs.lemmas.List.{with_items_is, length-map}
 use Rattle.fx_base.specs.declared.keys.Name.{Name}
 use Rattle.fx_expr.specs.Tree.{tree, is_within}
-use Rattle.fx_graph_model.specs.Numbers.{numbers}
+use Rattle.fx_base.specs.Names.{numbers}
 use Rattle.fx_graph_model.specs.Uses.{uses}
 use Rattle.fx_graph_model.proofs.Changed.{known_within}
 use Rattle.fx_graph_model.proofs.Binding.{operand_count-uses}

@@ -1,7 +1,7 @@
 use Rattle.std.proofs.Common.{[], ◌∷◌, arith}
 use Rattle.fx_graph_model.specs.Changes.{bound_to, with_binding}
 use Rattle.fx_graph_model.specs.Marking.{IsClosedBut}
-use Rattle.fx_graph_model.specs.Numbers.{numbers}
+use Rattle.fx_base.specs.Names.{numbers}
 use Rattle.fx_graph_model.specs.Uses.{entry_of}
 use Rattle.fx_graph_model.proofs.Binding.{closed_bound}
 use Rattle.fx_graph_model.proofs.Flags.{unmarked_most}

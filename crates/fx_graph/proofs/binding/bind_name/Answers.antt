@@ -1,6 +1,6 @@
 use Rattle.std.proofs.Common.{sym, ap}
 use Rattle.fx_graph_model.specs.Changes.{bound_to}
-use Rattle.fx_graph_model.specs.Numbers.{numbers}
+use Rattle.fx_base.specs.Names.{numbers}
 use Rattle.fx_graph_model.specs.Uses.{entry_of}
 use Rattle.fx_graph.proofs.binding.bind_name.Goals as goal
 

@@ -1,7 +1,7 @@
 use Rattle.std.proofs.Common.{◌≡◌, ◌≤◌, length, arith}
 use Rattle.std.proofs.lemmas.List.{length-map}
 use Rattle.fx_base.specs.declared.keys.Name.{Name}
-use Rattle.fx_graph_model.specs.Numbers.{numbers}
+use Rattle.fx_base.specs.Names.{numbers}
 use Rattle.fx_graph_model.specs.Refusals.{operand_count}
 use Rattle.fx_graph_model.specs.Changes.{with_binding}
 use Rattle.fx_graph_model.proofs.Binding.{operand_count-uses}

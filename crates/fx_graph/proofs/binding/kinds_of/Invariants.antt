@@ -1,5 +1,5 @@
 use Rattle.std.proofs.Common.{◌≡◌, map, take}
-use Rattle.fx_graph_model.specs.Numbers.{numbers}
+use Rattle.fx_base.specs.Names.{numbers}
 use Rattle.fx_graph_model.specs.Refusals.{kind_at}
 use Rattle.fx_graph.proofs.binding.kinds_of.Given as goal
 

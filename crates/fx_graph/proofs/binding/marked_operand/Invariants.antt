@@ -2,7 +2,7 @@ use Rattle.std.proofs.Common.{◌≡◌, drop}
 use Rattle.fx_base.specs.declared.keys.Name.{Name}
 use Rattle.fx_graph_model.specs.declared.errors.GraphError.TheVariants.{Cycle}
 use Rattle.fx_graph_model.specs.Unread.{marked}
-use Rattle.fx_graph_model.specs.Refusals.{refused_first}
+use Rattle.fx_base.specs.Answers.{refused_first}
 use Rattle.fx_graph.proofs.binding.marked_operand.Given as goal
 
 abbrev pub invariant-loop-operand : goal.invariant-loop-operand

@@ -1,6 +1,6 @@
 use Rattle.std.proofs.Common.{ℕ, List, get_or, Contains, sym, subst}
 use Rattle.std.proofs.lemmas.List.{take_all}
-use Rattle.fx_graph_model.specs.Numbers.{numbers, name_of}
+use Rattle.fx_base.specs.Names.{numbers, name_of}
 use Rattle.fx_graph_edges.proofs.RowLemmas.{row_read, number_at}
 use Rattle.fx_graph.proofs.ForgetLemmas.{inside_more}
 use Rattle.fx_graph.proofs.forgetting.bound_outside.Goals as goal

@@ -1,5 +1,5 @@
 use Rattle.std.proofs.Common.{ℕ, take, Contains}
-use Rattle.fx_graph_model.specs.Numbers.{numbers}
+use Rattle.fx_base.specs.Names.{numbers}
 use Rattle.fx_graph_model.specs.Users.{users_of}
 use Rattle.fx_graph.proofs.forgetting.bound_outside.Given as goal
 

@@ -1,5 +1,5 @@
 use Rattle.std.proofs.Common.{arith}
-use Rattle.fx_graph_model.specs.Numbers.{name_of}
+use Rattle.fx_base.specs.Names.{name_of}
 use Rattle.fx_graph_edges.proofs.RowLemmas.{number_at}
 use Rattle.fx_graph.proofs.forgetting.forget_names.Goals as goal
 

@@ -1,6 +1,6 @@
 use Rattle.std.proofs.Common.{◌≡◌, ◌≤◌, drop}
 use Rattle.fx_graph_model.specs.Changes.{forget_all, clear_all}
-use Rattle.fx_graph_model.specs.Numbers.{numbers}
+use Rattle.fx_base.specs.Names.{numbers}
 use Rattle.fx_graph_model.specs.Refusals.{operand_count}
 use Rattle.fx_graph_model.specs.Users.{Mirrors}
 use Rattle.fx_graph.specs.Forgotten.{reset}

@@ -1,5 +1,5 @@
 use Rattle.std.proofs.Common.{take, Contains}
-use Rattle.fx_graph_model.specs.Numbers.{numbers}
+use Rattle.fx_base.specs.Names.{numbers}
 use Rattle.fx_graph.proofs.forgetting.is_among.Given as goal
 
 abbrev pub invariant-loop-name : goal.invariant-loop-name

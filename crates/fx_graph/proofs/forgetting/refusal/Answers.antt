@@ -1,5 +1,5 @@
 use Rattle.std.proofs.Common.{sym, arith}
-use Rattle.fx_graph_model.specs.Numbers.{numbers}
+use Rattle.fx_base.specs.Names.{numbers}
 use Rattle.fx_graph_model.proofs.Walks.{user_within}
 use Rattle.fx_graph.proofs.ForgetLemmas.{known_names, unknown_refused, free_from_rows}
 use Rattle.fx_graph.proofs.forgetting.refusal.Goals as goal

@@ -1,6 +1,6 @@
 use Rattle.std.proofs.Common.{◌+◌, ℕ, List, Contains, refl, sym, ap, subst, ◌∙◌}
 use Rattle.fx_base.specs.declared.work.Work.{Work}
-use Rattle.fx_graph_model.specs.Numbers.{name_of}
+use Rattle.fx_base.specs.Names.{name_of}
 use Rattle.fx_graph_edges.proofs.RowLemmas.{number_at, numbers_more}
 use Rattle.fx_graph.proofs.LookLemmas.{first_names, reads_fewer, reads_more, reads_spent_all, reads_start, reads_stopped, reads_unchanged}
 use Rattle.fx_graph.proofs.looking.read_each.Goals as goal

@@ -1,4 +1,4 @@
-use Rattle.fx_graph_model.specs.Numbers.{numbers}
+use Rattle.fx_base.specs.Names.{numbers}
 use Rattle.std.proofs.Common.{◌≡◌, length, take}
 use Rattle.fx_graph.proofs.LookLemmas.{Reads}
 use Rattle.fx_graph.proofs.looking.read_each.Given as goal

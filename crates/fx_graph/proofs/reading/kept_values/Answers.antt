@@ -1,7 +1,7 @@
 use Rattle.std.proofs.Common.{◌<◌, length, get_or, ◌∙◌}
 use Rattle.std.proofs.lemmas.List.{get_or_read}
 use Rattle.fx_expr.specs.Meaning.{no_value}
-use Rattle.fx_graph_model.specs.Numbers.{name_of}
+use Rattle.fx_base.specs.Names.{name_of}
 use Rattle.fx_graph_edges.proofs.RowLemmas.{number_at}
 use Rattle.fx_graph.proofs.ReadLemmas.{kept_more}
 use Rattle.fx_graph.proofs.reading.kept_values.Goals as goal

@@ -1,5 +1,5 @@
 use Rattle.std.proofs.Common.{◌≡◌, map, take}
-use Rattle.fx_graph_model.specs.Numbers.{numbers}
+use Rattle.fx_base.specs.Names.{numbers}
 use Rattle.fx_graph.specs.Asked.{kept_value}
 use Rattle.fx_graph.proofs.reading.kept_values.Given as goal
 

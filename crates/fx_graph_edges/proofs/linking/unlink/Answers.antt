@@ -1,6 +1,6 @@
 use Rattle.std.proofs.Common.{◌<◌, length, get_or, arith}
 use Rattle.std.proofs.lemmas.List.{take_all}
-use Rattle.fx_graph_model.specs.Numbers.{name_of}
+use Rattle.fx_base.specs.Names.{name_of}
 use Rattle.fx_graph_model.proofs.Edges.{unlinks_none}
 use Rattle.fx_graph_edges.proofs.RowLemmas.{number_at, numbers_more}
 use Rattle.fx_graph_edges.proofs.LinkLemmas.{rooms_grow, unlinks_step}

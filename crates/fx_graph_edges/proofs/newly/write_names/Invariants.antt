@@ -1,5 +1,5 @@
 use Rattle.std.proofs.Common.{◌≡◌, take}
-use Rattle.fx_graph_model.specs.Numbers.{numbers}
+use Rattle.fx_base.specs.Names.{numbers}
 use Rattle.fx_graph_edges.proofs.newly.write_names.Given as goal
 
 abbrev pub invariant-loop-place : goal.invariant-loop-place

@@ -1,4 +1,4 @@
-use Rattle.fx_graph_model.specs.Numbers.{name_of}
+use Rattle.fx_base.specs.Names.{name_of}
 use Rattle.fx_store.proofs.UnheardLemmas.{unheard_start, unheard_turn}
 use Rattle.fx_store.proofs.keeping.forget_listeners.Goals as goal
 

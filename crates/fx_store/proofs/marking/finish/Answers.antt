@@ -1,5 +1,5 @@
 use Rattle.std.proofs.lemmas.Result.{err_from_is_err_and}
-use Rattle.fx_graph_model.specs.Numbers.{numbers}
+use Rattle.fx_base.specs.Names.{numbers}
 use Rattle.fx_store.proofs.MarkLemmas.{finish_done, finish_kept, finish_short}
 use Rattle.fx_store.proofs.marking.finish.Goals as goal
 

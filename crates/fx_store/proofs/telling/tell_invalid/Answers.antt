@@ -1,4 +1,4 @@
-use Rattle.fx_graph_model.specs.Numbers.{name_of}
+use Rattle.fx_base.specs.Names.{name_of}
 use Rattle.fx_store.proofs.TellLemmas.{invalid_turn}
 use Rattle.fx_store.proofs.telling.tell_invalid.Goals as goal
 

@@ -1,6 +1,6 @@
 use Rattle.std.proofs.Common.{◌≡◌, take}
 use Rattle.fx_listen.specs.Listening.{living_in}
-use Rattle.fx_graph_model.specs.Numbers.{numbers}
+use Rattle.fx_base.specs.Names.{numbers}
 use Rattle.fx_store_model.specs.Step.{invalid_notices}
 use Rattle.fx_store.proofs.telling.tell_invalid.Given as goal
 

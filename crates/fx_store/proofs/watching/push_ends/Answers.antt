@@ -1,4 +1,4 @@
-use Rattle.fx_graph_model.specs.Numbers.{name_of}
+use Rattle.fx_base.specs.Names.{name_of}
 use Rattle.fx_store.proofs.WatchLemmas.{ends_turn}
 use Rattle.fx_store.proofs.watching.push_ends.Goals as goal
 

@@ -1,5 +1,5 @@
 use Rattle.std.proofs.Common.{◌≡◌, ◌++◌, take}
-use Rattle.fx_graph_model.specs.Numbers.{numbers}
+use Rattle.fx_base.specs.Names.{numbers}
 use Rattle.fx_store_pairs.specs.Pairs.{pairs_of}
 use Rattle.fx_store.specs.Watching.{ends_of}
 use Rattle.fx_store.proofs.watching.push_ends.Given as goal

@@ -1,6 +1,6 @@
 use Rattle.std.proofs.Common.{ap, ◌∙◌}
 use Rattle.fx_listen.specs.Listening.{living_in}
-use Rattle.fx_graph_model.specs.Numbers.{numbers}
+use Rattle.fx_base.specs.Names.{numbers}
 use Rattle.fx_store_pairs.specs.Pairs.{pairs_of}
 use Rattle.fx_store.specs.Watching.{watch_list}
 use Rattle.fx_store.proofs.WatchLemmas.{known_names, watch_is}

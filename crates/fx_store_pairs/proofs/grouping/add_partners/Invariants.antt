@@ -1,5 +1,6 @@
 use Rattle.std.proofs.Common.{◌≡◌, drop}
-use Rattle.fx_store_pairs.specs.Pairs.{numbers, pairs_of}
+use Rattle.fx_base.specs.Names.{numbers}
+use Rattle.fx_store_pairs.specs.Pairs.{pairs_of}
 use Rattle.fx_store_pairs.specs.Gathering.{with_partners}
 use Rattle.fx_store_pairs.proofs.grouping.add_partners.Given as goal
 

@@ -2,7 +2,8 @@
 use Rattle.std.proofs.Common.{◌≡◌, ◌<◌, ◌+◌, ◌-◌, ℕ, List, get_or, length, sym, ap, subst, ◌∙◌, arith}
 use Rattle.std.proofs.lemmas.List.{length-map, get_or-map}
 use Rattle.fx_base.specs.declared.keys.Name.{Name}
-use Rattle.fx_store_pairs.specs.Pairs.{numbers, pairs_of}
+use Rattle.fx_base.specs.Names.{numbers}
+use Rattle.fx_store_pairs.specs.Pairs.{pairs_of}
 use Rattle.fx_store_pairs.proofs.Gathered.{Gathers, unmet, gathers_start, gathers_more, gathers_less, gathers_all}
 use Rattle.fx_store_pairs.proofs.grouping.joined_names.Goals as goal
 

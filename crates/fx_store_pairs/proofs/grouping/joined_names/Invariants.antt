@@ -1,5 +1,6 @@
 use Rattle.std.proofs.Common.{◌+◌, ◌-◌, length}
-use Rattle.fx_store_pairs.specs.Pairs.{numbers, pairs_of}
+use Rattle.fx_base.specs.Names.{numbers}
+use Rattle.fx_store_pairs.specs.Pairs.{pairs_of}
 use Rattle.fx_store_pairs.proofs.Gathered.{Gathers, unmet}
 use Rattle.fx_store_pairs.proofs.grouping.joined_names.Given as goal
 

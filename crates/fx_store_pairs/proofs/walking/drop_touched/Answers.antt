@@ -2,7 +2,8 @@
 use Rattle.std.proofs.Common.{ℕ, Bool, not, rules, ap, ◌∙◌}
 use Rattle.std.proofs.lemmas.Fn.{filter_same}
 use Rattle.fx_base.specs.declared.keys.Name.{Name}
-use Rattle.fx_store_pairs.specs.Pairs.{is_touched, numbers, pairs_of}
+use Rattle.fx_base.specs.Names.{numbers}
+use Rattle.fx_store_pairs.specs.Pairs.{is_touched, pairs_of}
 use Rattle.fx_store_pairs.proofs.Leaving.{pairs_of_filter}
 use Rattle.fx_store_pairs.proofs.walking.drop_touched.Goals as goal
 

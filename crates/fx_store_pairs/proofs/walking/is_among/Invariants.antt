@@ -1,5 +1,6 @@
 use Rattle.std.proofs.Common.{◌≡◌, drop}
-use Rattle.fx_store_pairs.specs.Pairs.{is_among, numbers}
+use Rattle.fx_base.specs.Names.{numbers}
+use Rattle.fx_store_pairs.specs.Pairs.{is_among}
 use Rattle.fx_store_pairs.proofs.walking.is_among.Given as goal
 
 abbrev pub invariant-loop-other : goal.invariant-loop-other

@@ -25,17 +25,19 @@ add_listener-requires-clause-read g c = listened_off c.args.name.0 c.args.self.n
 
 pub returns-in_err-number-clause-applied : goal.returns-in_err-number-clause-applied
 returns-in_err-number-clause-applied g c =
+    let may = subst (λ (s : Stored). MayListen c.args.name c.args.owner s) c.self.view_is (sym c.in_default.ensures) in
     let p = err_from_is_err_and c.from_residual-in_err-number.result c.from_residual-in_err-number.ensures.1 in
     rw (p.1, p.2)
     (listen_unmade c.args.name c.args.kind c.args.owner c.args.tag c.args.self.now c.read.new.self c.add_listener.new.self
-    c.in_err-number.field-0.0 _ _ c.in_err-number.ensures.memory c.in_ok-read.ensures.ok c.in_err-number.ensures.err c.read.ensures.cost)
+    c.in_err-number.field-0.0 _ _ may c.in_err-number.ensures.memory c.in_ok-read.ensures.ok c.in_err-number.ensures.err c.read.ensures.cost)
 
 pub returns-in_err-catch_up-clause-applied : goal.returns-in_err-catch_up-clause-applied
 returns-in_err-catch_up-clause-applied g c =
+    let may = subst (λ (s : Stored). MayListen c.args.name c.args.owner s) c.self.view_is (sym c.in_default.ensures) in
     let p = err_from_is_err_and c.from_residual-in_err-catch_up.result c.from_residual-in_err-catch_up.ensures.1 in
     rw (p.1, p.2)
     (listen_short c.args.name c.args.kind c.args.owner c.args.tag c.args.self.now c.read.new.self c.add_listener.new.self
-    c.catch_up.new.self _ c.read.new.work.evaluated _ c.in_ok-read.ensures.ok c.in_ok-number.ensures.ok c.catch_up.ensures.part
+    c.catch_up.new.self _ c.read.new.work.evaluated _ may c.in_ok-read.ensures.ok c.in_ok-number.ensures.ok c.catch_up.ensures.part
     c.read.ensures.cost c.catch_up.ensures.cost)
 
 pub returns-clause-applied : goal.returns-clause-applied

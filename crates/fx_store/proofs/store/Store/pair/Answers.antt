@@ -5,7 +5,7 @@ use Rattle.fx_store_model.specs.Refusals.{pair_refusal}
 use Rattle.fx_store_model.specs.Stored.{Stored}
 use Rattle.fx_store.proofs.Stepping.{step_unmade}
 use Rattle.fx_store.proofs.Twins.{own_known, own_unbound}
-use Rattle.fx_store.proofs.UnderLemmas.{failed_pair, not_some, pair_able, pair_group_unrefused, pair_values, pair_watch, refused_pair, under_known, under_pair}
+use Rattle.fx_store.proofs.UnderLemmas.{allowed_pair, failed_pair, not_some, pair_able, pair_group_unrefused, pair_values, pair_watch, refused_pair, under_known, under_pair}
 use Rattle.fx_store.proofs.store.Store.pair.Goals as goal
 
 pub returns-in-Some-clause-applied : goal.returns-in-Some-clause-applied
@@ -16,7 +16,11 @@ returns-in-Some-clause-applied g c =
 pub returns-in_err-watch-clause-applied : goal.returns-in_err-watch-clause-applied
 returns-in_err-watch-clause-applied g c =
     let p = err_from_is_err_and c.from_residual.result c.from_residual.ensures.1 in
-    rw (p.1, p.2) (step_unmade _ _ _ _ _ c.look.ensures.same c.look.ensures.cost)
+    let none : pair_refusal c.args.one c.args.other c.args.self.now.entries c.args.self.now.pairs ≡ None =
+    subst (λ (stored : Stored). pair_refusal c.args.one c.args.other stored.entries stored.pairs ≡ None) c.self.view_is
+    (sym c.of_pair.ensures ∙ not_some c.of_pair.result c.in_default.not-Some) in
+    rw (p.1, p.2)
+    (step_unmade _ _ _ _ _ (allowed_pair c.args.self.now c.args.one c.args.other none) c.look.ensures.same c.look.ensures.cost)
 
 pub other_values-requires-clause-known : goal.other_values-requires-clause-known
 other_values-requires-clause-known g c =
@@ -41,12 +45,20 @@ other_values-requires-clause-free g c =
 pub returns-in_err-values-clause-applied : goal.returns-in_err-values-clause-applied
 returns-in_err-values-clause-applied g c =
     let p = err_from_is_err_and c.from_residual-in_err-values.result c.from_residual-in_err-values.ensures.1 in
-    rw (p.1, p.2) (step_unmade _ _ _ _ _ c.look.ensures.same c.look.ensures.cost)
+    let none : pair_refusal c.args.one c.args.other c.args.self.now.entries c.args.self.now.pairs ≡ None =
+    subst (λ (stored : Stored). pair_refusal c.args.one c.args.other stored.entries stored.pairs ≡ None) c.self.view_is
+    (sym c.of_pair.ensures ∙ not_some c.of_pair.result c.in_default.not-Some) in
+    rw (p.1, p.2)
+    (step_unmade _ _ _ _ _ (allowed_pair c.args.self.now c.args.one c.args.other none) c.look.ensures.same c.look.ensures.cost)
 
 pub returns-in_err-push_two-clause-applied : goal.returns-in_err-push_two-clause-applied
 returns-in_err-push_two-clause-applied g c =
     let p = err_from_is_err_and c.from_residual-in_err-push_two.result c.from_residual-in_err-push_two.ensures.1 in
-    rw (p.1, p.2) (step_unmade _ _ _ _ _ c.look.ensures.same c.look.ensures.cost)
+    let none : pair_refusal c.args.one c.args.other c.args.self.now.entries c.args.self.now.pairs ≡ None =
+    subst (λ (stored : Stored). pair_refusal c.args.one c.args.other stored.entries stored.pairs ≡ None) c.self.view_is
+    (sym c.of_pair.ensures ∙ not_some c.of_pair.result c.in_default.not-Some) in
+    rw (p.1, p.2)
+    (step_unmade _ _ _ _ _ (allowed_pair c.args.self.now c.args.one c.args.other none) c.look.ensures.same c.look.ensures.cost)
 
 pub join-requires-clause-distinct : goal.join-requires-clause-distinct
 join-requires-clause-distinct g c =
@@ -75,10 +87,14 @@ join-requires-clause-allowed g c =
 pub returns-in_err-join-clause-applied : goal.returns-in_err-join-clause-applied
 returns-in_err-join-clause-applied g c =
     let p = err_from_is_err_and c.from_residual-in_err-join.result c.from_residual-in_err-join.ensures.1 in
+    let none : pair_refusal c.args.one c.args.other c.args.self.now.entries c.args.self.now.pairs ≡ None =
+    subst (λ (stored : Stored). pair_refusal c.args.one c.args.other stored.entries stored.pairs ≡ None) c.self.view_is
+    (sym c.of_pair.ensures ∙ not_some c.of_pair.result c.in_default.not-Some) in
     rw (p.1, p.2)
     (failed_pair c.self-2.inside.graph c.self-2.inside.pairs c.self-2.inside.listeners c.self-2.inside.owners c.self-2.inside.behind
     c.args.self.now c.args.one c.args.other c.in_err-join.field-0.0 c.join.new.graph c.join.new.pairs c.args.work.now.evaluated
-    c.look.new.work.evaluated (c.self-2.view_is ∙ c.look.ensures.same) c.in_err-join.ensures.memory c.in_err-join.ensures.same_graph
+    c.look.new.work.evaluated (c.self-2.view_is ∙ c.look.ensures.same)
+    (allowed_pair c.args.self.now c.args.one c.args.other none) c.in_err-join.ensures.memory c.in_err-join.ensures.same_graph
     c.in_err-join.ensures.same_pairs c.look.ensures.cost)
 
 pub finish-requires-clause-known : goal.finish-requires-clause-known

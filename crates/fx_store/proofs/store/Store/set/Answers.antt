@@ -4,7 +4,7 @@ use Rattle.fx_store_model.specs.declared.changes.Change.TheVariants.{Set}
 use Rattle.fx_store_model.specs.Stored.{Stored}
 use Rattle.fx_graph_model.specs.Refusals.{set_refusal}
 use Rattle.fx_store.proofs.Stepping.{step_unmade}
-use Rattle.fx_store.proofs.UnderLemmas.{failed_set, not_some, refused_set, set_unrefused, set_values, under_known, under_set}
+use Rattle.fx_store.proofs.UnderLemmas.{allowed_set, failed_made, not_some, refused_set, set_unrefused, set_values, under_known, under_set}
 use Rattle.fx_store.proofs.store.Store.set.Goals as goal
 
 pub returns-in-Some-clause-applied : goal.returns-in-Some-clause-applied
@@ -16,12 +16,20 @@ returns-in-Some-clause-applied g c =
 pub returns-in_err-watch-clause-applied : goal.returns-in_err-watch-clause-applied
 returns-in_err-watch-clause-applied g c =
     let p = err_from_is_err_and c.from_residual.result c.from_residual.ensures.1 in
-    rw (p.1, p.2) (step_unmade _ _ _ _ _ c.look.ensures.same c.look.ensures.cost)
+    let none : set_refusal ((c.args.name, c.args.value) ∷ []) c.args.self.now.entries ≡ None =
+    subst (λ (stored : Stored). set_refusal ((c.args.name, c.args.value) ∷ []) stored.entries ≡ None) c.self.view_is
+    (sym c.refuses_set.ensures ∙ not_some c.refuses_set.result c.in_default.not-Some) in
+    rw (p.1, p.2)
+    (step_unmade _ _ _ _ _ (allowed_set c.args.self.now c.args.name c.args.value none) c.look.ensures.same c.look.ensures.cost)
 
 pub returns-in_err-values-clause-applied : goal.returns-in_err-values-clause-applied
 returns-in_err-values-clause-applied g c =
     let p = err_from_is_err_and c.from_residual-in_err-values.result c.from_residual-in_err-values.ensures.1 in
-    rw (p.1, p.2) (step_unmade _ _ _ _ _ c.look.ensures.same c.look.ensures.cost)
+    let none : set_refusal ((c.args.name, c.args.value) ∷ []) c.args.self.now.entries ≡ None =
+    subst (λ (stored : Stored). set_refusal ((c.args.name, c.args.value) ∷ []) stored.entries ≡ None) c.self.view_is
+    (sym c.refuses_set.ensures ∙ not_some c.refuses_set.result c.in_default.not-Some) in
+    rw (p.1, p.2)
+    (step_unmade _ _ _ _ _ (allowed_set c.args.self.now c.args.name c.args.value none) c.look.ensures.same c.look.ensures.cost)
 
 pub set_group-requires : goal.set_group-requires
 set_group-requires g c =
@@ -45,9 +53,10 @@ returns-in_err-set_group-clause-applied g c =
     c.args.self.now c.args.name c.args.value c.as_slice.result.now (c.self-2.view_is ∙ c.look.ensures.same) c.self-2.invariant none
     (c.in_ok-values.ensures.0, c.in_ok-values.ensures.1, c.as_slice.ensures.value ∙ c.in_ok-values.ensures.2) in
     rw (p.1, p.2)
-    (failed_set c.self-2.inside.graph c.self-2.inside.pairs c.self-2.inside.listeners c.self-2.inside.owners c.self-2.inside.behind
-    (Set c.args.name c.args.value) c.args.self.now c.as_slice.result.now c.in_err-set_group.field-0.0 c.set_group.new.self
-    c.args.work.now.evaluated c.look.new.work.evaluated (c.self-2.view_is ∙ c.look.ensures.same)
+    (failed_made c.self-2.inside.graph c.self-2.inside.pairs c.self-2.inside.listeners c.self-2.inside.owners c.self-2.inside.behind
+    (Set c.args.name c.args.value) c.args.self.now (set_refusal c.as_slice.result.now c.self-2.inside.graph.entries)
+    c.in_err-set_group.field-0.0 c.set_group.new.self c.args.work.now.evaluated c.look.new.work.evaluated
+    (c.self-2.view_is ∙ c.look.ensures.same) (allowed_set c.args.self.now c.args.name c.args.value none)
     (set_unrefused c.self-2.inside.graph c.self-2.inside.pairs c.self-2.inside.listeners c.self-2.inside.owners c.self-2.inside.behind
     c.args.self.now c.args.name c.args.value c.as_slice.result.now (c.self-2.view_is ∙ c.look.ensures.same) c.self-2.invariant none group)
     c.in_err-set_group.ensures.answer c.in_err-set_group.ensures.err c.look.ensures.cost)

@@ -1,4 +1,4 @@
-use Rattle.fx_graph_model.specs.Numbers.{numbers}
+use Rattle.fx_base.specs.Names.{numbers}
 use Rattle.fx_store.proofs.KeepLemmas.{kept_forgotten, seen_forgotten}
 use Rattle.fx_store.proofs.store.Store.take_away.Goals as goal
 

@@ -16,6 +16,8 @@ returns-in_err-catch_up-clause-applied g c =
     let p = err_from_is_err_and c.from_residual.result c.from_residual.ensures.1 in
     rw (p.1, p.2)
     (unlisten_short c.args.name c.args.kind c.args.owner c.args.tag c.args.self.now c.end_listener.new.self c.catch_up.new.self _ _
+    (subst (λ (s : Stored). None ≡ unlisten_refusal c.args.name c.args.owner s.entries s.owners.living) c.self.view_is
+    c.in_default.ensures)
     c.end_listener.ensures c.catch_up.ensures.part c.catch_up.ensures.cost)
 
 pub returns-clause-applied : goal.returns-clause-applied

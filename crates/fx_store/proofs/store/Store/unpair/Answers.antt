@@ -14,8 +14,9 @@ pub returns-in_err-catch_up-clause-applied : goal.returns-in_err-catch_up-clause
 returns-in_err-catch_up-clause-applied g c =
     let p = err_from_is_err_and c.from_residual.result c.from_residual.ensures.1 in
     rw (p.1, p.2)
-    (unpair_short c.args.one c.args.other c.args.self.now c.end_pair.new.self c.catch_up.new.self _ _ c.end_pair.ensures
-    c.catch_up.ensures.part c.catch_up.ensures.cost)
+    (unpair_short c.args.one c.args.other c.args.self.now c.end_pair.new.self c.catch_up.new.self _ _
+    (subst (λ (s : Stored). None ≡ unpair_refusal c.args.one c.args.other s.entries) c.self.view_is c.in_default.ensures)
+    c.end_pair.ensures c.catch_up.ensures.part c.catch_up.ensures.cost)
 
 pub returns-clause-applied : goal.returns-clause-applied
 returns-clause-applied g c =

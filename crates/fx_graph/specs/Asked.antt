@@ -18,5 +18,6 @@ kept_value cache name = slice_index_or cache name no_value
 -- all operands are among so many names, and the expression has no place without operand
 abbrev pub IsEvaluable : ℕ → Definition → Type 0
 IsEvaluable size (Base value) = Unit {0}
-IsEvaluable size (Bound expr operands) = ((name : ℕ) → Contains operands name → name < size) × (is_within (tree expr) (length operands) ≡ true)
+IsEvaluable size (Bound expr operands) =
+    ((name : ℕ) → Contains operands name → name < size) × (is_within (tree expr) (length operands) ≡ true)
 IsEvaluable size Forgotten = Unit {0}

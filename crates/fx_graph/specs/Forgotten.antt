@@ -11,7 +11,8 @@ IsOutside names row (Some user) = Contains row user × (Contains names user → 
 
 -- the same over the rows of all the names
 abbrev pub IsSomeOutside : List ℕ → List Row → Option ℕ → Type 0
-IsSomeOutside names users None = (name user : ℕ) → Contains names name → Contains (users_of users name) user → Contains names user
+IsSomeOutside names users None =
+    (name user : ℕ) → Contains names name → Contains (users_of users name) user → Contains names user
 IsSomeOutside names users (Some user) =
     (Contains names user → ⊥) × ((name : ℕ) × Contains names name × Contains (users_of users name) user)
 

@@ -23,14 +23,19 @@ ArePlain pairs = All (λ (pair : Name × Value). is_plain pair.1 ≡ true) pairs
 
 -- the name is known and has a value of its own, of this kind
 abbrev pub IsBase : List Entry → Name × Value → Type 0
-IsBase entries pair = (unknown_in entries pair.0.0 ≡ false) × (bound_in entries pair.0.0 ≡ false) × (kind_of pair.1 ≡ kind_at entries pair.0.0)
+IsBase entries pair =
+    (unknown_in entries pair.0.0 ≡ false) × (bound_in entries pair.0.0 ≡ false)
+    × (kind_of pair.1 ≡ kind_at entries pair.0.0)
 
 abbrev pub AreBase : List Entry → List (Name × Value) → Type 0
 AreBase entries pairs = All (IsBase entries) pairs
 
 -- the names of the pairs are read-only, or unknown
 abbrev pub AreReadOnly : List Entry → List (Name × Value) → Type 0
-AreReadOnly entries pairs = All (λ (pair : Name × Value). unknown_in entries pair.0.0 ≡ false → read_only_in entries pair.0.0 ≡ true) pairs
+AreReadOnly entries pairs =
+    All
+    (λ (pair : Name × Value). unknown_in entries pair.0.0 ≡ false → read_only_in entries pair.0.0 ≡ true)
+    pairs
 
 -- the values of these pairs stand at the places of their names
 abbrev pub ArePrepared : ℕ → ℕ → List Value → List (Name × Value) → Type 0

@@ -24,7 +24,10 @@ origin_in entries name = origin_if (unknown_in entries name) (entry_of entries n
 
 -- The entries rank along uses and are sound, each has its flag, its kept value and a row of just those that use it, and
 -- the other lists have a place for each.
-pub record IsStore (entries : List Entry) (users : List Row) (unread before : List Bool) (newly : List Name) (newly_count : ℕ) (cache fresh : List Value) (work : List ℕ) (operands : ℕ) : Type 0 where
+pub record IsStore
+    (entries : List Entry) (users : List Row) (unread before : List Bool) (newly : List Name) (newly_count : ℕ)
+    (cache fresh : List Value) (work : List ℕ) (operands : ℕ)
+    : Type 0 where
   pub ranks : (rank : ℕ → ℕ) × Ranked entries rank
   pub sound : AreSound entries
   pub settled : IsSettled entries unread cache

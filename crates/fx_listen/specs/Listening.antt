@@ -1,6 +1,6 @@
 -- The listeners of properties: who is told of a change, by property and then by number. A listener may have an owner,
--- and is dead where its owner is. Source: JavaFX 21 (`InvalidationListener`, `ChangeListener` and their weak forms), with
--- release in the place of garbage collection.
+-- and is dead where its owner is. Source: JavaFX 21 (`InvalidationListener`, `ChangeListener` and their weak forms),
+-- with release in the place of garbage collection.
 use Rattle.std.specs.Prelude.{ℕ, ◌*◌, ◌==◌, ◌≡◌, ◌<◌, ◌≤◌, ◌⊎◌, nat_lt, nat_le, Bool, true, false, if◌then◌else◌, not, ◌&&◌, ◌||◌, List, [], ◌∷◌, ◌++◌, length, map, filter, All, AllPairs, Option, Some, None}
 use Rattle.std.specs.List.{list_any}
 use Rattle.fx_handles.specs.declared.Owner.{Owner}

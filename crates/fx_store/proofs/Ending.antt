@@ -1,5 +1,5 @@
 -- How a change ends: refused, short of memory, or made and read; and what it may cost.
-use Rattle.std.proofs.Common.{◌≡◌, ℕ, ◌+◌, ◌≤◌, List, Contains, Ok, Err, Option, Some, None, arith, refl, sym, subst, ap, inl, inr, ◌∙◌}
+use Rattle.std.proofs.Common.{◌≡◌, ℕ, ◌+◌, ◌≤◌, List, Contains, Ok, Err, arith, refl, sym, subst, ap, inl, inr, ◌∙◌}
 use Rattle.fx_store_model.specs.declared.changes.Change.{Change}
 use Rattle.fx_store_model.specs.declared.changes.Change.TheVariants.{Set, Publish, Bind, Unbind, Pair, Unpair, Listen, Unlisten, Forget}
 use Rattle.fx_store_model.specs.declared.changes.Notices.{Notices}

@@ -43,11 +43,14 @@ AreOnKnown entries listeners = All (λ (listener : Listener). unknown_in entries
 
 -- every watched name is read
 abbrev pub AreAllRead : List (ℕ × ℕ) → List Listener → List Bool → Type 0
-AreAllRead pairs listeners unread = (name : ℕ) → Contains (watch_list pairs listeners) name → marked unread name ≡ false
+AreAllRead pairs listeners unread =
+    (name : ℕ) → Contains (watch_list pairs listeners) name → marked unread name ≡ false
 
--- The two of each pair are twins, listeners are on known properties and their owners were born, and every watched name is
--- read but after want of memory.
-pub record IsKept (graph : State) (pairs : List (ℕ × ℕ)) (table : Table) (owners : Register) (behind : Bool) : Type 0 where
+-- The two of each pair are twins, listeners are on known properties and their owners were born, and every watched name
+-- is read but after want of memory.
+pub record IsKept
+    (graph : State) (pairs : List (ℕ × ℕ)) (table : Table) (owners : Register) (behind : Bool)
+    : Type 0 where
   pub twins : ArePaired graph.entries pairs
   pub few : length pairs ≤ 10000
   pub known : AreOnKnown graph.entries table.entries

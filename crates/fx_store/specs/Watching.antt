@@ -35,7 +35,10 @@ abbrev pub values_of : List Entry → List Listener → List Value
 values_of entries listeners = map (λ (listener : Listener). eager entries listener.name.0) listeners
 
 -- the change listeners, the names to be read, and the values of the listeners' properties
-pub record IsWatch (entries : List Entry) (pairs : List (ℕ × ℕ)) (listeners heard : List Listener) (names : List Name) (before : List Value) : Type 0 where
+pub record IsWatch
+    (entries : List Entry) (pairs : List (ℕ × ℕ)) (listeners heard : List Listener) (names : List Name)
+    (before : List Value)
+    : Type 0 where
   pub listening : heard ≡ heard_of listeners
   pub watched : numbers names ≡ watch_list pairs listeners
   pub values : before ≡ values_of entries heard

@@ -1,6 +1,6 @@
 //! Changes that make properties unread. Each looks at what it may tell of, makes the change in one call of the graph, and
 //! tells.
-ghost use Rattle.std.specs.Prelude.{ℕ, List, ◌≡◌, ◌≢◌, ◌≤◌, ◌+◌, ◌++◌, ◌∷◌, ◌==◌, ◌⊎◌, [], false, true, not, cond, filter, AllPairs, IfErr, IfOk, None, OnErr, OnOk, Some, length, map};
+ghost use Rattle.std.specs.Prelude.{ℕ, List, ◌≡◌, ◌≢◌, ◌≤◌, ◌+◌, ◌++◌, ◌∷◌, ◌==◌, [], false, true, not, cond, filter, AllPairs, IfErr, IfOk, None, OnErr, OnOk, Some, length, map};
 ghost use Rattle.fx_base.specs.declared.keys.Name.{Name as Named};
 ghost use Rattle.fx_base.specs.declared.values.Value.{Value as Content};
 ghost use Rattle.fx_expr.specs.Tree.{is_within, tree};

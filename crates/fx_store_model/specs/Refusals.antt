@@ -1,5 +1,5 @@
 -- When each change is refused, and with which error: in the order of the script's refusal words, each over all names.
-use Rattle.std.specs.Prelude.{ℕ, ◌≡◌, ◌==◌, ◌⊎◌, nat_le, Bool, true, false, if◌then◌else◌, ◌||◌, List, [], ◌∷◌, length, map, Option, Some, None, Result, Ok, Err, Contains}
+use Rattle.std.specs.Prelude.{ℕ, ◌≡◌, ◌==◌, ◌⊎◌, nat_le, Bool, if◌then◌else◌, ◌||◌, List, [], ◌∷◌, length, Option, Some, None, Result, Ok, Err}
 use Rattle.std.specs.Option.{option_map}
 use Rattle.fx_base.specs.Answers.{IsAnswer, or_else}
 use Rattle.fx_base.specs.Names.{numbers}
@@ -13,7 +13,7 @@ use Rattle.fx_store_pairs.specs.Pairs.{is_paired}
 use Rattle.fx_graph_model.specs.declared.entries.Entry.{Entry}
 use Rattle.fx_graph_model.specs.declared.errors.GraphError.{GraphError}
 use Rattle.fx_graph_model.specs.Equality.{same_kind}
-use Rattle.fx_graph_model.specs.Refusals.{IsFree, IsForgetRefusal, declare_refusal, fit_refusal, kind_at, link_refusal, publish_refusal, read_only_in, set_refusal, unknown_name, unknown_refusal}
+use Rattle.fx_graph_model.specs.Refusals.{IsFree, IsForgetRefusal, fit_refusal, kind_at, link_refusal, publish_refusal, read_only_in, set_refusal, unknown_name}
 use Rattle.fx_graph_model.specs.Uses.{bound_in}
 use Rattle.fx_store_model.specs.declared.changes.Change.{Change}
 use Rattle.fx_store_model.specs.declared.changes.Change.TheVariants.{Set, Publish, Bind, Unbind, Pair, Unpair, Listen, Unlisten, Forget}
@@ -41,7 +41,8 @@ unfoldable pub pair_refusal : Name → Name → List Entry → List (ℕ × ℕ)
 pair_refusal one other entries pairs =
     or_else (unknown_of (one ∷ other ∷ []) entries)
     (or_else (refused_pair error.ReadOnly (read_only_in entries) one other)
-    (or_else (if same_kind (kind_at entries one.0) (kind_at entries other.0) then None else Some (error.WrongKind other))
+    (or_else
+    (if same_kind (kind_at entries one.0) (kind_at entries other.0) then None else Some (error.WrongKind other))
     (or_else (refused_pair error.Mixed (bound_in entries) one other)
     (or_else (refused_if (one.0 == other.0) error.Same)
     (refused_if (nat_le 10000 (length pairs)) error.Full)))))

@@ -1,5 +1,5 @@
 -- The store of properties as contracts see it. Only living listeners count, so a release takes those of the owner away.
-use Rattle.std.specs.Prelude.{ℕ, ◌≡◌, ◌||◌, ◌&&◌, Bool, true, false, not, List, [], length, map, filter, Option, Some}
+use Rattle.std.specs.Prelude.{ℕ, ◌≡◌, ◌||◌, Bool, true, false, not, List, [], length, filter, Some}
 use Rattle.std.specs.List.{list_any, range_with_len}
 use Rattle.fx_handles.specs.declared.Owner.{Owner}
 use Rattle.fx_handles.specs.Living.{Register, nobody, after_release}

@@ -138,11 +138,6 @@ known_both one other es e =
     (graph_none (unknown_name es (one ∷ other ∷ [])) e) in
     (each one (contains_first one (other ∷ [])), each other (contains_later one (other ∷ []) other (contains_first other [])))
 
-pub known_one : (name : Name) (es : List Entry) → unknown_of (name ∷ []) es ≡ None → unknown_in es name.0 ≡ false
-known_one name es e =
-    refused_none graph_error.Unknown (λ (n : Name). unknown_in es n.0) (name ∷ []) (graph_none (unknown_name es (name ∷ [])) e)
-    name (contains_first name [])
-
 pub pairable : (one other : Name) (es : List Entry) (pairs : List (ℕ × ℕ)) → pair_refusal one other es pairs ≡ None
     → ArePairable es pairs one.0 other.0
 unfolding pair_refusal

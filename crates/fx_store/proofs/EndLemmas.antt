@@ -178,10 +178,6 @@ listened_some name before mid is =
       fewer = reading_fewer before.entries name before.unread;
     })
 
-pub listened_allowed : (name : Name) (owner : Option Owner) (before mid : Stored) → mid ≡ listened name.0 before
-    → MayListen name owner before → MayListen name owner mid
-listened_allowed name owner before mid is may = subst (MayListen name owner) (sym is) may
-
 pub listened_off : (name : ℕ) (before mid : Stored) → mid ≡ listened name before → marked mid.unread name ≡ false
 listened_off name before mid is =
     ap (λ (s : Stored). marked s.unread name) is

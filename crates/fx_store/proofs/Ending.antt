@@ -80,13 +80,6 @@ some_read graph now pairs table owners some = record {
 pub nothing_read : (stored : Stored) → IsReadSome stored stored
 nothing_read stored = record { rest = refl; flags = refl; fewer = λ name on. on }
 
-pub some_after : (first second third : Stored) → IsReadSome first second → IsReadSome second third → IsReadSome first third
-some_after first second third one other = record {
-  rest = other.rest ∙ ap (with_unread third.unread) one.rest;
-  flags = other.flags ∙ one.flags;
-  fewer = λ name on. one.fewer name (other.fewer name on);
-}
-
 -- memory was wanting before the change was made
 pub unmade_as_was : (change : Change) (before now : Stored) → now ≡ before → IsUnfinished change before now
 unmade_as_was change before now same = inl (subst (IsReadSome before) (sym same) (nothing_read before))

@@ -145,21 +145,9 @@ paired_own es pairs paired name e =
     let found = any_from (is_end name) pairs e in
     end_paired es found.0 name (paired_twins es pairs paired found.0 found.1) found.2
 
-pub paired_unbound : (es : List Entry) (pairs : List (ℕ × ℕ)) → ArePaired es pairs → (name : ℕ) → is_paired pairs name ≡ true
-    → bound_in es name ≡ false
-paired_unbound es pairs paired name e = own_unbound es name (paired_own es pairs paired name e)
-
-pub paired_free : (es : List Entry) (pairs : List (ℕ × ℕ)) → ArePaired es pairs → (name : ℕ) → is_paired pairs name ≡ true
-    → read_only_in es name ≡ false
-paired_free es pairs paired name e = (paired_own es pairs paired name e).free
-
 pub paired_known : (es : List Entry) (pairs : List (ℕ × ℕ)) → ArePaired es pairs → (name : ℕ) → is_paired pairs name ≡ true
     → unknown_in es name ≡ false
 paired_known es pairs paired name e = own_known es name (paired_own es pairs paired name e)
-
-pub paired_within : (es : List Entry) (pairs : List (ℕ × ℕ)) → ArePaired es pairs → (name : ℕ) → is_paired pairs name ≡ true
-    → name < length es
-paired_within es pairs paired name e = own_within es name (paired_own es pairs paired name e)
 
 -- a name that may be set to the value, and those that are joined with it
 

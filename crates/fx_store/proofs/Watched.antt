@@ -1,5 +1,4 @@
--- Names that are watched: the list that a step reads has just those that are in a pair or have a change listener, and where
--- they are read nothing is due.
+-- Names that are watched: the list that a step reads has just those that are in a pair or have a change listener.
 use Rattle.std.proofs.Common.{sym, ◌≡◌, ℕ, ◌==◌, ◌<◌, ◌⊎◌, Bool, true, false, not, ◌||◌, List, [], ◌∷◌, length, Contains, refl, subst, ap, inl, inr, ◌∙◌, All, append_assoc, ◌++◌}
 use Rattle.std.specs.List.{range_with_len}
 use Rattle.std.proofs.lemmas.Bool.{and_from, and_parts, and_right, both_ways, eq-eqb, eqb-true, false_from_ne_true, or_cases, or_left, or_right}
@@ -11,11 +10,11 @@ use Rattle.fx_listen.specs.declared.entries.ListenKind.TheVariants.{Change}
 use Rattle.fx_listen.specs.Listening.{same_kind, tells}
 use Rattle.fx_store_pairs.specs.Pairs.{is_end, is_paired}
 use Rattle.fx_graph_model.specs.declared.entries.Entry.{Entry}
-use Rattle.fx_graph_model.specs.Unread.{IsClosed, after_reads, evaluations_of, marked}
+use Rattle.fx_graph_model.specs.Unread.{IsClosed, after_reads, marked}
 use Rattle.fx_graph_model.specs.Uses.{leads, unknown_in}
 use Rattle.fx_graph_model.proofs.Changed.{known_within}
-use Rattle.fx_graph_model.proofs.ManyReads.{evaluations_none, evaluations_same, marked-reads, reached-at, reads_again, reads_same}
-use Rattle.fx_graph_model.proofs.Members.{any_at, any_from, below_range, contains_cases, contains_filter, contains_first, contains_later, contains_map, filter_contains, in_range, map_contains, none_in_nil}
+use Rattle.fx_graph_model.proofs.ManyReads.{marked-reads, reached-at, reads_again}
+use Rattle.fx_graph_model.proofs.Members.{any_at, any_from, contains_cases, contains_filter, contains_first, contains_later, contains_map, filter_contains, in_range, map_contains, none_in_nil}
 use Rattle.fx_store.specs.Kept.{AreAllRead, AreOnKnown, ArePaired}
 use Rattle.fx_store.specs.Watching.{ends_of, heard_of, names_of, watch_list}
 use Rattle.fx_store.proofs.Twins.{all_from, paired_known}
@@ -101,11 +100,6 @@ watched_watch stored name c =
     watches_watch stored.pairs stored.listeners name
     (filter_contains (watches stored.pairs stored.listeners) (range_with_len 0 (length stored.entries)) name c).1
 
-pub watched_within : (stored : Stored) (name : ℕ) → Contains (watched_names stored) name → name < length stored.entries
-watched_within stored name c =
-    below_range (length stored.entries) name
-    (filter_contains (watches stored.pairs stored.listeners) (range_with_len 0 (length stored.entries)) name c).0
-
 -- each change listener is on a known property
 pub heard_known : (es : List Entry) (listeners : List Listener) → AreOnKnown es listeners → (name : ℕ) → is_heard listeners name ≡ true
     → unknown_in es name ≡ false
@@ -141,25 +135,6 @@ watch_list-push pairs listeners one other =
     (flat_map-append (λ (pair : ℕ × ℕ). pair.0 ∷ pair.1 ∷ []) pairs ((one, other) ∷ []))
     ∙ sym (append_assoc (names_of (heard_of listeners)) (ends_of pairs) (one ∷ other ∷ []))
 
--- reads of the list are reads of the watched names
-
-pub watch_reads : (stored : Stored) → ((name : ℕ) → Contains (watch_list stored.pairs stored.listeners) name → name < length stored.entries)
-    → (flags : List Bool)
-    → after_reads stored.entries (watch_list stored.pairs stored.listeners) flags
-    ≡ after_reads stored.entries (watched_names stored) flags
-watch_reads stored within flags =
-    reads_same stored.entries (watch_list stored.pairs stored.listeners) (watched_names stored) flags
-    (λ name c. watch_watched stored name c (within name c)) (watched_watch stored)
-
-pub watch_evaluations : (stored : Stored)
-    → ((name : ℕ) → Contains (watch_list stored.pairs stored.listeners) name → name < length stored.entries)
-    → (flags : List Bool)
-    → evaluations_of stored.entries (watch_list stored.pairs stored.listeners) flags
-    ≡ evaluations_of stored.entries (watched_names stored) flags
-watch_evaluations stored within flags =
-    evaluations_same stored.entries (watch_list stored.pairs stored.listeners) (watched_names stored) flags
-    (λ name c. watch_watched stored name c (within name c)) (watched_watch stored)
-
 -- where all is read
 
 pub watching_again : (stored : Stored) → AreAllRead stored.pairs stored.listeners stored.unread → IsClosed stored.entries stored.unread
@@ -167,11 +142,6 @@ pub watching_again : (stored : Stored) → AreAllRead stored.pairs stored.listen
 watching_again stored read closed =
     ap (λ (flags : List Bool). with_unread flags stored)
     (reads_again stored.entries (watched_names stored) stored.unread closed (λ name c. read name (watched_watch stored name c)))
-
-pub watching_cost : (stored : Stored) → AreAllRead stored.pairs stored.listeners stored.unread → IsClosed stored.entries stored.unread
-    → evaluations_of stored.entries (watched_names stored) stored.unread ≡ 0
-watching_cost stored read closed =
-    evaluations_none stored.entries (watched_names stored) stored.unread closed (λ name c. read name (watched_watch stored name c))
 
 pub leads_itself : (es : List Entry) (name : ℕ) → leads es name name ≡ true
 unfolding leads
@@ -183,10 +153,6 @@ pub reads_off : (es : List Entry) (names : List ℕ) (flags : List Bool) (name :
 reads_off es names flags name c =
     marked-reads es names flags name
     ∙ and_right (marked flags name) _ (ap not (reached-at es names name name c (leads_itself es name)))
-
-pub all_read : (es : List Entry) (pairs : List (ℕ × ℕ)) (listeners : List Listener) (flags : List Bool)
-    → AreAllRead pairs listeners (after_reads es (watch_list pairs listeners) flags)
-all_read es pairs listeners flags name c = reads_off es (watch_list pairs listeners) flags name c
 
 -- fewer flags, and fewer that watch
 

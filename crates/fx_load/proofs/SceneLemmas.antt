@@ -39,7 +39,7 @@ stepped : (x : o.Content-F Content Element) (n : Nodes)
     → regions_of (content_step (f.map-Content Content Element Onto Onto (f.fold-Content Onto Onto content_step element_step) (f.fold-Element Onto Onto content_step element_step) x) n)
     ≡ one_more (regions_of n) (part_region (content_step (f.map-Content Content Element Onto Onto (f.fold-Content Onto Onto content_step element_step) (f.fold-Element Onto Onto content_step element_step) x) Nothing))
 stepped (o.Child e) n = ap regions_of (element_node e n) ∙ ap (λ y. one_more (regions_of n) (part_region y)) (sym (element_node e Nothing))
-stepped (o.Chars t line column) n = nothing_more (regions_of n)
+stepped (o.Chars t position) n = nothing_more (regions_of n)
 
 region_joined : (before : Nodes) (c : Content) → regions_of (onto c before) ≡ one_more (regions_of before) (part_region (onto c Nothing))
 region_joined before c =

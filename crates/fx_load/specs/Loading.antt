@@ -3,9 +3,8 @@ use Rattle.std.specs.Prelude.{ℕ, Bool, ◌&&◌, List, Option, Some, None, Res
 use Rattle.std.specs.Char.{is_ascii}
 use Rattle.std.specs.List.{list_all}
 use Rattle.std.specs.Str.Lines.{lines}
-use Rattle.fx_doc.specs.Judgements.{Judgement, NoText, Judged, judgement}
-use Rattle.fx_doc.specs.Reads.{document_text}
-use Rattle.fx_doc_grammar.specs.Characters.{start, after_all}
+use Rattle.fx_doc_grammar.specs.Judgements.{Judgement, NoText, Judged, document_text, judgement}
+use Rattle.fx_base.specs.Positions.{start, after_all}
 use Rattle.fx_doc_grammar.specs.Verdicts.{Verdict, Reads, Stops, Deep, Long as TooLong}
 use Rattle.fx_port.specs.Files.{Files, Found, found_in, whole, absent, longer}
 use Rattle.fx_load.specs.Faults.{Fault, fault_at, whole_fault}
@@ -47,9 +46,9 @@ nodes_or_fault name (Some nodes) = Ok nodes
 -- a document that is read is a scene of this form or not; every other verdict has its fault at its place
 abbrev pub nodes_of_verdict : List ℕ → Verdict → Result (List Node) Fault
 nodes_of_verdict name (Reads reading) = nodes_or_fault name (scene_of reading)
-nodes_of_verdict name (Stops place) = Err (fault_at Markup name place)
-nodes_of_verdict name (Deep place) = Err (fault_at Limit name place)
-nodes_of_verdict name (TooLong place) = Err (fault_at Limit name place)
+nodes_of_verdict name (Stops position) = Err (fault_at Markup name position)
+nodes_of_verdict name (Deep position) = Err (fault_at Limit name position)
+nodes_of_verdict name (TooLong position) = Err (fault_at Limit name position)
 
 -- the first byte that is no text stands behind the characters before it
 abbrev pub nodes_of_judgement : List ℕ → List ℕ → Judgement → Result (List Node) Fault

@@ -8,4 +8,4 @@ abbrev pub run_of : Run → PlainRun
 run_of run = record { scene = run.scene.now; script = run.script.now }
 
 abbrev pub fault_of : FileFault → Fault
-fault_of fault = record { kind = fault.kind; file = fault.file.now; line = fault.line; column = fault.column }
+fault_of fault = record { kind = fault.kind; file = fault.file.now; position = fault.position }

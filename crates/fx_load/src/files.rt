@@ -8,7 +8,7 @@ ghost use Rattle.fx_load.specs.Says.{LoadSays};
 ghost use Rattle.fx_load.specs.Views.{fault_of};
 ghost use Rattle.fx_load.specs.declared.files.LoadError.TheVariants.{Failed};
 
-use fx_doc_grammar::Place;
+use fx_base::Position;
 use fx_port::{FetchError, Fetched, Shelf};
 use std::alloc::{AllocError, Global};
 
@@ -39,13 +39,12 @@ pub enum FaultKind {
     NotBuilt,
 }
 
-/// Why a file is refused, and where: line and column from 1, or 0 and 0 for the whole file.
+/// Why a file is refused, and where: a position in it, or line 0 and column 0 for the whole file.
 #[derive(Clone, Copy)]
 pub struct FileFault<'a> {
     pub kind: FaultKind,
     pub file: &'a str,
-    pub line: u32,
-    pub column: u32,
+    pub position: Position,
 }
 
 impl<'a> FileFault<'a> {
@@ -56,20 +55,18 @@ impl<'a> FileFault<'a> {
         FileFault {
             kind,
             file,
-            line: 0,
-            column: 0,
+            position: Position { line: 0, column: 0 },
         }
     }
 
-    /// The file is refused at a place.
-    pub fn at(kind: FaultKind, file: &'a str, place: Place) -> FileFault<'a>
-        ensures { fault_of result ≡ fault_at kind file.now place }
+    /// The file is refused at a position.
+    pub fn at(kind: FaultKind, file: &'a str, position: Position) -> FileFault<'a>
+        ensures { fault_of result ≡ fault_at kind file.now position }
     {
         FileFault {
             kind,
             file,
-            line: place.line,
-            column: place.column,
+            position,
         }
     }
 }

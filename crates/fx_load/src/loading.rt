@@ -1,7 +1,8 @@
 //! Loading a run: the script first, and then the scene.
 ghost use Rattle.std.specs.Prelude.{◌≡◌, ◌≤◌, Err, IfOk, Some, Vec, length, vec_len};
 ghost use Rattle.std.specs.Global.{Global};
-ghost use Rattle.fx_doc.specs.Judgements.{Judgement, Tells};
+ghost use Rattle.fx_doc.specs.Judgements.{Tells};
+ghost use Rattle.fx_doc_grammar.specs.Judgements.{Judgement};
 ghost use Rattle.fx_doc.specs.Reads.{HasFault};
 ghost use Rattle.fx_doc.specs.Views.{reading};
 ghost use Rattle.fx_doc_grammar.specs.Verdicts.{Reads};
@@ -18,7 +19,6 @@ use crate::files::{FaultKind, FileFault, LoadError, Run, read_file};
 use crate::scene::scene_nodes;
 use crate::scripts::read_script;
 use fx_doc::{DocError, Document, place_behind, read_document};
-use fx_doc_grammar::Place;
 use fx_port::Shelf;
 use fx_script::Line;
 use fx_world::Node;
@@ -86,14 +86,14 @@ fn refused<'a>(name: &'a str, bytes: &[u8], error: DocError) -> LoadError<'a>
 {
     match error {
         DocError::NotUtf8(valid) => {
-            let place = place_behind(bytes.split_at(valid).0);
-            LoadError::Fault(FileFault::at(FaultKind::NotUtf8, name, place))
+            let position = place_behind(bytes.split_at(valid).0);
+            LoadError::Fault(FileFault::at(FaultKind::NotUtf8, name, position))
         }
-        DocError::Markup(line, column) => {
-            LoadError::Fault(FileFault::at(FaultKind::Markup, name, Place { line, column }))
+        DocError::Markup(position) => {
+            LoadError::Fault(FileFault::at(FaultKind::Markup, name, position))
         }
-        DocError::Depth(line, column) | DocError::Long(line, column) => {
-            LoadError::Fault(FileFault::at(FaultKind::Limit, name, Place { line, column }))
+        DocError::Depth(position) | DocError::Long(position) => {
+            LoadError::Fault(FileFault::at(FaultKind::Limit, name, position))
         }
         DocError::Memory => LoadError::Memory,
     }

@@ -78,7 +78,7 @@ fn region_of_part(alloc: Global, part: &Content) -> Result<Option<Node>, AllocEr
 {
     match part {
         Content::Child(element) => region_of_element(alloc, element),
-        Content::Chars(_, _, _) => Ok(None),
+        Content::Chars(_, _) => Ok(None),
     }
 }
 

@@ -14,7 +14,7 @@ ghost use Rattle.fx_play.specs.Words.{texts};
 
 use crate::player::{Player, put_lines};
 use crate::words::read_words;
-use fx_base::{Ledgers, Work};
+use fx_base::{Ledgers, Position, Work};
 use fx_load::{FaultKind, FileFault, LoadError, load};
 use fx_plain::Status;
 use fx_port::{PutError, Shelf, Sink};
@@ -108,7 +108,8 @@ fn fault_text(alloc: Global, fault: &FileFault<'_>) -> Result<Vec<u8>, AllocErro
     ensures { IfOk result (λ text. text.items ≡ fault_line (fault_of fault.now)) }
 {
     let word = kind_word(fault.kind);
-    let (file, line, column) = (fault.file, fault.line, fault.column);
+    let file = fault.file;
+    let Position { line, column } = fault.position;
     Ok(format!(in alloc; "fault {word} {file} {line} {column}\n")?.into_bytes())
 }
 

@@ -1,6 +1,6 @@
 -- the reader's answer is the judgement, and each judgement has its nodes or its fault
 use Rattle.std.proofs.Common.{List, Vec, Global, sym, subst}
-use Rattle.fx_doc.specs.Judgements.{Judgement, judgement}
+use Rattle.fx_doc_grammar.specs.Judgements.{Judgement, judgement}
 use Rattle.fx_load.specs.Loading.{nodes_of_judgement, nodes_of_scene}
 use Rattle.fx_world.specs.declared.nodes.Node.{Node}
 use Rattle.fx_load.specs.Says.{LoadSays}

@@ -1,16 +1,18 @@
-//! Writes a sheet of many rules, reads it, makes an index of its rules and asks that for the rules of one node, and prints a
-//! checksum of what was read and found. A script counts its instructions; no other crate stands on this one.
+//! Writes a sheet of many rules, reads it, makes an index of its rules and asks that for the rules of one node, and
+//! prints a checksum of what was read and found. A script counts its instructions; no other crate stands on this one.
 #![tactic(auto)]
+
+ghost use Rattle.fx_css_types.specs.Limits.{AreWithinLimits};
 
 mod nodes;
 mod sheets;
 
 use anyhow::bail;
+use fx_css_types::{SheetAt, sheets_within_limits_are_short};
 use fx_kinds::StyleFacts;
 use fx_select::RuleIndex;
-use fx_css_types::SheetAt;
 use nodes::{nodes, stand_before};
-use sheets::{are_short, read, sheet_text};
+use sheets::{read, sheet_text};
 use std::alloc::Global;
 use std::env;
 
@@ -78,10 +80,13 @@ fn search_in(
     sheets: &[SheetAt],
     facts: &[StyleFacts],
     searches: usize,
-) -> anyhow::Result<usize> {
-    if !are_short(sheets) || !stand_before(facts) || facts.is_empty() {
-        bail!("the sheet or the nodes are out of bounds");
+) -> anyhow::Result<usize>
+    requires { AreWithinLimits sheets.now }
+{
+    if !stand_before(facts) || facts.is_empty() {
+        bail!("the nodes are out of bounds");
     }
+    sheets_within_limits_are_short();
     let index = RuleIndex::build(alloc, sheets)?;
     let mut found = 0usize;
     for _ in 0..searches {

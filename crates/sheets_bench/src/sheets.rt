@@ -1,11 +1,10 @@
 //! A sheet of rules of four forms, written and read.
-ghost use Rattle.std.specs.Prelude.{IsTrue, ◌≤◌};
-ghost use Rattle.fx_select.specs.Short.{AreShort, AreShortRules, AreShortSelectors};
-ghost use Rattle.fx_select.specs.Specificity.{part_count};
+ghost use Rattle.std.specs.Prelude.{IfOk};
+ghost use Rattle.fx_css_types.specs.Limits.{IsWithinLimits};
 
 use anyhow::anyhow;
 use fx_css::read_sheet;
-use fx_css_types::{Rule, Selector, SheetAt, SheetOrigin};
+use fx_css_types::{SheetAt, SheetOrigin};
 use std::alloc::{AllocError, Global};
 
 /// What stands before each rule of a sheet with comments.
@@ -55,7 +54,10 @@ fn body(rule: usize) -> &'static str {
     }
 }
 
-pub fn read(alloc: Global, text: &str) -> anyhow::Result<SheetAt> {
+/// The sheet of a text, as a scene has it.
+pub fn read(alloc: Global, text: &str) -> anyhow::Result<SheetAt>
+    ensures { IfOk result (λ sheet. IsWithinLimits sheet.sheet) }
+{
     if text.len() > 4194304 {
         return Err(anyhow!("the sheet is too long"));
     }
@@ -63,53 +65,4 @@ pub fn read(alloc: Global, text: &str) -> anyhow::Result<SheetAt> {
         sheet: read_sheet(alloc, text.as_bytes(), 0)?,
         origin: SheetOrigin::Scene,
     })
-}
-
-fn is_short(selector: &Selector) -> bool
-    ensures { IsTrue result → part_count selector.now ≤ 4194304 }
-{
-    let mut count = 0usize;
-    for compound in selector.compounds.as_slice() {
-        let classes = compound.classes.as_slice().len();
-        let ids = compound.ids.as_slice().len();
-        let pseudos = compound.pseudos.as_slice().len();
-        if count > 1000 || classes > 1000 || ids > 1000 || pseudos > 1000 {
-            return false;
-        }
-        count += classes + ids + pseudos + 1;
-    }
-    true
-}
-
-fn short_selectors(selectors: &[Selector]) -> bool
-    ensures { IsTrue result → AreShortSelectors selectors.now }
-{
-    for selector in selectors {
-        if !is_short(selector) {
-            return false;
-        }
-    }
-    true
-}
-
-fn short_rules(rules: &[Rule]) -> bool
-    ensures { IsTrue result → AreShortRules rules.now }
-{
-    for rule in rules {
-        if !short_selectors(rule.selectors.as_slice()) {
-            return false;
-        }
-    }
-    true
-}
-
-pub fn are_short(sheets: &[SheetAt]) -> bool
-    ensures { IsTrue result → AreShort sheets.now }
-{
-    for sheet in sheets {
-        if !short_rules(sheet.sheet.rules.as_slice()) {
-            return false;
-        }
-    }
-    true
 }

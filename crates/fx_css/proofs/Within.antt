@@ -1,21 +1,19 @@
 -- What is read is within the limits, and each value fits its name.
 -- Below the public answers.
-use Rattle.std.proofs.Common.{◌≡◌, ℕ, zero, suc, ◌+◌, ◌-◌, ◌*◌, ◌<◌, ◌≤◌, Bool, true, false, cond, List, [], ◌∷◌, ◌++◌, map, length, length-append, take, drop, slice_get, refl, sym, ◌∙◌, ap, subst, arith, Option, Some, None, Result, Ok, Err, IfOk}
-use Rattle.std.proofs.lemmas.List.{length-map, length-take, length-drop}
+use Rattle.std.proofs.Common.{◌≡◌, ℕ, zero, suc, ◌+◌, ◌<◌, ◌≤◌, Bool, true, false, cond, List, [], ◌∷◌, ◌++◌, map, length, length-append, take, drop, slice_get, refl, sym, ◌∙◌, ap, subst, arith, Option, Some, None, Result, Ok, Err, IfOk}
+use Rattle.std.proofs.lemmas.List.{length-map, length-take}
 use Rattle.std.proofs.lemmas.List.Elements.{All-nil, All-cons, All-head, All-tail, All-same}
 use Rattle.std.proofs.lemmas.Bool.Decides.{nat_tests}
 use Rattle.std.specs.Bool.{nat_le}
 use Rattle.std.specs.List.{All, slice_split, flat_map, before_first, after_first, position_or_len}
 use Rattle.std.specs.Option.{option_map, option_to_list}
-use Rattle.fx_base.specs.declared.positions.Place.{Place}
 use Rattle.fx_base.specs.declared.positions.Position.{Position}
 use Rattle.fx_base.specs.Positions.{start, after_byte}
 use Rattle.fx_text.proofs.FrontLemmas.{map_gives}
 use Rattle.fx_css_types.specs.declared.declarations.Declaration.{Declaration}
 use Rattle.fx_css_types.specs.declared.selectors.Selector.{Selector}
-use Rattle.fx_css_types.specs.declared.sheets.Rule.{Rule}
 use Rattle.fx_css_types.specs.declared.sheets.Sheet.{Sheet}
-use Rattle.fx_css_types.specs.Limits.{form_of, Fits, layer_count, IsKeptDeclaration, IsKeptRule, IsWithinLimits}
+use Rattle.fx_css_types.specs.Limits.{IsKeptDeclaration, IsKeptRule, IsWithinLimits}
 use Rattle.fx_css_types.specs.Specificity.{part_count}
 use Rattle.fx_css_marks.specs.declared.marks.Mark.{Mark}
 use Rattle.fx_css_marks.specs.Marks.{quoted, quotation, comment, Marked, Ended, Plain, Comment, OpenComment, Quoted, OpenQuoted, bytes, signs, sign}
@@ -23,7 +21,6 @@ use Rattle.fx_css_parts.specs.declared.Selectors.{Selectors}
 use Rattle.fx_css_parts.specs.declared.ReadDeclaration.{ReadDeclaration}
 use Rattle.fx_css_parts.specs.Declaring.{declaration_in}
 use Rattle.fx_css_parts.specs.Limits.{past_in_selectors, past_in_declaration}
-use Rattle.fx_css_parts.specs.Parts.{selectors_at}
 use Rattle.fx_css_parts.specs.Selecting.{selectors_in}
 use Rattle.fx_css_parts.proofs.Bounds.{selectors_past_within, declaration_past_within, selectors_short, declaration_fits}
 use Rattle.fx_css_parts.proofs.DeclarationLaws.{declarations_read}
@@ -33,10 +30,9 @@ use Rattle.fx_css_parts.proofs.SelectorLaws.{selectors_read}
 use Rattle.fx_css.specs.declared.declarations.Kept.{Kept as Entry}
 use Rattle.fx_css.specs.declared.errors.SheetError.{SheetError}
 use Rattle.fx_css.specs.declared.parts.Numbered.{Numbered}
-use Rattle.fx_css.specs.Numbered.{numbered, numbered_marks, bytes_of}
+use Rattle.fx_css.specs.Numbered.{numbered_marks, bytes_of}
 use Rattle.fx_css.specs.Pieces.{ends_declaration, first_shown, number_at, judged, shown_piece, piece_from, piece_of, kept, kept_in, past_declarations}
 use Rattle.fx_css.specs.Rules.{is_open, is_close, selected, Reading, reading_of, past_rules, Reads, Ended, White, At, Leftover, Kept, Dropped}
-use Rattle.fx_css.specs.Rules as rule
 use Rattle.fx_css.specs.Cutting.{block_length, at_rule_length}
 use Rattle.fx_css.specs.Sheets.{IsSheetText, IsStyleText}
 use Rattle.fx_css.proofs.Blocks.{block_only, at_only}
@@ -53,9 +49,9 @@ none_of : {X : Type 0} (o : Option X) → option_to_list o ≡ [] → o ≡ None
 none_of None e = refl
 none_of (Some x) e = absurd (cc)
 
-none_past : (n most start : ℕ) (b : Bool) → nat_le most n ≡ b → cond b (start ∷ []) [] ≡ [] → n < most
-none_past n most start true h e = absurd (cc)
-none_past n most start false h e = grind (arith, nat_tests, h)
+none_past : (n most first : ℕ) (b : Bool) → nat_le most n ≡ b → cond b (first ∷ []) [] ≡ [] → n < most
+none_past n most first true h e = absurd (cc)
+none_past n most first false h e = grind (arith, nat_tests, h)
 
 none_mapped : {X Y : Type 0} (f : X → Y) (xs : List X) → [] ≡ map f xs → xs ≡ []
 none_mapped f [] e = refl
@@ -80,9 +76,9 @@ none_within ms (Some i) h e =
 abbrev IsGood : Entry → Type 0
 IsGood k = k.past ≡ None → IsKeptDeclaration k.declaration
 
-judged_good : (ms : List Numbered) (start : ℕ) (d : ReadDeclaration) → judged ms ≡ Some d → number_at ms d.past ≡ None → IsKeptDeclaration d.declaration
+judged_good : (ms : List Numbered) (d : ReadDeclaration) → judged ms ≡ Some d → number_at ms d.past ≡ None → IsKeptDeclaration d.declaration
 unfolding judged
-judged_good ms start d e past =
+judged_good ms d e past =
     let text : List ℕ = bytes_of ms in
     let h = map_gives (λ (x : Declaration). let r : ReadDeclaration = record { declaration = x; past = past_in_declaration text } in r) (declaration_in text) d e in
     let same : past_in_declaration text ≡ d.past = ap (λ (r : ReadDeclaration). r.past) h.2 in
@@ -92,13 +88,13 @@ judged_good ms start d e past =
       fits = declaration_fits text h.0 (declarations_read.sound text h.0 h.1);
     })
 
-piece_good : (ms : List Numbered) (start : ℕ) (o : Option ReadDeclaration) → judged ms ≡ o → All IsGood (kept (shown_piece ms start o))
-piece_good ms start None e = All-nil IsGood
-piece_good ms start (Some d) e = All-cons IsGood _ [] (λ past. judged_good ms start d e past) (All-nil IsGood)
+piece_good : (ms : List Numbered) (first : ℕ) (o : Option ReadDeclaration) → judged ms ≡ o → All IsGood (kept (shown_piece ms first o))
+piece_good ms first None e = All-nil IsGood
+piece_good ms first (Some d) e = All-cons IsGood _ [] (λ past. judged_good ms d e past) (All-nil IsGood)
 
 pieces_good : (ms : List Numbered) (o : Option ℕ) → All IsGood (kept (piece_from ms o))
 pieces_good ms None = All-nil IsGood
-pieces_good ms (Some start) = piece_good ms start (judged ms) refl
+pieces_good ms (Some first) = piece_good ms first (judged ms) refl
 
 all_both : {X : Type 0} (P : X → Type 0) (xs ys : List X) → All P xs → All P ys → All P (xs ++ ys)
 all_both P [] ys a b = b
@@ -128,10 +124,10 @@ body_kept body e =
 
 -- a rule that is kept
 
-rule_kept : (start : ℕ) (heading : List Numbered) (s : Selectors) (body : List Numbered) → selected heading ≡ Some s → length heading ≤ 4194304
-    → (reading_of start heading s body).past ≡ [] → IsKeptRule (reading_of start heading s body).rule
+rule_kept : (first : ℕ) (heading : List Numbered) (s : Selectors) (body : List Numbered) → selected heading ≡ Some s → length heading ≤ 4194304
+    → (reading_of first heading s body).past ≡ [] → IsKeptRule (reading_of first heading s body).rule
 unfolding reading_of selected
-rule_kept start heading s body e l past =
+rule_kept first heading s body e l past =
     let text : List ℕ = bytes_of heading in
     let h = map_gives (λ (ss : List Selector). let r : Selectors = record { selectors = ss; past = past_in_selectors text } in r) (selectors_in text) s e in
     let spelled = selectors_read.sound text h.0 h.1 in

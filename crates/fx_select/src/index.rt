@@ -50,8 +50,8 @@ pub fn all_matched()
 
 impl RuleIndex {
     /// The rules that match the node at this place, in order of sheet and rule, each once with the greatest specificity
-    /// of its selectors that match. `sheets` are those that the index was built of. Sheets within their limits are short
-    /// (`fx_css_types::sheets_within_limits_are_short`).
+    /// of its selectors that match. `sheets` are those that the index was built of. Sheets within their limits are
+    /// short (`fx_css_types::sheets_within_limits_are_short`).
     pub fn matched(
         &self,
         alloc: Global,

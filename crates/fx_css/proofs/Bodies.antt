@@ -110,9 +110,6 @@ pub record IsSoFar (declarations : List Declaration) (warnings old : List ℕ) (
   pub whole : kept_in body ≡ done ++ kept_in rest
   pub dropped : warnings ++ warnings_in rest ≡ old ++ warnings_in body
 
-pub so_far_none : (old : List ℕ) (body : List Numbered) → IsSoFar [] old old body body
-so_far_none old body = record { done = []; are_kept = refl; within = refl; whole = refl; dropped = refl }
-
 -- what is past a limit in the next pieces, in all
 past_in_all : (declarations : List Declaration) (done more all : List Kept) → declarations ≡ map (λ k. k.declaration) done → past_declarations 0 done ≡ [] → all ≡ done ++ more → past_declarations 0 all ≡ past_declarations (length declarations) more
 past_in_all declarations done more all e w f =

@@ -169,9 +169,6 @@ pub record IsReadSoFar (rules : List Rule) (warnings : List ℕ) (rest ms : List
   pub within : past_rules 0 done ≡ []
   pub completes : (rs : List Reading) (ws : List ℕ) → Reads rest rs ws → Reads ms (done ++ rs) (warnings ++ ws)
 
-pub read_none : (ms : List Numbered) → IsReadSoFar [] [] ms ms
-read_none ms = record { done = []; are_rules = refl; within = refl; completes = λ rs ws r. r }
-
 past_in_all : (rules : List Rule) (done more : List Reading) → rules ≡ map (λ r. r.rule) done → past_rules 0 done ≡ [] → past_rules 0 (done ++ more) ≡ past_rules (length rules) more
 past_in_all rules done more e w =
     let k : length rules ≡ length done = ap length e ∙ length-map done (λ r. r.rule) in

@@ -1,5 +1,5 @@
 -- How the loops over compounds and over combinators go on.
-use Rattle.std.proofs.Common.{◌≡◌, ℕ, suc, ◌+◌, ◌<◌, ◌≤◌, Bool, true, false, cond, not, ◌&&◌, ◌==◌, List, [], ◌∷◌, ◌++◌, length, drop, append_assoc, append-nil, Option, Some, None, refl, sym, ap, ◌∙◌, subst, length-drop, arith}
+use Rattle.std.proofs.Common.{◌≡◌, ℕ, suc, ◌+◌, Bool, true, false, cond, not, ◌&&◌, ◌==◌, List, [], ◌∷◌, ◌++◌, length, drop, append_assoc, Option, Some, None, refl, sym, ap, ◌∙◌, subst, arith}
 use Rattle.std.specs.List.{list_all, prefix_len}
 use Rattle.std.specs.Option.{option_and_then, option_map}
 use Rattle.std.proofs.lemmas.Bool.{and_from}
@@ -29,9 +29,6 @@ behind_here test c cs e = behind_by test c cs (test c) ∙ ap (λ b. cond b (beh
 
 pub stops_at : (test : ℕ → Bool) (text rest : List ℕ) → rest ≡ behind test text → stops test rest ≡ true
 stops_at test text rest e = ap (λ y. stops test y) e ∙ behind_stops test text
-
-behind_shorter : (test : ℕ → Bool) (text : List ℕ) → length (behind test text) ≤ length text
-behind_shorter test text = rw length-drop (omega arith)
 
 -- the parts of a compound
 
@@ -160,17 +157,6 @@ links_first (c ∷ cs) n s =
     links_begin c cs gap
     ∙ ap (λ y. (record { gap = front is_gap (c ∷ cs); word = front not_gap (behind is_gap (c ∷ cs)) }) ∷ y) (links_through cs ∙ ap (λ y. links_at false (behind not_gap y)) (sym (behind_on is_gap c cs gap)))
 
-pub links_shorter : (text after rest : List ℕ) → (length text == 0) ≡ false → stops not_gap text ≡ true → after ≡ behind is_gap text → rest ≡ behind not_gap after → length rest < length text
-links_shorter [] after rest n s a r = absurd (cc)
-links_shorter (c ∷ cs) after rest n s a r =
-    let gap : is_gap c ≡ true = not_not (is_gap c) s in
-    let one : after ≡ behind is_gap cs = a ∙ behind_on is_gap c cs gap in
-    let first : length (behind is_gap cs) ≤ length cs = behind_shorter is_gap cs in
-    let second : length (behind not_gap after) ≤ length after = behind_shorter not_gap after in
-    let third : length after ≡ length (behind is_gap cs) = ap (λ y. length y) one in
-    let last : length rest ≡ length (behind not_gap after) = ap (λ y. length y) r in
-    omega arith
-
 pub linked_first : (text : List ℕ) → (length text == 0) ≡ false → stops not_gap text ≡ true
     → linked_at (links_at false text)
     ≡ option_and_then (λ c. option_map (λ cs. c ∷ cs) (linked_at (links_at false (behind not_gap (behind is_gap text)))))
@@ -200,25 +186,8 @@ links_none done text n s link =
     ap (λ y. option_map (λ cs. done ++ cs) y)
     (ap (λ y. option_and_then (λ c. option_map (λ cs. c ∷ cs) (linked_at (links_at false (behind not_gap (behind is_gap text))))) y) (sym link) ∙ sym (linked_first text n s))
 
-pub links_unjoined : (done : List Compound) (text gap : List ℕ) → (length text == 0) ≡ false → stops not_gap text ≡ true → gap ≡ front is_gap text → None ≡ combinator_at gap
-    → None ≡ option_map (λ cs. done ++ cs) (linked_at (links_at false text))
-links_unjoined done text gap n s g e =
-    links_none done text n s
-    (ap (λ y. option_and_then (λ combinator. compound_at (Some combinator) (front not_gap (behind is_gap text))) y) (sym (e ∙ ap (λ y. combinator_at y) g)))
-
-pub links_unread : (done : List Compound) (text gap after : List ℕ) (k : Combinator) → (length text == 0) ≡ false → stops not_gap text ≡ true → gap ≡ front is_gap text → after ≡ behind is_gap text
-    → Some k ≡ combinator_at gap → None ≡ compound_at (Some k) (front not_gap after) → None ≡ option_map (λ cs. done ++ cs) (linked_at (links_at false text))
-links_unread done text gap after k n s g a ek ex =
-    links_none done text n s
-    (ap (λ y. option_and_then (λ combinator. compound_at (Some combinator) (front not_gap (behind is_gap text))) y) (sym (ek ∙ ap (λ y. combinator_at y) g))
-    ∙ sym (ex ∙ ap (λ y. compound_at (Some k) (front not_gap y)) a))
-
 not_zero : (n : ℕ) → (suc n == 0) ≡ true → ⊥
 not_zero n e = grind (arith, nat_tests, e)
-
-pub links_end : (done : List Compound) (text : List ℕ) → (length text == 0) ≡ true → Some done ≡ option_map (λ cs. done ++ cs) (linked_at (links_at false text))
-links_end done [] n = ap (λ y. Some y) (sym (append-nil done))
-links_end done (c ∷ cs) n = absurd (not_zero (length cs) n)
 
 joined : (first : Compound) (o : Option (List Compound)) → option_map selector (option_map (λ cs. first ∷ cs) o) ≡ option_map (λ others. selector (first ∷ others)) o
 joined first None = refl

@@ -1,10 +1,10 @@
 -- The answer on bytes, from that on their characters.
 -- Below the answers on `read_document`.
-use Rattle.std.proofs.Common.{◌≡◌, ℕ, ◌+◌, ◌≤◌, true, false, cond, List, [], ◌∷◌, ◌++◌, length, refl, sym, ◌∙◌, ap, subst, append-nil, length-append, arith, Result, Ok, Err, suc, IfOk, IfErr, OnOk, ◌&&◌}
+use Rattle.std.proofs.Common.{◌≡◌, ℕ, true, false, cond, List, [], ◌∷◌, ◌++◌, length, refl, sym, ◌∙◌, ap, subst, append-nil, arith, Result, Ok, Err, suc, IfOk, IfErr, OnOk, ◌&&◌}
 use lib.Dec.{eqb}
 use lib.Utf8.{encode, scalar}
 use Rattle.std.specs.Str.{chars, IsUtf8}
-use Rattle.std.proofs.lemmas.Str.{chars-append, chars-encodes, chars-nil, IsUtf8-encode}
+use Rattle.std.proofs.lemmas.Str.{chars-append, chars-encodes, IsUtf8-encode}
 use Rattle.fx_doc_grammar.specs.Grammar.{Spells}
 use Rattle.fx_doc_grammar.specs.Beginnings.{IsWithinLimits}
 use Rattle.fx_doc_grammar.specs.Verdicts.{Verdict, Reads, Stops, Deep, Long as TooLong, IsVerdict}
@@ -32,16 +32,6 @@ not_marked c text rest s e m = chars_first c text rest s e ∙ (ap (λ b. cond b
 no_text : (text : List ℕ) → length text ≡ 0 → text ≡ []
 no_text [] e = refl
 no_text (c ∷ text) e = absurd (let h : suc (length text) ≡ 0 = e in omega arith)
-
-pub empty_unmarked : (text : List ℕ) → length text ≡ 0 → chars text ≡ unmarked (chars text)
-empty_unmarked text e =
-    let n : chars text ≡ [] = ap chars (no_text text e) ∙ chars-nil in
-    n ∙ ap unmarked (sym n)
-
-pub rest_shorter : (c : ℕ) (text rest : List ℕ) → text ≡ encode c ++ rest → length rest ≤ length text
-rest_shorter c text rest e =
-    let h : length text ≡ length (encode c) + length rest = ap length e ∙ length-append (encode c) rest in
-    omega arith
 
 -- from an answer on the characters to one on the bytes
 pub on_bytes : (bytes cs : List ℕ) (r : Result Document DocError) → cs ≡ document_text bytes → IsUtf8 bytes → IsRead cs r → IsAnswer bytes r

@@ -1,6 +1,6 @@
 -- Characters over which the machine goes on within the limits; an attribute as most are written is such.
 -- The reader takes one whole; its answers cite these.
-use Rattle.std.proofs.Common.{◌≡◌, ℕ, ◌+◌, ◌≤◌, ◌<◌, Bool, true, false, cond, ◌&&◌, ◌||◌, not, List, [], ◌∷◌, ◌++◌, Option, Some, length, refl, sym, ◌∙◌, ap, subst, append_assoc, append-nil, length-append, arith}
+use Rattle.std.proofs.Common.{◌≡◌, ℕ, ◌+◌, ◌≤◌, ◌<◌, Bool, true, false, cond, ◌&&◌, ◌||◌, List, [], ◌∷◌, ◌++◌, Option, Some, length, refl, sym, ◌∙◌, ap, subst, append_assoc, append-nil, length-append, arith}
 use Rattle.std.specs.List.{list_all}
 use lib.Dec.{eqb, ltb}
 use Rattle.std.proofs.lemmas.Str.{encode_ascii}
@@ -56,10 +56,6 @@ keyed_calm h head q l (c ∷ cs) k key rest s' p e n f w =
     one_calm p (as_state h (Keyed head q k)) (as_state h (Keyed head q (k ++ (c ∷ [])))) c (cs ++ rest) s'
     (keyed_on h head q k c (class_of c) (both (ltb c 128) (in_name (class_of c)) a.0).1) refl (short_or (length (k ++ (c ∷ []))) (level_long h) room l)
     (keyed_calm h head q l cs (k ++ (c ∷ [])) key rest s' (after p c) g a.1 f w)
-
--- what a plain character is in a value
-eqb_off : (c n : ℕ) → not (eqb c n) ≡ true → c ≡ n → ⊥
-eqb_off c n e g = grind (arith, e, g)
 
 pub plain_less : (c : ℕ) → is_plain c ≡ true → class_of c ≡ Less → ⊥
 plain_less c e k = let f : c ≡ 60 = fits_at c Less k in grind (arith, e, f)

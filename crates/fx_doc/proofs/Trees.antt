@@ -1,6 +1,6 @@
 -- The fold by which contracts see the tree: at a child, at a run, and at one more piece of content.
 -- Below the answers on levels.
-use Rattle.std.proofs.Common.{◌≡◌, ℕ, Bool, true, false, not, List, [], ◌∷◌, ◌++◌, map, length, refl, sym, ◌∙◌, ap, subst, nat_eq, arith, Option, Some, None, suc}
+use Rattle.std.proofs.Common.{◌≡◌, ℕ, true, false, not, List, [], ◌∷◌, ◌++◌, map, length, refl, sym, ◌∙◌, ap, subst, nat_eq, arith, Option, Some, None, suc}
 use Rattle.std.proofs.lemmas.Grind.{common_steps}
 use Rattle.fx_base.specs.declared.positions.Position.{Position}
 use Rattle.fx_doc_grammar.specs.Grammar.{IsRoot, Nodes, Nothing, Letters, Node, Reading as ReadingView, Level as LevelView, Head as HeadView, one_child, closed, with_run}
@@ -100,19 +100,10 @@ pub close_is : (imports : List (List ℕ)) (s s' : Stack) (b : LevelView) (d : H
 close_is imports s s' b d l l' n e g h =
     ap (λ (y : LevelView). at (held_by imports s' y) Inside) (g ∙ ap (λ (y : Nodes). one_child b d y) h) ∙ ap (λ (y : Stack). close_in imports y l) (sym e)
 
-pub child_onto : (e : Element) → onto (v.Child e) ≡ onto_element e
-child_onto e = ap onto (sym (v.rolls-Child e)) ∙ f.fold-roll-Content Onto Onto content_step element_step (o.Child e)
-
-pub chars_run : (t : List ℕ) (p : Position) → IsRun (v.Chars t p)
-chars_run t p n r = subst IsRoot (onto_chars t p n) r
-
 pub element_node : (e : Element) (n : Nodes) → onto_element e n ≡ Node n (element_head e) (nodes_of (w.out-Element e).content.items)
 element_node e n = ap (λ (g : Onto). g n) (f.fold_out-Element Onto Onto content_step element_step e)
 
 -- the end of a text
-
-abbrev pub level_at_end : Nodes → List ℕ → Option Position → ℕ → LevelView
-level_at_end n r p c = record { nodes = n; run = r; first = p; count = c }
 
 abbrev pub end_state : List (List ℕ) → Stack → LevelView → State
 end_state imports s l = record { held = held_by imports s l; mode = Inside }
@@ -138,11 +129,3 @@ pub end_run : (imports : List (List ℕ)) (s : Stack) (l : LevelView) (cs ds : L
 end_run imports s l cs ds c h1 h2 h3 h4 a =
     let n : l.nodes ≡ onto c (nodes_of ds) = h2 ∙ (ap nodes_of h3 ∙ nodes_of_push ds c) in
     absurd (h4 (nodes_of ds) (subst IsRoot n (a (record { imports = imports; root = l.nodes }) (end_answer imports s l h1 (ap is_nothing n ∙ onto_something c (nodes_of ds))))))
-
-nothing_answer : (imports : List (List ℕ)) (s : Stack) (l : LevelView) (b : Bool) → b ≡ true → answer_of (held_by imports s l) s Inside b ≡ None
-nothing_answer imports Bottom l true e = refl
-nothing_answer imports Bottom l false e = absurd (let h : false ≡ true = e in cc)
-nothing_answer imports (Opened s b d) l c e = refl
-
-pub end_nothing : (imports : List (List ℕ)) (s : Stack) (l : LevelView) (cs : List Content) → l.nodes ≡ nodes_of cs → cs ≡ [] → answer (end_state imports s l) ≡ None
-end_nothing imports s l cs h1 h2 = nothing_answer imports s l (is_nothing l.nodes) (ap is_nothing (h1 ∙ ap nodes_of h2))

@@ -1,18 +1,18 @@
 -- What stays true over all calls: 64 registrations of a node in a phase, one convenience handler of a type.
-use Rattle.std.proofs.Common.{◌≡◌, ℕ, suc, ◌+◌, ◌<◌, ◌≤◌, ◌==◌, Bool, true, false, cond, ◌&&◌, not, List, [], ◌∷◌, ◌++◌, length, count_by, position, get_or, set, Option, Some, None, is_some, unwrap_or, refl, sym, ◌∙◌, ap, subst, arith, add-zero, zero-add, eqb-true, eq-eqb, ltb-false, true≢false, ltb}
+use Rattle.std.proofs.Common.{◌≡◌, ℕ, suc, ◌+◌, ◌<◌, ◌≤◌, ◌==◌, Bool, true, false, cond, ◌&&◌, not, List, [], ◌∷◌, ◌++◌, length, count_by, position, get_or, set, Option, Some, None, is_some, unwrap_or, refl, sym, ◌∙◌, ap, subst, arith, zero-add, eqb-true, eq-eqb, ltb-false, true≢false, ltb}
 use Rattle.std.specs.List.{position_or_len}
 use Rattle.std.proofs.lemmas.List.Sums.{sum_by-append, sum_by-set, fails_before_first}
 use Rattle.std.specs.Ordering.{eq_by_cmp}
-use Rattle.std.specs.FinMap.{empty, get, insert, remove, get-empty, get-insert, get-remove}
+use Rattle.std.specs.FinMap.{get, get-empty, get-insert, get-remove}
 use Rattle.std.proofs.lemmas.List.Quantifiers.{position-Some}
 use Rattle.fx_base.specs.declared.keys.NodeKey.{NodeKey}
 use Rattle.fx_events.specs.declared.kinds.EventKind.{EventKind}
 use Rattle.fx_events.specs.declared.kinds.Phase.{Phase}
 use Rattle.fx_events.specs.declared.kinds.Phase.TheVariants.{Convenience}
 use Rattle.fx_events.specs.declared.registrations.Registration.{Registration}
-use Rattle.fx_events.specs.Events.{is_same_type, is_same_phase, type_number, phase_number}
+use Rattle.fx_events.specs.Events.{is_same_phase, type_number, phase_number}
 use Rattle.fx_events.specs.Keyed.{key_cmp}
-use Rattle.fx_events.specs.Handlers.{HandlerMap, registrations_of, is_for, is_in, is_full, replaced_by, put_at, with_registration, after_add, after_forget, nobody, LeadsTo, none, added, forgotten, AtMost64, OneConvenience}
+use Rattle.fx_events.specs.Handlers.{HandlerMap, registrations_of, is_for, is_in, is_full, replaced_by, put_at, with_registration, LeadsTo, none, added, forgotten, AtMost64, OneConvenience}
 use Rattle.fx_events.proofs.Maps.{key_cmp_total}
 
 -- how many pass behind one more

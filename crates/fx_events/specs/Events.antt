@@ -1,6 +1,6 @@
 -- Types of events and the handlers that they call. Source: JavaFX 21 (javafx.event.EventType and
 -- EventHandler, javafx.scene.input.MouseEvent and KeyEvent, javafx.event.ActionEvent).
-use Rattle.std.specs.Prelude.{ℕ, ◌==◌, Bool, ◌&&◌, List, [], ◌∷◌}
+use Rattle.std.specs.Prelude.{ℕ, ◌==◌, Bool, List, [], ◌∷◌}
 use Rattle.fx_events.specs.declared.kinds.EventKind.{EventKind}
 use Rattle.fx_events.specs.declared.kinds.EventKind.TheVariants.{Any, Mouse, Key, Action, MouseMoved, MouseDragged, MousePressed, MouseReleased, MouseClicked, MouseEntered, MouseExited, KeyPressed}
 use Rattle.fx_events.specs.declared.kinds.Phase.{Phase}

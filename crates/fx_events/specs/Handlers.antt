@@ -1,5 +1,5 @@
 -- The handlers of nodes, and which of them an event calls.
-use Rattle.std.specs.Prelude.{ℕ, ◌==◌, ◌≡◌, ◌≤◌, Bool, true, false, if◌then◌else◌, ◌&&◌, not, List, [], ◌∷◌, ◌++◌, length, map, filter, count_by, position, slice_set, Option, Some, None, is_some, unwrap_or}
+use Rattle.std.specs.Prelude.{ℕ, ◌==◌, ◌≡◌, ◌≤◌, Bool, false, if◌then◌else◌, ◌&&◌, not, List, [], ◌∷◌, ◌++◌, map, filter, count_by, position, slice_set, Option, Some, None, is_some, unwrap_or}
 use Rattle.std.specs.List.{flat_map}
 use Rattle.std.specs.FinMap as map_of
 use Rattle.fx_base.specs.declared.keys.NodeKey.{NodeKey}

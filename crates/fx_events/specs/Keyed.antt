@@ -1,5 +1,4 @@
 -- Keys of nodes as the keys of a map: by slot, and of one slot by birth.
-use Rattle.std.specs.Prelude.{ℕ}
 use Rattle.std.specs.Ordering.{nat_cmp, on, then_cmp}
 use Rattle.std.specs.declared.cmp.Ordering.{Ordering}
 use Rattle.fx_base.specs.declared.keys.NodeKey.{NodeKey}

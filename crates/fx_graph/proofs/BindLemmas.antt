@@ -28,13 +28,6 @@ use Rattle.fx_graph_model.proofs.Refusing.{Bindable, or_else_none, refused_none,
 use Rattle.fx_graph.specs.Store.{IsStore}
 use Rattle.fx_graph_edges.proofs.RowLemmas.{numbers_more}
 
--- where none of the operands is unknown, each is one of the names
-pub operands_within : (es : List Entry) (operands : List Name) → None ≡ unknown_name es operands → (o : ℕ) → Contains (numbers operands) o → o < length es
-operands_within es operands none o c =
-    let found = map_contains (λ (n : Name). n.0) operands o c in
-    let known = refused_none Unknown (λ (n : Name). unknown_in es n.0) operands (sym none) found.0 found.1 in
-    known_within es o (ap (unknown_in es) (sym found.2) ∙ known)
-
 -- the names of a binding that fits
 pub fit_within : (es : List Entry) (name : Name) (expr : Expr) (operands : List Name) → None ≡ fit_refusal name expr operands es
     → (name.0 < length es) × ((o : ℕ) → Contains (numbers operands) o → o < length es)

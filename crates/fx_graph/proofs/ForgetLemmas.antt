@@ -1,6 +1,5 @@
 -- What is asked before names are forgotten, and what forgetting leaves of what the graph keeps.
-use Rattle.std.proofs.Common.{◌≡◌, ◌<◌, ◌≤◌, ◌+◌, ℕ, Bool, true, false, cond, List, [], ◌∷◌, length, get_or, set, take, drop, Contains, Some, None, sym, ap, subst, ◌∙◌, inl, inr, arith}
-use Rattle.std.proofs.lemmas.List.{at_drop_more}
+use Rattle.std.proofs.Common.{◌≡◌, ◌<◌, ◌≤◌, ◌+◌, ℕ, Bool, true, false, cond, List, [], ◌∷◌, length, get_or, set, take, Contains, Some, None, sym, ap, subst, ◌∙◌, inl, inr, arith}
 use Rattle.std.proofs.lemmas.List.Elements.{Contains-push_cases}
 use Rattle.fx_base.specs.declared.keys.Name.{Name}
 use Rattle.fx_base.specs.declared.values.Value.{Value}
@@ -23,10 +22,6 @@ use Rattle.fx_graph.specs.Forgotten.{IsSomeOutside, reset}
 use Rattle.fx_graph.specs.Store.{IsStore}
 use Rattle.fx_graph_edges.proofs.RowLemmas.{numbers_more}
 
--- the names from one on are its number and those from the next on
-pub numbers_from : (names : List Name) (i : ℕ) (d : Name) → i < length names → numbers (drop i names) ≡ (get_or names i d).0 ∷ numbers (drop (i + 1) names)
-numbers_from names i d h = at_drop_more numbers names i d h
-
 -- names that are all known were declared
 pub known_names : (es : List Entry) (names : List Name) → unknown_name es names ≡ None → (name : ℕ) → Contains (numbers names) name → name < length es
 known_names es names e name c =
@@ -48,15 +43,6 @@ unknown_refused es names error e =
             → cond b (Some (Unknown name)) (unknown_name es rest) ≡ Some error → (n : Name) × (Unknown n ≡ error)
         by_first name later true g = (name, cc)
         by_first name later false g = later g
-
--- none of the names that were looked at is this one
-pub other_more : (names : List Name) (i : ℕ) (d : Name) (place : ℕ) → i < length names → (Contains (numbers (take i names)) place → ⊥) → ((get_or names i d).0 ≡ place → ⊥)
-    → Contains (numbers (take (i + 1) names)) place → ⊥
-other_more names i d place h before here c =
-    elim (Contains-push_cases (numbers (take i names)) (get_or names i d).0 place (subst (λ (xs : List ℕ). Contains xs place) (numbers_more names i d h) c)) [
-      | inl old ↦ before old
-      | inr same ↦ here same
-    ]
 
 -- no user of the names that were looked at is another name
 pub inside_more : (names : List Name) (users : List Row) (all : List ℕ) (i : ℕ) (d : Name) → i < length names

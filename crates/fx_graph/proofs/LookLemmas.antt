@@ -21,17 +21,6 @@ not_marked : (before now : Bool) → (now ≡ true → before ≡ true) → befo
 not_marked before true fewer off = absurd (both_ways before off (fewer refl))
 not_marked before false fewer off = refl
 
--- what was read keeps its value where the flags are those of before
-pub settled_restored : (es : List Entry) (before now : List Bool) (cache cache' : List Value) → IsSettled es before cache
-    → IsSettled es now cache' → ((name : ℕ) → marked now name ≡ true → marked before name ≡ true) → IsSettled es before cache'
-settled_restored es before now cache cache' s t fewer =
-    record {
-      flags = s.flags;
-      values = t.values;
-      closed = s.closed;
-      kept = λ name h off. t.kept name h (not_marked (marked before name) (marked now name) (fewer name) off);
-    }
-
 -- these names were read, and their values stand in a list
 pub record Reads (entries : List Entry) (names : List ℕ) (before now : List Bool) (cache values : List Value) (cost cost' : ℕ) : Type 0 where
   pub settled : IsSettled entries now cache

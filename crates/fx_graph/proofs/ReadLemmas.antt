@@ -1,14 +1,13 @@
 -- The turns of a read.
-use Rattle.std.proofs.Common.{◌≡◌, ◌<◌, ◌≤◌, ◌+◌, ◌-◌, ℕ, zero, suc, Bool, true, false, cond, List, [], ◌∷◌, ◌++◌, length, get_or, set, map, take, Contains, slice_index, refl, sym, ap, subst, ◌∙◌, inl, inr, arith}
-use Rattle.std.proofs.lemmas.List.{get_or_read, map-append}
-use Rattle.std.proofs.lemmas.List.Elements.{Contains-push_cases}
+use Rattle.std.proofs.Common.{◌≡◌, ◌<◌, ◌≤◌, ◌+◌, ◌-◌, ℕ, zero, suc, Bool, true, false, cond, List, [], ◌∷◌, ◌++◌, length, get_or, set, map, take, Contains, slice_index, refl, sym, ap, subst, ◌∙◌, arith}
+use Rattle.std.proofs.lemmas.List.{map-append}
 use Rattle.fx_base.specs.declared.keys.Name.{Name}
 use Rattle.fx_base.specs.declared.values.Value.{Value}
 use Rattle.fx_graph_model.specs.declared.entries.Entry.{Entry}
 use Rattle.fx_graph_model.specs.declared.entries.Definition.{Definition}
 use Rattle.fx_graph_model.specs.declared.entries.Definition.TheVariants.{Base, Bound, Forgotten}
 use Rattle.fx_base.specs.Names.{numbers, name_of}
-use Rattle.fx_graph_model.specs.Uses.{Ranked, nothing, entry_of, operands_in, uses, bound_in}
+use Rattle.fx_graph_model.specs.Uses.{Ranked, entry_of, operands_in, uses, bound_in}
 use Rattle.fx_graph_model.specs.Sound.{AreSound, HasKind}
 use Rattle.fx_graph_model.specs.Eager.{eager}
 use Rattle.fx_graph_model.specs.Unread.{marked, after_reading, evaluations, IsPartRead}
@@ -16,14 +15,6 @@ use Rattle.fx_graph_model.specs.Marking.{at}
 use Rattle.fx_graph_edges.proofs.RowLemmas.{numbers_more}
 use Rattle.fx_graph.specs.Asked.{IsEvaluable, kept_value}
 use Rattle.fx_graph_model.proofs.Reading.{Settles, settles_push, settles_pop, settles_room, settles_end, measure, measure-pop, part_more, read_cost, bound_unread-clear}
-
-pub off_more : (flags : List Bool) (names : List Name) (i : ℕ) (d : Name) → i < length names → ((o : ℕ) → Contains (numbers (take i names)) o → marked flags o ≡ false)
-    → marked flags (get_or names i d).0 ≡ false → (o : ℕ) → Contains (numbers (take (i + 1) names)) o → marked flags o ≡ false
-off_more flags names i d h before here o c =
-    elim (Contains-push_cases (numbers (take i names)) (get_or names i d).0 o (subst (λ (xs : List ℕ). Contains xs o) (numbers_more names i d h) c)) [
-      | inl old ↦ before o old
-      | inr same ↦ subst (λ k. marked flags k ≡ false) same here
-    ]
 
 -- an operand goes on the stack
 pub push : (es : List Entry) (rank : ℕ → ℕ) → Ranked es rank → (name : ℕ) (before now : List Bool) (cache : List Value)
@@ -107,10 +98,6 @@ room_above es rank ranked name before now cache stack zero cost cost' s some o c
 room_above es rank ranked name before now cache stack (suc count) cost cost' s some o c =
     let top : suc count - 1 ≡ count = omega arith in
     settles_room es rank ranked name before now cache stack count cost cost' s o (subst (λ n. Contains (uses es (at stack n)) o) top c)
-
--- an entry that was read by its place
-pub entry_read : (es : List Entry) (i : ℕ) (entry : Entry) → i < length es → entry ≡ get_or es i entry → entry ≡ entry_of es i
-entry_read es i entry h e = get_or_read es i entry h e nothing
 
 -- the expression of a sound store can be evaluated over what is kept
 pub evaluable : (es : List Entry) (rank : ℕ → ℕ) → Ranked es rank → AreSound es → (cache : List Value) → length cache ≡ length es → (name : ℕ)

@@ -1,5 +1,5 @@
 -- What a change of some names leaves as it is: entries by name, and the values that are kept of the others.
-use Rattle.std.proofs.Common.{◌≡◌, ℕ, ◌+◌, ◌<◌, ◌≤◌, Bool, true, false, ◌||◌, List, [], ◌∷◌, ◌++◌, length, arith, refl, sym, ◌∙◌, ap, subst, inl, inr, ◌⊎◌}
+use Rattle.std.proofs.Common.{◌≡◌, ℕ, ◌+◌, ◌<◌, ◌≤◌, Bool, true, false, ◌||◌, List, [], ◌∷◌, ◌++◌, length, arith, refl, sym, ◌∙◌, ap, inl, inr, ◌⊎◌}
 use Rattle.std.specs.List.{Contains}
 use Rattle.std.proofs.lemmas.Bool.{cases_Bool, cases_lt, both_ways, or_parts, or_left, or_right, false≢true, false_from_ne_true}
 use Rattle.std.proofs.lemmas.List.{get_or_past, length_push, get_or_push, get_or_append_left}
@@ -13,7 +13,6 @@ use Rattle.fx_graph_model.specs.Eager.{value_of_definition, eager}
 use Rattle.fx_graph_model.specs.Unread.{marked, leads_to_any, after_marking, IsClosed}
 use Rattle.fx_graph_model.specs.Marking.{IsClosedBut}
 use Rattle.fx_graph_model.specs.Sound.{IsSettled}
-use Rattle.fx_graph_model.proofs.Members.{none_in_nil}
 use Rattle.fx_graph_model.proofs.Walks.{any-member, any-first, user_within}
 use Rattle.fx_graph_model.proofs.Values.{value_at, value-agree, eager-agree, eager-unfold}
 use Rattle.fx_graph_model.proofs.Flags.{marked-by, length-by}
@@ -48,15 +47,6 @@ pub no_operands : (d : Definition) → is_binding d ≡ false → operands_in d 
 no_operands (Base value) _ = refl
 no_operands (Bound expr operands) e = absurd (false≢true (sym e))
 no_operands Forgotten _ = refl
-
-pub user_bound : (es : List Entry) (user used : ℕ) → Contains (uses es user) used → bound_in es user ≡ true
-user_bound es user used c =
-    elim (cases_Bool (bound_in es user)) [
-      | inl holds ↦ holds
-      | inr fails ↦
-          let P : List ℕ → Type 0 = λ xs. Contains xs used in
-          absurd (none_in_nil used (subst P (no_operands (entry_of es user).definition fails) c))
-    ]
 
 -- the flags after a mark, by name
 pub marked-marking : (es : List Entry) (names : List ℕ) (flags : List Bool) (name : ℕ) → name < length flags

@@ -11,7 +11,7 @@ use Rattle.fx_graph_model.specs.declared.entries.Origin.TheVariants as origin
 use Rattle.fx_graph_model.specs.declared.entries.Definition.TheVariants.{Base, Bound}
 use Rattle.fx_graph_model.specs.Eager.{value_in, eager}
 use Rattle.fx_graph_model.specs.Uses.{reaches_in, leads}
-use Rattle.fx_graph_model.specs.Unread.{leads_to_any, after_marking, newly_marked, after_reading, evaluations}
+use Rattle.fx_graph_model.specs.Unread.{leads_to_any, after_marking, after_reading, evaluations}
 
 abbrev number : Value → Entry
 number here = record { kind = kind.Int; read_only = false; origin = origin.Initial; definition = Base here }
@@ -39,12 +39,6 @@ marks : (s : Value) (a b c : Expr) → after_marking (diamond s a b c) (0 ∷ []
 unfolding leads_to_any leads reaches_in
 marks s a b c = refl
 
--- and newly are just those that weren't unread
-news : (s : Value) (a b c : Expr)
-    → newly_marked (diamond s a b c) (0 ∷ []) (false ∷ false ∷ true ∷ true ∷ []) ≡ 0 ∷ 1 ∷ []
-unfolding leads_to_any leads reaches_in
-news s a b c = refl
-
 -- a read of a takes a and s out
 reads : (s : Value) (a b c : Expr) → after_reading (diamond s a b c) 1 (all true) ≡ false ∷ false ∷ true ∷ true ∷ []
 unfolding leads reaches_in
@@ -54,10 +48,6 @@ reads s a b c = refl
 costs : (s : Value) (a b c : Expr) → evaluations (diamond s a b c) 3 (all true) ≡ 3
 unfolding evaluations leads reaches_in
 costs s a b c = refl
-
-costs_less : (s : Value) (a b c : Expr) → evaluations (diamond s a b c) 3 (false ∷ false ∷ true ∷ true ∷ []) ≡ 2
-unfolding evaluations leads reaches_in
-costs_less s a b c = refl
 
 abbrev one_more : Tree
 one_more = Two binary.Plus (Place 0) (Leaf (value.Int (pos 1)))

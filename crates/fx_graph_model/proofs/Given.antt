@@ -1,9 +1,8 @@
 -- Names that are given values.
-use Rattle.std.proofs.Common.{◌≡◌, ◌≢◌, ℕ, suc, ◌<◌, Bool, true, false, cond, not, List, [], ◌∷◌, ◌++◌, length, map, filter, set, arith, refl, sym, ◌∙◌, ap, subst, inl, inr, ◌⊎◌}
+use Rattle.std.proofs.Common.{◌≡◌, ◌≢◌, ℕ, suc, ◌<◌, Bool, false, not, List, [], ◌∷◌, length, map, filter, set, arith, refl, sym, ◌∙◌, ap, subst, inl, inr, ◌⊎◌}
 use Rattle.std.specs.List.{Contains, AllPairs}
 use Rattle.std.proofs.lemmas.Bool.{cases_Bool, both_ways, not_from_false}
-use Rattle.std.proofs.lemmas.List.{length-set, append-nil, map-append}
-use Rattle.std.proofs.lemmas.List.Elements.{filter-append}
+use Rattle.std.proofs.lemmas.List.{length-set}
 use Rattle.fx_base.specs.declared.keys.Name.{Name}
 use Rattle.fx_base.specs.declared.values.Value.{Value}
 use Rattle.fx_graph_model.specs.declared.entries.Entry.{Entry}
@@ -170,22 +169,3 @@ settled_given sets pairs es rank ranked distinct plain flags cache s =
 
 abbrev differs : List Entry → Name × Value → Bool
 differs es p = not (same_value (eager es p.0.0) p.1)
-
--- the changed names, with one pair more
-pub changed_push : (pairs : List (Name × Value)) (pair : Name × Value) (es : List Entry)
-    → changed (pairs ++ pair ∷ []) es
-    ≡ cond (same_value (eager es pair.0.0) pair.1) (changed pairs es) (changed pairs es ++ pair.0.0 ∷ [])
-changed_push pairs pair es =
-    ap targets (filter-append (differs es) pairs (pair ∷ [])) ∙ by_last (cases_Bool (same_value (eager es pair.0.0) pair.1))
-  where
-    by_last : (same_value (eager es pair.0.0) pair.1 ≡ true) ⊎ (same_value (eager es pair.0.0) pair.1 ≡ false)
-        → targets (filter (differs es) pairs ++ filter (differs es) (pair ∷ []))
-        ≡ cond (same_value (eager es pair.0.0) pair.1) (changed pairs es) (changed pairs es ++ pair.0.0 ∷ [])
-    by_last (inl same) = rw same (ap targets (append-nil (filter (differs es) pairs)))
-    by_last (inr other) = rw other (map-append (λ (p : Name × Value). p.0.0) (filter (differs es) pairs) (pair ∷ []))
-
--- a value of its own is the eager one
-pub eager-base : (es : List Entry) (rank : ℕ → ℕ) → Ranked es rank → (name : ℕ) (value : Value)
-    → (entry_of es name).definition ≡ Base value → eager es name ≡ value
-eager-base es rank ranked name value base =
-    eager-unfold es rank ranked name ∙ ap (value_of_definition (eager es)) base

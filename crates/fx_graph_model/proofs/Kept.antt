@@ -1,13 +1,10 @@
 -- Values that need no ranks, and names that are forgotten.
-use Rattle.std.proofs.Common.{◌≡◌, ℕ, zero, suc, ◌<◌, true, List, length, arith, ap}
-use Rattle.std.specs.List.{Contains}
+use Rattle.std.proofs.Common.{◌≡◌, ℕ, zero, suc, ◌<◌, List, length, arith, ap}
 use Rattle.fx_base.specs.declared.values.Value.{Value}
 use Rattle.fx_graph_model.specs.declared.entries.Entry.{Entry}
 use Rattle.fx_graph_model.specs.declared.entries.Definition.TheVariants.{Base}
-use Rattle.fx_graph_model.specs.Uses.{entry_of, is_gone, unknown_in}
+use Rattle.fx_graph_model.specs.Uses.{entry_of}
 use Rattle.fx_graph_model.specs.Eager.{value_of_definition, value_in, eager}
-use Rattle.fx_graph_model.specs.Changes.{forget_all}
-use Rattle.fx_graph_model.proofs.Forgetting.{entry-forget}
 
 own_at_depth : (depth : ℕ) (es : List Entry) (name : ℕ) (value : Value) → 0 < depth → (entry_of es name).definition ≡ Base value
     → value_in depth es name ≡ value
@@ -19,7 +16,3 @@ own_at_depth (suc depth) es name value some base = ap (value_of_definition (valu
 pub eager-own : (es : List Entry) (name : ℕ) (value : Value) → name < length es → (entry_of es name).definition ≡ Base value
     → eager es name ≡ value
 eager-own es name value within base = own_at_depth (length es) es name value (omega arith) base
-
-pub unknown-forget : (names : List ℕ) (es : List Entry) (name : ℕ) → Contains names name
-    → unknown_in (forget_all names es) name ≡ true
-unknown-forget names es name c = ap is_gone (entry-forget names es name c)

@@ -1,14 +1,14 @@
 -- Reads of several names: flags afterwards, and what the reads cost.
-use Rattle.std.proofs.Common.{◌≡◌, ℕ, ◌+◌, ◌<◌, ◌≤◌, Bool, true, false, cond, not, ◌&&◌, ◌||◌, List, [], ◌∷◌, ◌++◌, length, arith, refl, sym, ◌∙◌, ap, subst, inl, inr, ◌⊎◌}
+use Rattle.std.proofs.Common.{◌≡◌, ℕ, ◌+◌, ◌<◌, ◌≤◌, Bool, true, false, cond, not, ◌&&◌, ◌||◌, List, [], ◌∷◌, ◌++◌, length, arith, refl, sym, ◌∙◌, ap, inl, inr}
 use Rattle.std.specs.List.{Contains, range_with_len}
-use Rattle.std.proofs.lemmas.Bool.{cases_Bool, cases_lt, both_ways, or_cases, or_left, or_right, and_parts, and_from, false_from_ne_true, not_from_false, not-true}
-use Rattle.std.proofs.lemmas.List.{get_or_past, append_assoc}
+use Rattle.std.proofs.lemmas.Bool.{cases_lt, both_ways, or_cases, or_left, or_right, and_parts, and_from, false_from_ne_true}
+use Rattle.std.proofs.lemmas.List.{get_or_past}
 use Rattle.std.proofs.lemmas.List.Elements.{Contains-append_left, Contains-push, Contains-push_cases}
 use Rattle.fx_graph_model.specs.declared.entries.Entry.{Entry}
-use Rattle.fx_graph_model.specs.Uses.{uses, bound_in, leads, Ranked}
-use Rattle.fx_graph_model.specs.Unread.{marked, tally, is_reached, after_reading, after_reads, bound_unread, evaluations, evaluations_of, IsClosed, IsPartRead}
-use Rattle.fx_graph_model.proofs.Members.{none_in_nil, any_from, any_at, tally_same, tally_none, tally_le}
-use Rattle.fx_graph_model.proofs.Walks.{leads-last, leads-down}
+use Rattle.fx_graph_model.specs.Uses.{bound_in, leads}
+use Rattle.fx_graph_model.specs.Unread.{marked, tally, is_reached, after_reading, after_reads, bound_unread, evaluations, evaluations_of, IsClosed}
+use Rattle.fx_graph_model.proofs.Members.{none_in_nil, any_from, any_at, tally_same, tally_le}
+use Rattle.fx_graph_model.proofs.Walks.{leads-down}
 use Rattle.fx_graph_model.proofs.Flags.{marked-by, length-by, flags_by, same_test}
 
 pub reached-at : (es : List Entry) (names : List ℕ) (name other : ℕ) → Contains names name → leads es name other ≡ true
@@ -55,17 +55,6 @@ reached-push es names name other = same_test _ _ there back
               reached-more es names (names ++ name ∷ []) other (λ n c. Contains-append_left names (name ∷ []) n c) old
           | inr new ↦ reached-at es (names ++ name ∷ []) name other (Contains-push names name) new
         ]
-
-pub reached-one : (es : List Entry) (name other : ℕ) → is_reached es (name ∷ []) other ≡ leads es name other
-reached-one es name other =
-    reached-push es [] name other ∙ ap (λ (b : Bool). b || leads es name other) (reached-none es other)
-
--- what a reached name uses is reached
-pub reached-use : (es : List Entry) (rank : ℕ → ℕ) → Ranked es rank → (names : List ℕ) (user used : ℕ) → Contains (uses es user) used
-    → is_reached es names user ≡ true → is_reached es names used ≡ true
-reached-use es rank ranked names user used c e =
-    let from = reached-from es names user e in
-    reached-at es names from.0 used from.1 (leads-last es rank ranked from.0 user used from.2 c)
 
 -- flags of which a test leaves some, by name
 marked_left : (flags : List Bool) (gone : ℕ → Bool) (other : ℕ) → (marks : List Bool)
@@ -130,13 +119,6 @@ reads_push es names name flags =
     both true false c = refl
     both false b c = refl
 
-pub reads_one : (es : List Entry) (name : ℕ) (flags : List Bool) → after_reads es (name ∷ []) flags ≡ after_reading es name flags
-reads_one es name flags =
-    sym (reads_by es (name ∷ []) flags (after_reading es name flags) (length-reading es name flags)
-    (λ other.
-    marked-reading es name flags other
-    ∙ ap (λ (b : Bool). marked flags other && not b) (sym (reached-one es name other))))
-
 -- the order of the names, and how often each stands there, is nothing to the flags
 pub reads_same : (es : List Entry) (xs ys : List ℕ) (flags : List Bool) → ((n : ℕ) → Contains xs n → Contains ys n)
     → ((n : ℕ) → Contains ys n → Contains xs n) → after_reads es xs flags ≡ after_reads es ys flags
@@ -190,19 +172,6 @@ reads_again es names flags closed off =
     left true true none = none refl
     left true false none = refl
     left false b none = refl
-
--- and evaluate nothing
-pub evaluations_none : (es : List Entry) (names : List ℕ) (flags : List Bool) → IsClosed es flags
-    → ((n : ℕ) → Contains names n → marked flags n ≡ false) → evaluations_of es names flags ≡ 0
-unfolding evaluations_of
-evaluations_none es names flags closed off =
-    tally_none (λ (k : ℕ). bound_in es k && (marked flags k && is_reached es names k)) (range_with_len 0 (length es))
-    (λ k _.
-    false_from_ne_true _
-    (λ (e : (bound_in es k && (marked flags k && is_reached es names k)) ≡ true).
-    let outer = and_parts (bound_in es k) (marked flags k && is_reached es names k) e in
-    let inner = and_parts (marked flags k) (is_reached es names k) outer.1 in
-    both_ways _ (reached_read es names flags closed off k inner.1) inner.0))
 
 -- what passes one of two tests
 tally_both : (p q r : ℕ → Bool) (xs : List ℕ) → ((x : ℕ) → cond {A = ℕ} (p x) 1 0 + cond {A = ℕ} (q x) 1 0 ≡ cond (r x) 1 0)
@@ -270,68 +239,3 @@ reads_spent es names flags began cost spent =
     let sum : bound_unread es (after_reads es names flags) + evaluations_of es names flags ≡ bound_unread es flags =
     reads_cost es names flags in
     omega arith
-
--- one turn of a loop over the names
-pub reads_turn : (es : List Entry) (done : List ℕ) (name : ℕ) (flags : List Bool) (began cost spent : ℕ)
-    → cost + bound_unread es (after_reads es done flags) ≡ began + bound_unread es flags
-    → spent + bound_unread es (after_reading es name (after_reads es done flags)) ≡ cost + bound_unread es (after_reads es done flags)
-    → spent + bound_unread es (after_reads es (done ++ name ∷ []) flags) ≡ began + bound_unread es flags
-reads_turn es done name flags began cost spent before step =
-    let same : bound_unread es (after_reading es name (after_reads es done flags)) ≡ bound_unread es (after_reads es (done ++ name ∷ []) flags) =
-    ap (bound_unread es) (reads_push es done name flags) in
-    omega arith
-
--- a loop that stops in this read has cost no more than all reads would
-pub reads_stop : (es : List Entry) (all done : List ℕ) (name : ℕ) (more : List ℕ) (flags : List Bool) (began cost spent : ℕ)
-    → all ≡ done ++ name ∷ more
-    → cost + bound_unread es (after_reads es done flags) ≡ began + bound_unread es flags
-    → spent ≤ cost + evaluations es name (after_reads es done flags)
-    → spent ≤ began + evaluations_of es all flags
-reads_stop es all done name more flags began cost spent parts before step =
-    let was : cost ≡ began + evaluations_of es done flags = reads_spent es done flags began cost before in
-    let added : evaluations_of es done flags + evaluations es name (after_reads es done flags) ≡ evaluations_of es (done ++ name ∷ []) flags =
-    evaluations_push es done name flags in
-    let most : evaluations_of es (done ++ name ∷ []) flags ≤ evaluations_of es all flags =
-    evaluations_more es (done ++ name ∷ []) all flags
-    (λ n c. subst (λ (xs : List ℕ). Contains xs n) (sym (parts ∙ sym (append_assoc done (name ∷ []) more)))
-    (Contains-append_left (done ++ name ∷ []) more n c)) in
-    omega arith
-
--- memory was wanting in a read after others: nothing became unread
-pub part_fewer : (es : List Entry) (done : List ℕ) (name : ℕ) (flags before now : List Bool) → before ≡ after_reads es done flags
-    → IsPartRead es name before now → (other : ℕ) → marked now other ≡ true → marked flags other ≡ true
-part_fewer es done name flags before now is part other on =
-    (and_parts (marked flags other) (not (is_reached es done other))
-    (sym (ap (λ (fs : List Bool). marked fs other) is ∙ marked-reads es done flags other) ∙ part.fewer other on)).0
-
--- and what was read is needed for these names
-pub part_needed : (es : List Entry) (done : List ℕ) (name : ℕ) (flags before now : List Bool) → before ≡ after_reads es done flags
-    → IsPartRead es name before now → (other : ℕ) → marked flags other ≡ true → marked now other ≡ false
-    → is_reached es (done ++ name ∷ []) other ≡ true
-part_needed es done name flags before now is part other was off =
-    reached-push es done name other ∙ by_case (cases_Bool (is_reached es done other))
-  where
-    by_case : (is_reached es done other ≡ true) ⊎ (is_reached es done other ≡ false)
-        → (is_reached es done other || leads es name other) ≡ true
-    by_case (inl old) = or_left _ _ old
-    by_case (inr none) =
-        or_right _ _
-        (part.needed other
-        (ap (λ (fs : List Bool). marked fs other) is
-        ∙ (marked-reads es done flags other ∙ and_from _ _ was (not_from_false _ none)))
-        off)
-
-pub length-part : (es : List Entry) (done : List ℕ) (name : ℕ) (flags before now : List Bool) → before ≡ after_reads es done flags
-    → IsPartRead es name before now → length now ≡ length flags
-length-part es done name flags before now is part = part.flags ∙ (ap (λ (fs : List Bool). length fs) is ∙ length-reads es done flags)
-
--- reads keep the flags closed
-pub closed_reads : (es : List Entry) (rank : ℕ → ℕ) → Ranked es rank → (names : List ℕ) (flags : List Bool) → IsClosed es flags
-    → IsClosed es (after_reads es names flags)
-closed_reads es rank ranked names flags closed user used c on =
-    let parts = and_parts (marked flags used) (not (is_reached es names used)) (sym (marked-reads es names flags used) ∙ on) in
-    marked-reads es names flags user
-    ∙ and_from _ _ (closed user used c parts.0)
-    (not_from_false _
-    (false_from_ne_true (is_reached es names user)
-    (λ e. both_ways _ (not-true _ parts.1) (reached-use es rank ranked names user used c e))))

@@ -1,14 +1,13 @@
 -- Marks from several names: what they keep, and that the order of the names is nothing to them.
 use Rattle.std.proofs.Common.{◌≡◌, ℕ, Bool, true, false, not, ◌&&◌, ◌||◌, List, [], ◌∷◌, length, filter, refl, sym, ◌∙◌, ap}
 use Rattle.std.specs.List.{Contains, range_with_len}
-use Rattle.std.proofs.lemmas.Bool.{false_from_ne_true, or_left}
+use Rattle.std.proofs.lemmas.Bool.{false_from_ne_true}
 use Rattle.std.proofs.lemmas.List.Elements.{filter_agree}
 use Rattle.fx_graph_model.specs.declared.entries.Entry.{Entry}
 use Rattle.fx_graph_model.specs.Unread.{marked, leads_to_any, after_marking, newly_marked}
 use Rattle.fx_graph_model.proofs.Members.{none_in_nil, map_same}
 use Rattle.fx_graph_model.proofs.Walks.{any-at, any-to}
-use Rattle.fx_graph_model.proofs.Flags.{flags_by, length-by, marked_within, same_test}
-use Rattle.fx_graph_model.proofs.Changed.{marked-marking}
+use Rattle.fx_graph_model.proofs.Flags.{flags_by, same_test}
 
 pub any-same : (es : List Entry) (xs ys : List ℕ) (name : ℕ) → ((n : ℕ) → Contains xs n → Contains ys n)
     → ((n : ℕ) → Contains ys n → Contains xs n) → leads_to_any es xs name ≡ leads_to_any es ys name
@@ -63,12 +62,3 @@ newly_none es flags =
     none : (xs : List ℕ) → filter (λ (n : ℕ). false) xs ≡ []
     none [] = refl
     none (x ∷ xs) = none xs
-
-pub length-marking : (es : List Entry) (names : List ℕ) (flags : List Bool) → length (after_marking es names flags) ≡ length flags
-length-marking es names flags = length-by (λ (n : ℕ). marked flags n || leads_to_any es names n) (length flags)
-
--- what was unread stays so
-pub marking_keeps : (es : List Entry) (names : List ℕ) (flags : List Bool) (name : ℕ) → marked flags name ≡ true
-    → marked (after_marking es names flags) name ≡ true
-marking_keeps es names flags name on =
-    marked-marking es names flags name (marked_within flags name on) ∙ or_left _ _ on

@@ -208,11 +208,6 @@ part_end es name before now part closed off =
           | inr fails ↦ absurd (both_ways _ (not-true _ parts.1) (part.needed n parts.0 fails))
         ]
 
--- a read of a name that is read changes nothing
-pub reading_again : (es : List Entry) (name : ℕ) (flags : List Bool) → IsClosed es flags → marked flags name ≡ false
-    → after_reading es name flags ≡ flags
-reading_again es name flags closed off = sym (part_end es name flags flags (part_none es name flags) closed off)
-
 -- the first so many of the stack are unread names on the way from `name` down, each an operand of the one below it
 pub record Settles (entries : List Entry) (rank : ℕ → ℕ) (name : ℕ) (before now : List Bool) (cache : List Value) (stack : List ℕ) (count cost cost' : ℕ) : Type 0 where
   pub settled : IsSettled entries now cache

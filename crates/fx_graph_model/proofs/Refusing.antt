@@ -60,13 +60,6 @@ refused_same {X} {E} error test other (x ∷ xs) same =
     ∙ ap (λ (o : Option E). cond (other x) (Some (error x)) o)
     (refused_same error test other xs (λ z c. same z (contains_later x xs z c)))
 
--- a test of the names of pairs, over the pairs
-pub refused_map : {X Y E : Type 0} (error : Y → E) (test : Y → Bool) (f : X → Y) (xs : List X)
-    → refused_first error test (map f xs) ≡ refused_first (λ x. error (f x)) (λ x. test (f x)) xs
-refused_map error test f [] = refl
-refused_map {X} {Y} {E} error test f (x ∷ xs) =
-    ap (λ (o : Option E). cond (test (f x)) (Some (error (f x))) o) (refused_map error test f xs)
-
 kinds_agree : (found wanted : Kind) → not (same_kind found wanted) ≡ false → found ≡ wanted
 kinds_agree found wanted e = (Decides-kind found wanted).0 (not-false _ e)
 

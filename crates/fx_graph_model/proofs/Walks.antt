@@ -124,17 +124,6 @@ leads-down es P from to here step e =
     let walk = walk_from_leads es from to e in
     walk_down es P step walk.0 from to here walk.1
 
-pub leads-trans : (es : List Entry) (rank : ℕ → ℕ) → Ranked es rank → (a b c : ℕ) → leads es a b ≡ true → leads es b c ≡ true
-    → leads es a c ≡ true
-leads-trans es rank ranked a b c first second =
-    leads-up es (λ x. leads es x c ≡ true) a b second (λ x o u e. leads-first es rank ranked x o c u e) first
-
-pub leads-falls : (es : List Entry) (rank : ℕ → ℕ) → Ranked es rank → (a b : ℕ) → leads es a b ≡ true → rank b ≤ rank a
-leads-falls es rank ranked a b e =
-    let walk = walk_from_leads es a b e in
-    let fall : rank b + walk.0 ≤ rank a = walk_falls es rank ranked walk.0 a b walk.1 in
-    omega arith
-
 pub any-member : (es : List Entry) (names : List ℕ) (name : ℕ) → Contains names name → leads_to_any es names name ≡ true
 unfolding leads_to_any
 any-member es names name c = any_at (leads es name) names name c (leads-refl es name)

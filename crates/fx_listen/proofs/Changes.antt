@@ -122,10 +122,6 @@ none_equal-above name kind owner tag all back is =
 
 -- tables stay sound
 
-pub names_sorted : (all : List Listener) → AllPairs IsBefore all → IsByName all
-names_sorted all sorted i j d order within =
-    elim (sorted i j d order within) [ inl less ↦ omega (arith, less) | inr same ↦ omega (arith, same.0) ]
-
 AllPairs-placed : (listener : Listener) (all : List Listener)
     → AllPairs IsBefore all → All (λ (l : Listener). l.number < listener.number) all → AllPairs IsBefore (placed listener all)
 AllPairs-placed listener all sorted lower =

@@ -1,5 +1,5 @@
 -- Loading: the files of a run, in the order of work, and the first fault.
-use Rattle.std.specs.Prelude.{ℕ, Bool, ◌&&◌, List, Option, Some, None, Result, Ok, Err, length, map, take, nat_le, if◌then◌else◌}
+use Rattle.std.specs.Prelude.{ℕ, ◌&&◌, List, Option, Some, None, Result, Ok, Err, length, map, take, nat_le, if◌then◌else◌}
 use Rattle.std.specs.Char.{is_ascii}
 use Rattle.std.specs.List.{list_all}
 use Rattle.std.specs.Str.Lines.{lines}
@@ -10,7 +10,6 @@ use Rattle.fx_port.specs.Files.{Files, Found, found_in, whole, absent, longer}
 use Rattle.fx_load.specs.Faults.{Fault, fault_at, whole_fault}
 use Rattle.fx_load.specs.Scene.{scene_of}
 use Rattle.fx_script.specs.Script.{line_of}
-use Rattle.fx_world.specs.World.{World}
 use Rattle.fx_load.specs.declared.files.FaultKind.TheVariants.{Missing, TooLarge, NotUtf8, Markup, Limit, NotBuilt}
 use Rattle.fx_script.specs.declared.commands.Line.{Line}
 use Rattle.fx_world.specs.declared.nodes.Node.{Node}

@@ -1,8 +1,6 @@
 -- Looking a node up, and lines one after another.
-use Rattle.std.proofs.Common.{◌≤◌, take, drop, ◌≡◌, ◌<◌, ℕ, ◌+◌, ◌-◌, suc, List, [], ◌∷◌, ◌++◌, Option, Some, length, get_or, map, slice_get, sym, ◌∙◌, ap, refl, arith, append-nil, Result, Ok, Err}
-use Rattle.std.specs.List.{flat_map, join_with_byte, range_with_len}
+use Rattle.std.proofs.Common.{drop, ◌≡◌, ◌<◌, ℕ, ◌+◌, List, ◌∷◌, ◌++◌, Some, length, get_or, slice_get, sym, ◌∙◌, ap, refl}
 use Rattle.std.specs.Option.{option_and_then}
-use Rattle.std.proofs.Math.Seq.{take_all}
 use Rattle.std.proofs.lemmas.List.{drop_more}
 use Rattle.std.proofs.lemmas.Option.{slice_get_read}
 use Rattle.fx_world.specs.World.{World, node_named, place_of, world_after}

@@ -9,9 +9,6 @@ use Rattle.fx_select.specs.declared.matching.Match.{Match}
 use Rattle.fx_select.specs.declared.matching.Match.TheVariants.{Here, NotHere, Nowhere}
 use Rattle.fx_select.specs.Matching.{IsVerdict, fits, matches_before, matches_up, somewhere}
 
-Test : Type 0
-Test = List StyleFacts → Bool
-
 or_false : (a b : Bool) → (a || b) ≡ false → (a ≡ false) × (b ≡ false)
 or_false true b e = absurd (false≢true (sym e))
 or_false false b e = (refl, e)
@@ -27,11 +24,6 @@ and_false false b e = refl
 pub somewhere-none : (holds : List StyleFacts → Bool) → somewhere holds [] ≡ false
 unfolding somewhere
 somewhere-none holds = refl
-
-pub somewhere-more : (holds : List StyleFacts → Bool) (node : StyleFacts) (above : List StyleFacts)
-    → somewhere holds (node ∷ above) ≡ (holds (node ∷ above) || somewhere holds above)
-unfolding somewhere
-somewhere-more holds node above = refl
 
 -- what holds here holds somewhere
 pub somewhere-here : (holds : List StyleFacts → Bool) (node : StyleFacts) (above : List StyleFacts)

@@ -13,7 +13,6 @@ use Rattle.fx_graph_model.specs.Equality.{same_value}
 use Rattle.fx_base.specs.Names.{numbers}
 use Rattle.fx_graph_model.specs.Uses.{nothing, entry_of}
 use Rattle.fx_graph_model.proofs.Given.{targets, Distinct, length-given, entry-given, entry-given_other}
-use Rattle.fx_graph_model.proofs.Kept.{eager-own}
 use Rattle.fx_graph_model.proofs.Members.{none_in_nil, in_range, contains_map, map_contains, contains_filter, filter_contains}
 use Rattle.fx_graph_model.proofs.Ranks.{entry-set_same, entry-set_other}
 use Rattle.fx_store_model.specs.Making.{with_group}
@@ -138,13 +137,6 @@ paired_group names test value es distinct passes named within = record {
         distinct i j d.0 less (omega arith)
         (ap (λ (name : Name). name.0)
         (sym (ap (λ (q : Name × Value). q.0) one) ∙ (e ∙ ap (λ (q : Name × Value). q.0) other)))
-
-pub eager-group : (test : ℕ → Bool) (value : Value) (es : List Entry) (name : ℕ) → name < length es → test name ≡ true
-    → eager (with_group test value es) name ≡ value
-eager-group test value es name within passes =
-    let long : length (with_group test value es) ≡ length es = length-group test value es in
-    eager-own (with_group test value es) name value (omega arith)
-    (ap (λ (e : Entry). e.definition) (entry-group_in test value es name within passes))
 
 -- where all of them had one value: they change all or not at all
 abbrev pub group_changed : (ℕ → Bool) → Value → Value → List Entry → List ℕ

@@ -1,8 +1,8 @@
 -- The notices of changed values: none where nothing changed, and one listener after another.
-use Rattle.std.proofs.Common.{◌≡◌, ℕ, ◌+◌, ◌<◌, Bool, true, false, cond, List, [], ◌∷◌, ◌++◌, length, map, filter, get_or, take, arith, refl, sym, ◌∙◌, ap, inl, inr, ◌⊎◌}
+use Rattle.std.proofs.Common.{◌≡◌, ℕ, ◌+◌, ◌<◌, Bool, true, false, cond, List, [], ◌∷◌, ◌++◌, length, map, filter, get_or, take, refl, sym, ◌∙◌, ap, inl, inr, ◌⊎◌}
 use Rattle.std.specs.List.{Contains, flat_map}
 use Rattle.std.proofs.lemmas.Bool.{cases_Bool}
-use Rattle.std.proofs.lemmas.List.{append-nil, get_or-map, take_more, take_all}
+use Rattle.std.proofs.lemmas.List.{append-nil, get_or-map, take_more}
 use Rattle.std.proofs.lemmas.List.Concat.{flat_map-append}
 use Rattle.fx_base.specs.declared.keys.Name.{Name}
 use Rattle.fx_base.specs.declared.values.Value.{Value}
@@ -14,7 +14,7 @@ use Rattle.fx_graph_model.specs.Eager.{eager}
 use Rattle.fx_graph_model.specs.Equality.{same_value}
 use Rattle.fx_graph_model.proofs.Members.{contains_first, contains_later, filter_contains}
 use Rattle.fx_graph_model.proofs.Same.{Decides-value}
-use Rattle.fx_store_model.specs.Step.{changed_notice, changed_notices, invalid_notices}
+use Rattle.fx_store_model.specs.Step.{changed_notice, changed_notices}
 
 -- those that are told of changed values
 abbrev pub hears : Listener → Bool
@@ -51,15 +51,9 @@ changed_none before now listeners same =
 pub changed_same : (es : List Entry) (listeners : List Listener) → changed_notices es es listeners ≡ []
 changed_same es listeners = changed_none es es listeners (λ listener _ _. refl)
 
-pub invalid_none : (listeners : List Listener) → invalid_notices [] listeners ≡ []
-invalid_none listeners = refl
-
 -- what the first so many are told
 abbrev pub told : List Entry → List Entry → List Listener → ℕ → List (Name × ℕ × Value × Value)
 told before now heard count = flat_map (changed_notice before now) (take count heard)
-
-pub told_start : (before now : List Entry) (heard : List Listener) → told before now heard 0 ≡ []
-told_start before now heard = refl
 
 -- one listener more
 pub told_more : (before now : List Entry) (heard : List Listener) (i : ℕ) (d : Listener) → i < length heard
@@ -68,11 +62,6 @@ told_more before now heard i d within =
     ap (flat_map (changed_notice before now)) (take_more heard i d within)
     ∙ flat_map-append (changed_notice before now) (take i heard) (get_or heard i d ∷ [])
     ∙ ap (λ (ns : List (Name × ℕ × Value × Value)). told before now heard i ++ ns) (append-nil (changed_notice before now (get_or heard i d)))
-
-pub told_all : (before now : List Entry) (listeners : List Listener)
-    → told before now (heard_in listeners) (length (heard_in listeners)) ≡ changed_notices before now listeners
-told_all before now listeners =
-    ap (flat_map (changed_notice before now)) (take_all (length (heard_in listeners)) (heard_in listeners) (omega arith))
 
 -- the value of each one's property
 abbrev pub values_heard : List Entry → List Listener → List Value

@@ -1,6 +1,6 @@
 -- One change step: the change is made, what changed is unread with all that uses it, and listeners are told: first of
 -- what became unread, and then, as every watched name is read, of what has another value.
-use Rattle.std.specs.Prelude.{ℕ, ◌+◌, ◌≡◌, ◌⊎◌, true, false, All, AllPairs, ◌≢◌, if◌then◌else◌, not, List, [], ◌∷◌, length, map, filter, Option, Some, None}
+use Rattle.std.specs.Prelude.{ℕ, ◌+◌, ◌≡◌, ◌⊎◌, true, false, All, AllPairs, ◌≢◌, if◌then◌else◌, List, [], ◌∷◌, length, map, filter, Option, Some, None}
 use Rattle.std.specs.List.{flat_map}
 use Rattle.fx_base.specs.declared.keys.Name.{Name}
 use Rattle.fx_base.specs.declared.values.Value.{Value}

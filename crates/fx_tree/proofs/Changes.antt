@@ -1,16 +1,15 @@
 -- What each call leaves: that it is a tree, and which scene it is.
-use Rattle.std.proofs.Common.{◌≡◌, ◌≢◌, ℕ, ◌+◌, ◌-◌, ◌<◌, ◌≤◌, Bool, true, false, not, cond, ◌==◌, ltb, ◌&&◌, ◌||◌, List, [], ◌∷◌, length, map, filter, Option, Some, None, is_some, count_by, refl, sym, ◌∙◌, ap, subst, inl, inr, ◌⊎◌, arith}
+use Rattle.std.proofs.Common.{◌≡◌, ℕ, ◌-◌, ◌≤◌, Bool, true, false, not, cond, ◌||◌, List, length, map, filter, Option, Some, None, is_some, count_by, refl, sym, ◌∙◌, ap, inl, inr, ◌⊎◌, arith}
 use Rattle.std.specs.Option.{option_map}
-use Rattle.std.specs.List.{insert, filter_map}
-use Rattle.std.proofs.lemmas.Bool.{cases_Bool, false≢true, both_ways, or_parts, not-false, ltb-false}
+use Rattle.std.specs.List.{insert}
+use Rattle.std.proofs.lemmas.Bool.{cases_Bool, both_ways, or_parts, not-false, ltb-false}
 use Rattle.std.proofs.lemmas.Option.{none-some, same_Some}
 use Rattle.fx_base.specs.declared.keys.NodeKey.{NodeKey}
 use Rattle.fx_tree.specs.declared.nodes.Stored.{Stored}
-use Rattle.fx_tree.specs.declared.TreeError.{TreeError}
-use Rattle.fx_tree.specs.declared.TreeError.TheVariants.{StaleKey, WouldLoop, HasParent, Attached, Place, Depth, NoParent}
-use Rattle.fx_tree.specs.Scene.{Node, Scene, is_same, has, without, is_alive, parent_of, children_of, line, with_child, without_child}
+use Rattle.fx_tree.specs.declared.TreeError.TheVariants.{StaleKey, HasParent, Attached, NoParent}
+use Rattle.fx_tree.specs.Scene.{Node, is_same, has, without, is_alive, parent_of, children_of, line, with_child, without_child}
 use Rattle.fx_tree.specs.Refusals.{refused, is_held, stale, root_refusal, detach_refusal, drop_refusal}
-use Rattle.fx_tree.specs.Slots.{alive_at, up_at, below_at, node_at, children_in, line_at, fits_in, seen_at, nodes_in, scene_of, IsForest, IsNumbered, IsTopmost, IsTree, IsLinked, IsUnlinked, IsPruned, attach_refused}
+use Rattle.fx_tree.specs.Slots.{alive_at, up_at, below_at, node_at, children_in, line_at, fits_in, seen_at, nodes_in, scene_of, IsTree, IsLinked, IsUnlinked, IsPruned, attach_refused}
 use Rattle.fx_tree.proofs.Keys.{is_same-refl}
 use Rattle.fx_tree.proofs.Listing.{through, nodes_in-changed, filter_map-test, children_of-slots}
 use Rattle.fx_tree.proofs.Forest.{nodes_in-edited, IsNumbered-edited, IsForest-linked, IsTopmost-linked, IsForest-unlinked, IsTopmost-unlinked}

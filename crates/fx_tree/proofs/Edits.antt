@@ -1,15 +1,15 @@
 -- What a write to one slot changes, for every key.
-use Rattle.std.proofs.Common.{◌≡◌, ◌≢◌, ℕ, ◌+◌, ◌≤◌, Bool, true, false, not, cond, ◌==◌, ◌&&◌, List, [], ◌∷◌, length, get_or, arith, Option, Some, None, is_some, refl, sym, ◌∙◌, ap, subst, inl, inr, ◌⊎◌}
+use Rattle.std.proofs.Common.{◌≡◌, ◌≢◌, ℕ, ◌≤◌, Bool, true, false, not, cond, ◌==◌, ◌&&◌, List, [], length, get_or, arith, Option, Some, None, is_some, refl, sym, ◌∙◌, ap, subst, inl, inr, ◌⊎◌}
 use Rattle.std.specs.Option.{option_map}
 use Rattle.std.specs.List.{insert}
-use Rattle.std.proofs.lemmas.Bool.{cases_Bool, cases_eq, false≢true, both_ways, eqb-true, eq-eqb, and_left, false_from_ne_true}
+use Rattle.std.proofs.lemmas.Bool.{cases_Bool, cases_eq, false≢true, both_ways, eqb-true, false_from_ne_true}
 use Rattle.std.proofs.lemmas.Option.{none-some, same_Some}
 use Rattle.fx_base.specs.declared.keys.NodeKey.{NodeKey}
 use Rattle.fx_tree.specs.declared.nodes.Stored.{Stored}
-use Rattle.fx_tree.specs.Scene.{Node, is_same, has, without, with_child, without_child}
+use Rattle.fx_tree.specs.Scene.{Node, is_same, without}
 use Rattle.fx_tree.specs.Slots.{of_birth, node_at, alive_at, up_at, below_at, children_in, parent_in, seen_at, IsForest, IsLinked, IsUnlinked, IsFreed}
 use Rattle.fx_tree.proofs.Keys.{is_same-refl, is_same-true, is_same-false, without-absent}
-use Rattle.fx_tree.proofs.Listing.{seen_at-slot, seen_home, seen_alive, alive_seen}
+use Rattle.fx_tree.proofs.Listing.{seen_at-slot, seen_alive, alive_seen}
 
 birth_of_held : (birth : ℕ) (stored : Stored) → is_some (of_birth birth (Some stored)) ≡ true → stored.birth ≡ birth
 birth_of_held birth stored alive =

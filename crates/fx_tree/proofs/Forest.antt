@@ -1,18 +1,18 @@
 -- A forest stays one where a link is made or cut, and where a single node is freed.
-use Rattle.std.proofs.Common.{◌≡◌, ◌≢◌, ℕ, ◌+◌, ◌<◌, ◌≤◌, Bool, true, false, not, cond, ◌==◌, ◌&&◌, ◌||◌, List, [], ◌∷◌, ◌++◌, length, map, Option, Some, None, is_some, count_by, refl, sym, ◌∙◌, ap, subst, inl, inr, ◌⊎◌, arith, length-append}
+use Rattle.std.proofs.Common.{◌≡◌, ℕ, ◌+◌, ◌≤◌, Bool, true, false, not, cond, ◌||◌, List, [], ◌++◌, length, map, Option, Some, None, is_some, count_by, refl, sym, ◌∙◌, ap, subst, inl, inr, ◌⊎◌, arith, length-append}
 use Rattle.std.specs.Option.{option_map}
-use Rattle.std.specs.List.{insert, filter_map, range_with_len}
-use Rattle.std.proofs.lemmas.Bool.{cases_Bool, cases_eq, false≢true, both_ways, or_cases, or_left, or_right, and_parts, and_from, false_from_ne_true, not-true, not_from_false}
+use Rattle.std.specs.List.{insert}
+use Rattle.std.proofs.lemmas.Bool.{cases_Bool, both_ways, or_cases, or_left, or_right, and_parts, and_from, false_from_ne_true, not-true, not_from_false}
 use Rattle.std.proofs.lemmas.List.{length-map, append-nil}
 use Rattle.std.proofs.lemmas.Option.{none-some, same_Some}
 use Rattle.fx_base.specs.declared.keys.NodeKey.{NodeKey}
 use Rattle.fx_tree.specs.declared.nodes.Stored.{Stored}
-use Rattle.fx_tree.specs.Scene.{Node, is_same, has, without, is_once, line_in, IsLine, with_child, without_child}
+use Rattle.fx_tree.specs.Scene.{Node, is_same, has, without, is_once, IsLine}
 use Rattle.fx_tree.specs.Slots.{alive_at, up_at, below_at, line_at, seen_at, node_born, nodes_in, IsForest, IsNumbered, IsTopmost, IsLinked, IsUnlinked, IsFreed}
 use Rattle.fx_tree.proofs.Given.{length-given_less}
-use Rattle.fx_tree.proofs.Keys.{is_same-refl, is_same-true, is_same-false, is_same-sym, has-nil, has-insert, has-without, is_once-insert, is_once-without}
+use Rattle.fx_tree.proofs.Keys.{is_same-refl, is_same-true, is_same-false, is_same-sym, has-insert, has-without, is_once-insert, is_once-without}
 use Rattle.fx_tree.proofs.Lines.{line_is, IsLine-same, IsLine-joined, IsLine-cut}
-use Rattle.fx_tree.proofs.Listing.{IsSingle, through, nodes_in-changed, node_born-changed, node_born-Some, node_born-there, filter_map-Some, seen_at-slot, seen_home, seen_alive, alive_seen, alive_up, alive_below}
+use Rattle.fx_tree.proofs.Listing.{IsSingle, through, nodes_in-changed, node_born-changed, node_born-Some, node_born-there, filter_map-Some, seen_at-slot, seen_alive, alive_seen}
 use Rattle.fx_tree.proofs.Edits.{seen-changed}
 
 choice-true : {X : Type 0} (b : Bool) (x y : X) → b ≡ true → cond b x y ≡ x

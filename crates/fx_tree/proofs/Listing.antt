@@ -1,10 +1,9 @@
 -- The list of living nodes: what stands in a slot is listed, and a lookup in the list is one in the slots.
-use Rattle.std.proofs.Common.{◌≡◌, ◌≢◌, ℕ, zero, suc, ◌+◌, ◌<◌, ◌≤◌, Bool, true, false, not, cond, ◌==◌, ◌&&◌, List, [], ◌∷◌, ◌++◌, length, get_or, map, filter, Option, Some, None, is_some, count_by, Contains, refl, sym, ◌∙◌, ap, subst, inl, inr, ◌⊎◌, add-one, arith, length-append}
+use Rattle.std.proofs.Common.{◌≡◌, ◌≢◌, ℕ, ◌<◌, Bool, true, false, cond, ◌==◌, List, [], ◌∷◌, length, get_or, map, filter, Option, Some, None, is_some, Contains, refl, sym, ◌∙◌, ap, subst, inl, inr, arith}
 use Rattle.std.specs.Option.{option_map}
 use Rattle.std.specs.List.{filter_map, cons_option, range_with_len, position, find}
-use Rattle.std.proofs.lemmas.Bool.{cases_Bool, cases_eq, cases_lt, false≢true, both_ways, eqb-true, eq-eqb, false_from_ne_true}
+use Rattle.std.proofs.lemmas.Bool.{cases_Bool, cases_lt, false≢true, both_ways, eqb-true, eq-eqb, false_from_ne_true}
 use Rattle.std.proofs.lemmas.List.{get_or_past}
-use Rattle.std.proofs.lemmas.List.Elements.{filter_map-append}
 use Rattle.std.proofs.lemmas.List.Quantifiers.{position-Some}
 use Rattle.std.proofs.lemmas.List.Sums.{fails_before_first}
 use Rattle.std.proofs.lemmas.Option.{none-some, same_Some}
@@ -14,7 +13,7 @@ use Rattle.fx_base.specs.declared.keys.NodeKey.{NodeKey}
 use Rattle.fx_tree.specs.declared.nodes.Stored.{Stored}
 use Rattle.fx_tree.specs.Scene.{Node, is_same, has, children_of, parent_of}
 use Rattle.fx_tree.specs.Slots.{of_birth, node_at, alive_at, up_at, below_at, children_in, parent_in, seen, seen_at, holds_birth, seen_in, node_born, nodes_in, IsForest, IsNumbered}
-use Rattle.fx_tree.proofs.Given.{range_with_len-suc, filter_map-same, Contains-given, given_at}
+use Rattle.fx_tree.proofs.Given.{Contains-given, given_at}
 use Rattle.fx_tree.proofs.Keys.{is_same-refl, is_same-true}
 
 -- one slot

@@ -1,17 +1,16 @@
 -- The empty tree, and a tree after a node is made.
-use Rattle.std.proofs.Common.{◌≡◌, ◌≢◌, ℕ, ◌+◌, ◌<◌, ◌≤◌, Bool, true, false, not, cond, ◌==◌, ◌&&◌, List, [], ◌∷◌, ◌++◌, length, get_or, Option, Some, None, is_some, count_by, refl, sym, ◌∙◌, ap, subst, inl, inr, ◌⊎◌, add-one, arith, length-append}
+use Rattle.std.proofs.Common.{◌≡◌, ◌≢◌, ℕ, ◌+◌, ◌≤◌, Bool, true, false, cond, ◌==◌, List, [], ◌∷◌, ◌++◌, length, get_or, Option, Some, None, is_some, count_by, refl, sym, ◌∙◌, ap, inl, inr, ◌⊎◌, add-one, arith, length-append}
 use Rattle.std.specs.List.{filter_map, cons_option, range_with_len}
-use Rattle.std.proofs.lemmas.Bool.{cases_Bool, cases_eq, false≢true, both_ways, eqb-true, eq-eqb, ne_eqb}
+use Rattle.std.proofs.lemmas.Bool.{cases_eq, false≢true}
 use Rattle.std.proofs.lemmas.List.Elements.{filter_map-append}
 use Rattle.std.proofs.lemmas.Option.{none-some, same_Some}
 use Rattle.fx_base.specs.declared.keys.NodeKey.{NodeKey}
 use Rattle.fx_tree.specs.declared.nodes.Stored.{Stored}
-use Rattle.fx_tree.specs.Scene.{Node, is_same, has, is_once, IsLine}
-use Rattle.fx_tree.specs.Slots.{of_birth, node_at, alive_at, up_at, below_at, children_in, parent_in, seen, seen_at, node_born, nodes_in, IsForest, IsNumbered, IsTopmost, IsTree}
+use Rattle.fx_tree.specs.Scene.{Node, has, is_once, IsLine}
+use Rattle.fx_tree.specs.Slots.{of_birth, node_at, alive_at, up_at, below_at, children_in, parent_in, seen, seen_at, node_born, nodes_in, IsTree}
 use Rattle.fx_tree.proofs.Given.{range_with_len-suc, filter_map-same}
-use Rattle.fx_tree.proofs.Keys.{is_same-refl, is_same-true, is_same-false, has-nil}
 use Rattle.fx_tree.proofs.Lines.{IsLine-same}
-use Rattle.fx_tree.proofs.Listing.{IsSingle, seen_at-slot, seen_home, seen_alive, alive_seen, node_born-Some, node_born-there, node_born-None}
+use Rattle.fx_tree.proofs.Listing.{IsSingle, node_born-Some, node_born-there, node_born-None}
 
 pub nodes_in-nil : nodes_in [] 0 ≡ []
 unfolding nodes_in

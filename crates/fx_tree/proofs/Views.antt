@@ -1,7 +1,7 @@
 -- What the list of living nodes says of a key, by its slot; when a child may be attached; what holds of every scene.
-use Rattle.std.proofs.Common.{◌≡◌, ◌≢◌, ℕ, zero, suc, ◌+◌, ◌-◌, ◌<◌, ◌≤◌, Bool, true, false, not, cond, ◌==◌, ltb, ◌&&◌, ◌||◌, List, [], ◌∷◌, ◌++◌, length, map, filter, Option, Some, None, is_some, unwrap_or, count_by, All, AllPairs, Contains, refl, sym, ◌∙◌, ap, subst, inl, inr, ◌⊎◌, arith}
-use Rattle.std.specs.List.{list_any, insert, filter_map}
-use Rattle.std.proofs.lemmas.Bool.{cases_Bool, false≢true, both_ways, or_parts, and_parts, and_from, and_right, false_from_ne_true, true_from_ne_false, not-true, not-false, not_from_true, ltb-true, ltb-false, lt-ltb, le-ltb}
+use Rattle.std.proofs.Common.{◌≡◌, ℕ, zero, suc, ◌+◌, ◌-◌, ◌<◌, ◌≤◌, Bool, true, false, not, cond, ltb, ◌&&◌, ◌||◌, List, [], ◌∷◌, length, Option, Some, None, is_some, unwrap_or, Contains, refl, sym, ◌∙◌, ap, subst, inl, inr, ◌⊎◌, arith}
+use Rattle.std.specs.List.{list_any}
+use Rattle.std.proofs.lemmas.Bool.{cases_Bool, both_ways, or_parts, and_right, true_from_ne_false, not-false, ltb-false, le-ltb}
 use Rattle.std.proofs.lemmas.List.Elements.{All-contains_itself, All-weaker}
 use Rattle.std.proofs.lemmas.Option.{none-some, same_Some}
 use Rattle.slab.proofs.SlabLemmas.{Contains-cons, Contains-cons_cases}
@@ -9,13 +9,12 @@ use Rattle.fx_base.specs.declared.keys.NodeKey.{NodeKey}
 use Rattle.fx_tree.specs.declared.nodes.Stored.{Stored}
 use Rattle.fx_tree.specs.declared.TreeError.{TreeError}
 use Rattle.fx_tree.specs.declared.TreeError.TheVariants.{StaleKey, WouldLoop, HasParent, Attached, Place, Depth}
-use Rattle.fx_tree.specs.Scene.{Node, Scene, is_same, has, children_of, parent_of, is_alive, line_in, line, IsLine, is_within, is_too_deep, children_or_none, subtree_in, is_once, IsSound}
+use Rattle.fx_tree.specs.Scene.{Node, has, parent_of, is_alive, line, IsLine, is_too_deep, children_or_none, subtree_in, is_once, IsSound}
 use Rattle.fx_tree.specs.Refusals.{refused, is_held, attach_refusal}
-use Rattle.fx_tree.specs.Slots.{alive_at, up_at, below_at, line_at, children_in, node_at, fits_in, seen_at, node_born, nodes_in, scene_of, IsForest, IsNumbered, IsTree, IsPruned, attach_refused}
+use Rattle.fx_tree.specs.Slots.{alive_at, up_at, below_at, line_at, children_in, node_at, fits_in, seen_at, node_born, nodes_in, scene_of, IsTree, attach_refused}
 use Rattle.fx_tree.proofs.Given.{AllPairs-given}
-use Rattle.fx_tree.proofs.Keys.{is_same-refl, is_same-true}
 use Rattle.fx_tree.proofs.Lines.{line_in-same, length-line_in, IsLine-same, Climb, climb_from_line, line_from_climb, climbs_within, fits_from_climbs, subtree_in-same}
-use Rattle.fx_tree.proofs.Listing.{IsSingle, through, nodes_in-changed, filter_map-test, children_of-slots, parent_of-slots, Contains-nodes, node_seen, node_born-Some, seen_at-slot, seen_home, seen_alive, alive_seen, alive_up, alive_below}
+use Rattle.fx_tree.proofs.Listing.{children_of-slots, parent_of-slots, Contains-nodes, node_seen, node_born-Some, seen_alive, alive_seen, alive_up}
 use Rattle.fx_tree.proofs.Forest.{line_known}
 
 below_dead : (slots : List (Option Stored)) (key : NodeKey) → alive_at slots key ≡ false → below_at slots key ≡ []

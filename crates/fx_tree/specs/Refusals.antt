@@ -1,5 +1,5 @@
 -- When each call is refused, and with which error.
-use Rattle.std.specs.Prelude.{ℕ, ◌≡◌, ◌⊎◌, nat_lt, Bool, true, false, if◌then◌else◌, ◌&&◌, ◌||◌, not, length, Option, Some, None, is_some, Result, Ok, Err}
+use Rattle.std.specs.Prelude.{ℕ, ◌≡◌, nat_lt, Bool, false, if◌then◌else◌, ◌||◌, not, length, Option, Some, None, is_some, Result, Ok, Err}
 use Rattle.fx_base.specs.declared.keys.NodeKey.{NodeKey}
 use Rattle.fx_tree.specs.declared.TreeError.{TreeError}
 use Rattle.fx_tree.specs.declared.TreeError.TheVariants.{StaleKey, WouldLoop, HasParent, Attached, Place, Depth, NoParent, Memory}

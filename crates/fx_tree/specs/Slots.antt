@@ -1,12 +1,11 @@
 -- How the living nodes stand in slots, each with a link to its parent.
-use Rattle.std.specs.Prelude.{ℕ, zero, suc, ◌+◌, ◌-◌, ◌==◌, ◌≡◌, ◌≢◌, ◌<◌, ◌≤◌, nat_lt, Bool, true, false, if◌then◌else◌, ◌&&◌, ◌||◌, not, List, [], ◌∷◌, ◌++◌, length, insert, Option, Some, None, is_some, count_by, slice_index_or, position}
-use Rattle.std.specs.Option.{option_map}
+use Rattle.std.specs.Prelude.{ℕ, zero, suc, ◌-◌, ◌==◌, ◌≡◌, ◌<◌, ◌≤◌, nat_lt, Bool, true, false, if◌then◌else◌, ◌&&◌, ◌||◌, not, List, [], length, insert, Option, Some, None, is_some, count_by, slice_index_or, position}
 use Rattle.std.specs.List.{filter_map, range_with_len, list_all}
 use Rattle.fx_base.specs.declared.keys.NodeKey.{NodeKey}
 use Rattle.fx_tree.specs.declared.TreeError.{TreeError}
-use Rattle.fx_tree.specs.declared.TreeError.TheVariants.{StaleKey, WouldLoop, HasParent, Attached, Place, Depth, NoParent}
+use Rattle.fx_tree.specs.declared.TreeError.TheVariants.{StaleKey, WouldLoop, HasParent, Attached, Place, Depth}
 use Rattle.fx_tree.specs.declared.nodes.Stored.{Stored}
-use Rattle.fx_tree.specs.Scene.{Node, Scene, is_same, has, without, is_once, line_in, IsLine, with_child, without_child}
+use Rattle.fx_tree.specs.Scene.{Node, Scene, is_same, has, without, is_once, line_in, IsLine}
 use Rattle.fx_tree.specs.Refusals.{refused, is_held}
 
 -- what the slot holds, if it is of this birth

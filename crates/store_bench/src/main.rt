@@ -7,10 +7,10 @@ ghost use Rattle.std.specs.Prelude.{◌≡◌};
 
 use anyhow::bail;
 use fx_base::{Kind, Ledgers, Name, Value, Work};
-use fx_store_model::Change;
 use fx_expr::read_expr;
 use fx_listen::ListenKind;
 use fx_store::Store;
+use fx_store_model::Change;
 use std::alloc::Global;
 use std::env;
 use std::marker::Brand;

@@ -3,12 +3,12 @@ use crate::answers::{of_change, of_error, of_value};
 use crate::words::{name, next, value};
 use anyhow::bail;
 use fx_base::{Ledgers, Work};
-use fx_store_model::Change;
 use fx_expr::read_expr;
+use fx_graph_model::Origin;
 use fx_handles::Owner;
 use fx_listen::ListenKind;
-use fx_graph_model::Origin;
 use fx_store::Store;
+use fx_store_model::Change;
 use std::alloc::{AllocError, Global};
 use std::str::Split;
 

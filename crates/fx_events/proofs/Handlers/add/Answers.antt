@@ -1,4 +1,4 @@
-use Rattle.std.proofs.Common.{◌≡◌, ◌↔◌, ◌∙◌, List, [], ◌∷◌, Option, None, Some, cond, is_some, Err, IsTrue, OnOk, OnErr, ap, sym, subst}
+use Rattle.std.proofs.Common.{◌≡◌, ◌↔◌, ◌∙◌, List, [], ◌∷◌, None, Some, cond, is_some, Err, IsTrue, ap, sym, subst}
 use Rattle.std.specs.FinMap.{from_entries, insert}
 use Rattle.std.specs.Map.{lookup, set_value}
 use Rattle.std.proofs.lemmas.Map.Steps.{set_value_same}
@@ -6,7 +6,7 @@ use Rattle.std.proofs.lemmas.Result.{err_from_is_err_and, on_ok_weaker, on_err_w
 use Rattle.fx_base.specs.declared.keys.NodeKey.{NodeKey}
 use Rattle.fx_events.specs.declared.EventError.TheVariants.{Full}
 use Rattle.fx_events.specs.declared.registrations.Registration.{Registration}
-use Rattle.fx_events.specs.Handlers.{HandlerMap, after_add, is_full, registrations_of, with_registration}
+use Rattle.fx_events.specs.Handlers.{HandlerMap, is_full, registrations_of, with_registration}
 use Rattle.fx_events.specs.Keyed.{key_cmp}
 use Rattle.fx_events.proofs.Maps.{same_key, first_alone, inserted, listed, memory_is_another, never_full, success_is_another}
 use Rattle.fx_events.proofs.Handlers.add.Goals as goal

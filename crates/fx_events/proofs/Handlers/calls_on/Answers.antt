@@ -1,9 +1,7 @@
-use Rattle.std.proofs.Common.{◌≡◌, ◌∙◌, List, [], Option, None, Some, IfOk, ap, sym, subst}
-use Rattle.std.specs.Map.{lookup}
-use Rattle.fx_base.specs.declared.keys.NodeKey.{NodeKey}
+use Rattle.std.proofs.Common.{◌≡◌, ◌∙◌, List, None, Some, IfOk, ap, sym, subst}
 use Rattle.fx_events.specs.declared.registrations.Registration.{Registration}
-use Rattle.fx_events.specs.Handlers.{calls_at, registrations_of}
-use Rattle.fx_events.proofs.Maps.{same_key, listed, no_calls}
+use Rattle.fx_events.specs.Handlers.{calls_at}
+use Rattle.fx_events.proofs.Maps.{listed, no_calls}
 use Rattle.fx_events.proofs.Handlers.calls_on.Goals as goal
 
 pub returns-in-None : goal.returns-in-None

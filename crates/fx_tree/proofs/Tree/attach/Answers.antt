@@ -1,7 +1,7 @@
 use Rattle.std.proofs.Common.{refl, sym}
 use Rattle.std.proofs.lemmas.Result.{err_from_is_err_and}
 use Rattle.fx_tree.proofs.Views.{refusal-slots}
-use Rattle.fx_tree.proofs.Changes.{IsAllowed, allowed, IsTree-linked, nodes_in-linked}
+use Rattle.fx_tree.proofs.Changes.{allowed, IsTree-linked, nodes_in-linked}
 use Rattle.fx_tree.proofs.Tree.attach.Goals as goal
 
 pub returns-in-Some-clause-answer : goal.returns-in-Some-clause-answer

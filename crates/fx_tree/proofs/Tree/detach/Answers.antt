@@ -1,4 +1,4 @@
-use Rattle.std.proofs.Common.{refl, sym, ◌∙◌}
+use Rattle.std.proofs.Common.{refl, sym}
 use Rattle.fx_tree.proofs.Changes.{detach-stale, detach-none, detach-free, IsTree-unlinked, nodes_in-unlinked}
 use Rattle.fx_tree.proofs.Tree.detach.Goals as goal
 

@@ -1,4 +1,4 @@
-use Rattle.std.proofs.Common.{refl, sym, ◌∙◌}
+use Rattle.std.proofs.Common.{refl, sym}
 use Rattle.fx_tree.proofs.Changes.{drop-stale, drop-parent, drop-root, drop-free, IsTree-pruned, nodes_in-pruned}
 use Rattle.fx_tree.proofs.Views.{none_from}
 use Rattle.fx_tree.proofs.Tree.drop_tree.Goals as goal

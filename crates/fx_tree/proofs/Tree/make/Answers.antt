@@ -1,4 +1,4 @@
-use Rattle.std.proofs.Common.{ℕ, refl, ◌∙◌, ap}
+use Rattle.std.proofs.Common.{refl, ◌∙◌}
 use Rattle.fx_tree.proofs.Made.{nodes_in-made, IsTree-made}
 use Rattle.fx_tree.proofs.Tree.make.Goals as goal
 

@@ -1,4 +1,4 @@
-use Rattle.std.proofs.Common.{refl, sym, ◌∙◌}
+use Rattle.std.proofs.Common.{refl, sym}
 use Rattle.fx_tree.proofs.Changes.{root-stale, root-parent, root-attached, root-free, IsTree-rooted}
 use Rattle.fx_tree.proofs.Tree.set_root.Goals as goal
 

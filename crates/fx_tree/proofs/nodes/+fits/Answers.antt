@@ -1,8 +1,7 @@
-use Rattle.std.proofs.Common.{◌≡◌, ◌-◌, List, Bool, take, sym, ◌∙◌, ap}
+use Rattle.std.proofs.Common.{◌-◌, sym, ◌∙◌, ap}
 use Rattle.std.specs.List.{list_all}
 use Rattle.std.proofs.lemmas.List.{take_all}
 use Rattle.std.proofs.lemmas.List.Folds.{list_all_at}
-use Rattle.fx_base.specs.declared.keys.NodeKey.{NodeKey}
 use Rattle.fx_tree.specs.Slots.{below_at, fits_in}
 use Rattle.fx_tree.proofs.Lines.{fits_in-zero, fits_in-more}
 use Rattle.fx_tree.proofs.nodes.+fits.Goals as goal

@@ -1,4 +1,4 @@
-use Rattle.std.proofs.Common.{◌≡◌, ◌-◌, ◌++◌, ◌∷◌, [], take}
+use Rattle.std.proofs.Common.{◌≡◌, ◌-◌, ◌++◌, take}
 use Rattle.std.specs.List.{flat_map}
 use Rattle.fx_tree.specs.Scene.{subtree_in}
 use Rattle.fx_tree.specs.Slots.{below_at}

@@ -1,6 +1,5 @@
-use Rattle.std.proofs.Common.{◌≡◌, Option, Some, None, cond, Bool, refl, sym, ◌∙◌, ap}
+use Rattle.std.proofs.Common.{Some, None, cond, Bool, sym, ◌∙◌, ap}
 use Rattle.std.proofs.lemmas.Bool.{eq-eqb, ne_eqb}
-use Rattle.fx_tree.specs.declared.nodes.Stored.{Stored}
 use Rattle.fx_tree.specs.Slots.{node_at, of_birth}
 use Rattle.fx_tree.proofs.nodes.find_node.Goals as goal
 

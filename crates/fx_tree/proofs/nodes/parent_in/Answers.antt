@@ -1,4 +1,4 @@
-use Rattle.std.proofs.Common.{refl, sym, ◌∙◌, ap}
+use Rattle.std.proofs.Common.{ap}
 use Rattle.fx_tree.specs.Slots.{up_at, parent_in}
 use Rattle.fx_tree.proofs.nodes.parent_in.Goals as goal
 

@@ -1,4 +1,4 @@
-use Rattle.std.proofs.Common.{◌≡◌, ◌+◌, ◌-◌, ◌++◌, length, Some}
+use Rattle.std.proofs.Common.{◌≡◌, ◌+◌, ◌-◌, ◌++◌}
 use Rattle.fx_tree.specs.Scene.{line_in}
 use Rattle.fx_tree.specs.Slots.{line_at, up_at}
 use Rattle.fx_tree.proofs.nodes.push_line.Given as goal

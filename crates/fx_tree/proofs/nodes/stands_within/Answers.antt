@@ -1,4 +1,4 @@
-use Rattle.std.proofs.Common.{◌≡◌, ◌-◌, ◌+◌, ◌||◌, List, Option, Bool, sym, ◌∙◌, ap}
+use Rattle.std.proofs.Common.{◌-◌, ◌+◌, ◌||◌, List, Option, Bool, sym, ◌∙◌, ap}
 use Rattle.fx_base.specs.declared.keys.NodeKey.{NodeKey}
 use Rattle.fx_tree.specs.Scene.{line_in, has}
 use Rattle.fx_tree.specs.Slots.{up_at}

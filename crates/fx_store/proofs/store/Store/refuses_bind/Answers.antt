@@ -1,4 +1,4 @@
-use Rattle.std.proofs.Common.{◌≡◌, Some, ap, sym, ◌∙◌}
+use Rattle.std.proofs.Common.{Some, ap, sym, ◌∙◌}
 use Rattle.fx_store_model.specs.declared.errors.StoreError.TheVariants as error
 use Rattle.fx_base.specs.Answers.{or_else}
 use Rattle.fx_store_model.specs.Refusals.{bind_refusal, of_graph_refusal}

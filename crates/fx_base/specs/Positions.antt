@@ -10,7 +10,8 @@ start = record { line = 1; column = 1 }
 
 -- the position behind the character c at p
 abbrev pub after : Position → ℕ → Position
-after p c = if c == line_feed then record { line = p.line + 1; column = 1 } else record { line = p.line; column = p.column + 1 }
+after p c = if c == line_feed then record { line = p.line + 1; column = 1 } else
+    record { line = p.line; column = p.column + 1 }
 
 abbrev pub after_all : Position → List ℕ → Position
 after_all p [] = p

@@ -2,7 +2,8 @@
 ghost use Rattle.std.specs.Prelude.{◌≡◌, ◌<◌, ◌≤◌, ◌+◌, ◌^◌, length};
 ghost use Rattle.fx_base.specs.Positions.{start, after, after_byte, after_bytes};
 
-/// Where a character of a text stands: line and column, both from 1, counted in characters. Only a line feed ends a line.
+/// Where a character of a text stands: line and column, both from 1, counted in characters. Only a line feed ends a
+/// line.
 #[derive(Clone, Copy, PartialEq, Eq, Debug)]
 pub struct Position {
     pub line: u32,
@@ -34,7 +35,8 @@ impl Position {
         }
     }
 
-    /// The position behind this byte of a text in UTF-8, which stands here. A byte that goes on with a character moves nothing.
+    /// The position behind this byte of a text in UTF-8, which stands here. A byte that goes on with a character moves
+    /// nothing.
     #[inline]
     pub fn after_byte(self, byte: u8) -> Position
         requires line { self.line < 2 ^ 31 }

@@ -86,7 +86,8 @@ impl ShortText {
     }
 }
 
-/// These bytes and zeros behind them, so that one test of the whole room, of a length that is known, tells whether they are ASCII.
+/// These bytes and zeros behind them, so that one test of the whole room, of a length that is known, tells whether they
+/// are ASCII.
 #[inline]
 fn in_room(text: &[u8]) -> [u8; ROOM]
     requires { length text.now ≤ 30 }

@@ -2,7 +2,7 @@
 //! It stands lowest in the cascade of every scene.
 ghost use Rattle.std.specs.Prelude.{◌≡◌, ◌≤◌, [], ◌∷◌, length, IfOk};
 ghost use Rattle.fx_css_types.specs.Limits.{IsWithinLimits};
-ghost use Rattle.fx_css.specs.Agent.{selector_of, rule_of, declaration_of, text_fill, background, alignment, root_rule, label_rule, button_insets, button_padding, button_rule, state_rule, agent_rules};
+ghost use Rattle.fx_css.specs.Agent as spec;
 
 use fx_base::{Color, Family, List, Sides, Text, Value};
 use fx_css_types::{Compound, Declaration, Declared, Paint, Rule, Selector, Sheet};
@@ -72,7 +72,7 @@ fn names(alloc: Global, word: &str) -> Result<List<Text>, AllocError>
 
 fn declaration(alloc: Global, word: &str, value: Declared) -> Result<Declaration, AllocError>
     requires { length word.now ≤ 4096 }
-    ensures { IfOk result (λ d. d ≡ declaration_of word.now value) }
+    ensures { IfOk result (λ d. d ≡ spec.declaration_of word.now value) }
 {
     Ok(Declaration {
         name: name(alloc, word)?,
@@ -83,7 +83,7 @@ fn declaration(alloc: Global, word: &str, value: Declared) -> Result<Declaration
 /// A selector of one compound.
 #[tactic(auto, unfolding(crate::specs::Agent::selector_of))]
 fn selector(alloc: Global, classes: List<Text>, pseudos: List<Text>) -> Result<Selector, AllocError>
-    ensures { IfOk result (λ s. s ≡ selector_of classes pseudos) }
+    ensures { IfOk result (λ s. s ≡ spec.selector_of classes pseudos) }
 {
     let mut compounds = Vec::new(alloc);
     compounds.push(Compound {
@@ -104,7 +104,7 @@ fn rule(
     pseudos: List<Text>,
     declarations: Vec<Declaration>,
 ) -> Result<Rule, AllocError>
-    ensures { IfOk result (λ r. r ≡ rule_of classes pseudos declarations.items) }
+    ensures { IfOk result (λ r. r ≡ spec.rule_of classes pseudos declarations.items) }
 {
     let mut selectors = Vec::new(alloc);
     selectors.push(selector(alloc, classes, pseudos)?)?;
@@ -116,14 +116,14 @@ fn rule(
 
 #[tactic(auto, unfolding(crate::specs::Agent::text_fill))]
 fn text_fill(alloc: Global, color: Color) -> Result<Declaration, AllocError>
-    ensures { IfOk result (λ d. d ≡ text_fill color) }
+    ensures { IfOk result (λ d. d ≡ spec.text_fill color) }
 {
     declaration(alloc, "-fx-text-fill", Declared::Paint(Paint::Color(color)))
 }
 
 #[tactic(auto, unfolding(crate::specs::Agent::background))]
 fn background(alloc: Global, under: Color, over: Color) -> Result<Declaration, AllocError>
-    ensures { IfOk result (λ d. d ≡ background under over) }
+    ensures { IfOk result (λ d. d ≡ spec.background under over) }
 {
     let mut paints = Vec::new(alloc);
     paints.push(Paint::Color(under))?;
@@ -137,7 +137,7 @@ fn background(alloc: Global, under: Color, over: Color) -> Result<Declaration, A
 
 #[tactic(auto, unfolding(crate::specs::Agent::alignment))]
 fn alignment(alloc: Global, place: u8) -> Result<Declaration, AllocError>
-    ensures { IfOk result (λ d. d ≡ alignment place) }
+    ensures { IfOk result (λ d. d ≡ spec.alignment place) }
 {
     declaration(
         alloc,
@@ -148,7 +148,7 @@ fn alignment(alloc: Global, place: u8) -> Result<Declaration, AllocError>
 
 #[tactic(auto, unfolding(crate::specs::Agent::button_insets))]
 fn button_insets(alloc: Global) -> Result<Declaration, AllocError>
-    ensures { IfOk result (λ d. d ≡ button_insets) }
+    ensures { IfOk result (λ d. d ≡ spec.button_insets) }
 {
     let mut layers = Vec::new(alloc);
     layers.push(Sides {
@@ -172,7 +172,7 @@ fn button_insets(alloc: Global) -> Result<Declaration, AllocError>
 
 #[tactic(auto, unfolding(crate::specs::Agent::button_padding))]
 fn button_padding(alloc: Global) -> Result<Declaration, AllocError>
-    ensures { IfOk result (λ d. d ≡ button_padding) }
+    ensures { IfOk result (λ d. d ≡ spec.button_padding) }
 {
     let sides = Sides {
         top: 2,
@@ -185,7 +185,7 @@ fn button_padding(alloc: Global) -> Result<Declaration, AllocError>
 
 #[tactic(auto, unfolding(crate::specs::Agent::root_rule))]
 fn root_rule(alloc: Global) -> Result<Rule, AllocError>
-    ensures { IfOk result (λ r. r ≡ root_rule) }
+    ensures { IfOk result (λ r. r ≡ spec.root_rule) }
 {
     let mut declarations = Vec::new(alloc);
     declarations.push(declaration(alloc, "-fx-font-size", Declared::Plain(Value::Int(12)))?)?;
@@ -194,7 +194,7 @@ fn root_rule(alloc: Global) -> Result<Rule, AllocError>
 
 #[tactic(auto, unfolding(crate::specs::Agent::label_rule))]
 fn label_rule(alloc: Global) -> Result<Rule, AllocError>
-    ensures { IfOk result (λ r. r ≡ label_rule) }
+    ensures { IfOk result (λ r. r ≡ spec.label_rule) }
 {
     let mut declarations = Vec::new(alloc);
     declarations.push(text_fill(alloc, BLACK)?)?;
@@ -209,7 +209,7 @@ fn label_rule(alloc: Global) -> Result<Rule, AllocError>
 
 #[tactic(auto, unfolding(crate::specs::Agent::button_rule))]
 fn button_rule(alloc: Global) -> Result<Rule, AllocError>
-    ensures { IfOk result (λ r. r ≡ button_rule) }
+    ensures { IfOk result (λ r. r ≡ spec.button_rule) }
 {
     let mut declarations = Vec::new(alloc);
     declarations.push(background(alloc, GRAY, LIGHT_GRAY)?)?;
@@ -229,7 +229,7 @@ fn button_rule(alloc: Global) -> Result<Rule, AllocError>
 #[tactic(auto, unfolding(crate::specs::Agent::state_rule))]
 fn state_rule(alloc: Global, state: &str, only: Declaration) -> Result<Rule, AllocError>
     requires { length state.now ≤ 4096 }
-    ensures { IfOk result (λ r. r ≡ state_rule state.now only) }
+    ensures { IfOk result (λ r. r ≡ spec.state_rule state.now only) }
 {
     let mut declarations = Vec::new(alloc);
     declarations.push(only)?;
@@ -243,14 +243,14 @@ fn state_rule(alloc: Global, state: &str, only: Declaration) -> Result<Rule, All
 
 /// The sheet of the user agent.
 pub fn agent_sheet(alloc: Global) -> Result<Sheet, AllocError>
-    ensures rules { IfOk result (λ sheet. sheet ≡ record { rules = agent_rules; warnings = [] }) }
+    ensures rules { IfOk result (λ sheet. sheet ≡ record { rules = spec.agent_rules; warnings = [] }) }
     ensures within { IfOk result (λ sheet. IsWithinLimits sheet) }
 {
     built(alloc)
 }
 
 fn built(alloc: Global) -> Result<Sheet, AllocError>
-    ensures { IfOk result (λ sheet. sheet ≡ record { rules = agent_rules; warnings = [] }) }
+    ensures { IfOk result (λ sheet. sheet ≡ record { rules = spec.agent_rules; warnings = [] }) }
 {
     let mut rules = Vec::new(alloc);
     rules.push(root_rule(alloc)?)?;

@@ -14,7 +14,8 @@ pub enum Combinator {
     Child,
 }
 
-/// What is written without a combinator in it: a type, classes, ids and pseudo-classes, all of which a node has to have.
+/// What is written without a combinator in it: a type, classes, ids and pseudo-classes, all of which a node has to
+/// have.
 /// The first compound of a selector and no other has no combinator. `*` and no type are both `kind` None.
 #[derive(Drop)]
 pub struct Compound {

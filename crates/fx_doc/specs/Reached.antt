@@ -12,7 +12,8 @@ use Rattle.fx_base.specs.declared.positions.Position.{Position}
 -- the machine goes over these characters within the limits
 abbrev pub Calm : Position → State → List ℕ → State → Type 0
 Calm p s [] s' = s ≡ s'
-Calm p s (c ∷ cs) s' = (m : State) × (step p s c ≡ Some m) × (is_deep m ≡ false) × (is_long m ≡ false) × Calm (after p c) m cs s'
+Calm p s (c ∷ cs) s' = (m : State) × (step p s c ≡ Some m) × (is_deep m ≡ false) × (is_long m ≡ false)
+    × Calm (after p c) m cs s'
 
 -- the machine is there behind these characters, which are within the limits
 pub record Said (said : List ℕ) (p : Position) (s : State) : Type 0 where

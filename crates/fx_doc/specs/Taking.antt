@@ -29,7 +29,8 @@ abbrev pub with_value : Valued → Valued → Valued
 with_value v v' = record { head = v.head; position = v.position; key = v.key; quote = v.quote; value = v'.value }
 
 abbrev pub TakesValue : ℕ → Class → Valued → Valued → Result Bool Halt → Type 0
-TakesValue c k v v' (Ok true) = IsPlain v k × (v' ≡ with_value v v') × (string_bytes v'.value.text ≡ string_bytes v.value.text ++ value_byte k c) × (v'.value.count ≡ v.value.count + 1)
+TakesValue c k v v' (Ok true) = IsPlain v k × (v' ≡ with_value v v')
+    × (string_bytes v'.value.text ≡ string_bytes v.value.text ++ value_byte k c) × (v'.value.count ≡ v.value.count + 1)
 TakesValue c k v v' (Ok false) = v' ≡ v
 TakesValue c k v v' (Err Long) = IsPlain v k × (v.value.count ≡ 4096)
 TakesValue c k v v' (Err Memory) = Unit {0}
@@ -39,7 +40,8 @@ abbrev pub IsSign : Held → Class → Type 0
 IsSign h k = (k ≢ Less) × (k ≢ Ampersand) × (is_open (stack_view h.stack.items) ≡ true)
 
 abbrev pub TakesSign : Position → ℕ → Class → Held → Held → Result Bool Halt → Type 0
-TakesSign p c k h h' (Ok true) = IsSign h k × (h'.imports ≡ h.imports) × (h'.stack ≡ h.stack) × (level_view h'.level ≡ one_sign p c (level_view h.level))
+TakesSign p c k h h' (Ok true) = IsSign h k × (h'.imports ≡ h.imports) × (h'.stack ≡ h.stack)
+    × (level_view h'.level ≡ one_sign p c (level_view h.level))
 TakesSign p c k h h' (Ok false) = h' ≡ h
 TakesSign p c k h h' (Err Long) = IsSign h k × (h.level.run.count ≡ 4096)
 TakesSign p c k h h' (Err Memory) = Unit {0}

@@ -35,7 +35,8 @@ abbrev pub attr_view : Attribute → Attr
 attr_view a = record { name = a.name; value = a.value; position = a.position }
 
 abbrev pub element_step : Element-F Onto Onto → Onto
-element_step e n = Node n (record { name = e.name; attributes = map attr_view e.attributes; position = e.position }) (built Nothing e.content.items)
+element_step e n = Node n (record { name = e.name; attributes = map attr_view e.attributes; position = e.position })
+    (built Nothing e.content.items)
 
 abbrev pub content_step : Content-F Onto Onto → Onto
 content_step (Child e) = e
@@ -49,7 +50,12 @@ abbrev pub nodes_of : List Content → Nodes
 nodes_of cs = built Nothing (map onto cs)
 
 abbrev pub level_view : Level → LevelView
-level_view l = record { nodes = nodes_of l.content.items; run = string_bytes l.run.text; first = l.first; count = l.run.count }
+level_view l = record {
+  nodes = nodes_of l.content.items;
+  run = string_bytes l.run.text;
+  first = l.first;
+  count = l.run.count;
+}
 
 -- a level behind these nodes, with an empty run
 abbrev pub level_behind : Nodes → LevelView
@@ -92,8 +98,10 @@ mode_view s (v.Tight h) = m.Tight (head_view h)
 mode_view s (v.Keyed h p k) = m.Keyed (head_view h) p (string_bytes k.text)
 mode_view s (v.KeySpaced h p k) = m.KeySpaced (head_view h) p (string_bytes k.text)
 mode_view s (v.Signed h p k) = m.Signed (head_view h) p (string_bytes k.text)
-mode_view s (v.Quoted x) = m.Quoted (head_view x.head) x.position (string_bytes x.key.text) x.quote (string_bytes x.value.text) x.value.count
-mode_view s (v.ValueReferring x p e) = m.ValueReferring (head_view x.head) x.position (string_bytes x.key.text) x.quote (string_bytes x.value.text) x.value.count p e
+mode_view s (v.Quoted x) = m.Quoted (head_view x.head) x.position (string_bytes x.key.text) x.quote
+    (string_bytes x.value.text) x.value.count
+mode_view s (v.ValueReferring x p e) = m.ValueReferring (head_view x.head) x.position (string_bytes x.key.text)
+    x.quote (string_bytes x.value.text) x.value.count p e
 mode_view s (v.Slashed h) = m.Slashed (head_view h)
 mode_view s (v.Ending n) = m.Ending (drop n (open_name s))
 mode_view s v.Ended = m.Ended

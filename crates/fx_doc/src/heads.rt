@@ -48,7 +48,8 @@ impl Head {
         key: Word,
         value: Text,
     ) -> Result<Head, AllocError>
-        ensures { IfOk result (λ h. head_view h ≡ with_attribute (head_view self) position (string_bytes key.text) value) }
+        ensures { IfOk result (λ h. head_view h
+            ≡ with_attribute (head_view self) position (string_bytes key.text) value) }
     {
         let Head {
             name,
@@ -74,7 +75,8 @@ impl Head {
 
 /// Adds a name, unless it is one of the first.
 fn add_later(alloc: Global, later: &mut Names, count: usize, name: &str) -> Result<(), AllocError>
-    ensures { OnOk result ((names : List (List ℕ)) → HasNames later.old names → HasNames later.new (if nat_le 8 count then names ++ name.now ∷ [] else names)) }
+    ensures { OnOk result ((names : List (List ℕ)) → HasNames later.old names
+        → HasNames later.new (if nat_le 8 count then names ++ name.now ∷ [] else names)) }
 {
     if count < NEAR {
         return Ok(());

@@ -27,7 +27,8 @@ fn trim_white(text: &str) -> &str
 
 /// What an import lists: its trimmed text, unless that is over 4,096 characters.
 fn import_text(alloc: Global, text: &str) -> Result<Option<Text>, AllocError>
-    ensures { IfOk result (λ o. option_to_list o ≡ if nat_le (length (chars (trimmed text.now))) 4096 then trimmed text.now ∷ [] else []) }
+    ensures { IfOk result (λ o. option_to_list o
+        ≡ if nat_le (length (chars (trimmed text.now))) 4096 then trimmed text.now ∷ [] else []) }
 {
     let text = String::from_str(alloc, trim_white(text))?;
     Ok(Text::from_string(text))
@@ -54,7 +55,8 @@ impl Held {
         name: &Word,
         inside: &str,
     ) -> Result<(), AllocError>
-        ensures { OnOk result (held_view self.new ≡ with_instruction (held_view self.old) (string_bytes name.now.text) inside.now) }
+        ensures { OnOk result (held_view self.new
+            ≡ with_instruction (held_view self.old) (string_bytes name.now.text) inside.now) }
     {
         if !self.is_before_root() {
             return Ok(());

@@ -39,7 +39,8 @@ pub fn instructing(alloc: Global, held: &Held, name: Word, c: char) -> Result<Op
 #[tactic(auto, using(crate::proofs::Defaults::long_name))]
 fn longer_name(held: &Held, mut name: Word, c: char, class: Class) -> Result<Option<Mode>, Halt>
     requires { class ≡ class_of c }
-    ensures { Moves (some_if (in_name class) (instructing_state (held_view held.now) (string_bytes name.text ++ (c ∷ [])))) held.now result }
+    ensures { Moves (some_if (in_name class)
+        (instructing_state (held_view held.now) (string_bytes name.text ++ (c ∷ [])))) held.now result }
 {
     if !class.is_named() {
         return Ok(None);
@@ -59,7 +60,8 @@ pub fn name_asked(alloc: Global, held: &mut Held, name: Word, c: char) -> Result
 
 /// An instruction of this name and text is whole.
 fn behind(alloc: Global, held: &mut Held, name: Word, inside: &str) -> Result<Option<Mode>, Halt>
-    ensures { Moves (inside_state (with_instruction (held_view held.old) (string_bytes name.text) inside.now)) held.new result }
+    ensures { Moves (inside_state (with_instruction (held_view held.old) (string_bytes name.text) inside.now))
+        held.new result }
 {
     held.add_instruction(alloc, &name, inside)?;
     goes(held, Mode::Inside)
@@ -71,7 +73,8 @@ pub fn instructed(
     mut inside: String,
     c: char,
 ) -> Result<Option<Mode>, Halt>
-    ensures { Moves (in_instructed (string_bytes name.text) (string_bytes inside) (held_view held.now) c (class_of c)) held.now result }
+    ensures { Moves (in_instructed (string_bytes name.text) (string_bytes inside) (held_view held.now) c (class_of c))
+        held.now result }
 {
     match Class::of(c) {
         Class::Question => goes(held, Mode::EndAsked(name, inside)),
@@ -90,7 +93,8 @@ pub fn end_asked(
     mut inside: String,
     c: char,
 ) -> Result<Option<Mode>, Halt>
-    ensures { Moves (in_end_asked (string_bytes name.text) (string_bytes inside) (held_view held.old) c (class_of c)) held.new result }
+    ensures { Moves (in_end_asked (string_bytes name.text) (string_bytes inside) (held_view held.old) c (class_of c))
+        held.new result }
 {
     match Class::of(c) {
         Class::Greater => behind(alloc, held, name, inside.as_str()),

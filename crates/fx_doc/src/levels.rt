@@ -74,7 +74,8 @@ impl Level {
         head: Head,
         inner: Vec<Content>,
     ) -> Result<(), AllocError>
-        ensures { OnOk result (level_view self.new ≡ one_child (level_view self.old) (head_view head) (nodes_of inner.items)) }
+        ensures { OnOk result (level_view self.new
+            ≡ one_child (level_view self.old) (head_view head) (nodes_of inner.items)) }
     {
         self.end_run(alloc)?;
         let Head {

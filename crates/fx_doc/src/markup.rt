@@ -3,7 +3,7 @@
 ghost use Rattle.std.specs.Prelude.{◌≡◌, true, [], ◌∷◌, ◌++◌};
 ghost use Rattle.std.specs.String.{string_bytes};
 ghost use Rattle.fx_doc_grammar.specs.Characters.{class_of, in_name};
-ghost use Rattle.fx_doc_grammar.specs.Machine.{State, at, some_if, is_open, with_sign, with_instruction, entity_step, begin_end, may_begin, in_inside, in_referring, in_opening, in_banged, in_bang_dashed, in_commented, in_dashed, in_dash_dashed, in_asked, in_instructing, in_name_asked, in_instructed, in_end_asked};
+ghost use Rattle.fx_doc_grammar.specs.Machine as spec;
 ghost use Rattle.fx_doc.specs.Views.{stack_view, held_view, Moves, inside_state, referring_state, naming_state, instructing_state};
 
 use crate::levels::goes;
@@ -15,7 +15,7 @@ use std::alloc::Global;
 
 #[tactic(auto, using(crate::proofs::Defaults::inside_rest))]
 pub fn inside(held: &mut Held, position: Position, c: char) -> Result<Option<Mode>, Halt>
-    ensures { Moves (in_inside position (held_view held.old) c (class_of c)) held.new result }
+    ensures { Moves (spec.in_inside position (held_view held.old) c (class_of c)) held.new result }
 {
     match Class::of(c) {
         Class::White => with_character(held, position, c),
@@ -27,7 +27,8 @@ pub fn inside(held: &mut Held, position: Position, c: char) -> Result<Option<Mod
 
 /// A reference begins, within an element alone.
 fn refers(held: &Held, position: Position) -> Result<Option<Mode>, Halt>
-    ensures { Moves (some_if (is_open (stack_view held.now.stack.items)) (referring_state (held_view held.now) position)) held.now result }
+    ensures { Moves (spec.some_if (spec.is_open (stack_view held.now.stack.items))
+        (referring_state (held_view held.now) position)) held.now result }
 {
     if !held.is_within() {
         return Ok(None);
@@ -37,7 +38,8 @@ fn refers(held: &Held, position: Position) -> Result<Option<Mode>, Halt>
 
 /// A character stands within an element alone.
 fn shown(held: &mut Held, position: Position, c: char) -> Result<Option<Mode>, Halt>
-    ensures { Moves (some_if (is_open (stack_view held.old.stack.items)) (inside_state (with_sign position c (held_view held.old)))) held.new result }
+    ensures { Moves (spec.some_if (spec.is_open (stack_view held.old.stack.items))
+        (inside_state (spec.with_sign position c (held_view held.old)))) held.new result }
 {
     if !held.is_within() {
         return Ok(None);
@@ -46,7 +48,7 @@ fn shown(held: &mut Held, position: Position, c: char) -> Result<Option<Mode>, H
 }
 
 fn with_character(held: &mut Held, position: Position, c: char) -> Result<Option<Mode>, Halt>
-    ensures { Moves (inside_state (with_sign position c (held_view held.old))) held.new result }
+    ensures { Moves (inside_state (spec.with_sign position c (held_view held.old))) held.new result }
 {
     held.add_sign(position, c)?;
     goes(held, Mode::Inside)
@@ -58,7 +60,7 @@ pub fn referring(
     entity: Entity,
     c: char,
 ) -> Result<Option<Mode>, Halt>
-    ensures { Moves (in_referring position (held_view held.old) (entity_step entity c)) held.new result }
+    ensures { Moves (spec.in_referring position (held_view held.old) (spec.entity_step entity c)) held.new result }
 {
     match entity.step(c) {
         Some(Turn::Further(next)) => goes(held, Mode::Referring(position, next)),
@@ -74,7 +76,7 @@ pub fn opening(
     position: Position,
     c: char,
 ) -> Result<Option<Mode>, Halt>
-    ensures { Moves (in_opening position (held_view held.now) c (class_of c)) held.now result }
+    ensures { Moves (spec.in_opening position (held_view held.now) c (class_of c)) held.now result }
 {
     match Class::of(c) {
         Class::Letter => begins(alloc, held, position, c),
@@ -88,7 +90,9 @@ pub fn opening(
 /// An element begins: within another, or as the first.
 fn begins(alloc: Global, held: &Held, position: Position, c: char) -> Result<Option<Mode>, Halt>
     requires { in_name (class_of c) ≡ true }
-    ensures { Moves (some_if (may_begin (held_view held.now)) (naming_state (held_view held.now) position (c ∷ []))) held.now result }
+    ensures { Moves (spec.some_if (spec.may_begin (held_view held.now))
+        (naming_state (held_view held.now) position (c ∷ [])))
+        held.now result }
 {
     if !held.may_begin() {
         return Ok(None);
@@ -97,7 +101,7 @@ fn begins(alloc: Global, held: &Held, position: Position, c: char) -> Result<Opt
 }
 
 fn begins_end(held: &Held) -> Result<Option<Mode>, Halt>
-    ensures { Moves (begin_end (stack_view held.now.stack.items) (held_view held.now)) held.now result }
+    ensures { Moves (spec.begin_end (stack_view held.now.stack.items) (held_view held.now)) held.now result }
 {
     if !held.is_within() {
         return Ok(None);
@@ -106,7 +110,7 @@ fn begins_end(held: &Held) -> Result<Option<Mode>, Halt>
 }
 
 pub fn banged(held: &Held, c: char) -> Result<Option<Mode>, Halt>
-    ensures { Moves (in_banged (held_view held.now) (class_of c)) held.now result }
+    ensures { Moves (spec.in_banged (held_view held.now) (class_of c)) held.now result }
 {
     match Class::of(c) {
         Class::Dash => goes(held, Mode::BangDashed),
@@ -115,7 +119,7 @@ pub fn banged(held: &Held, c: char) -> Result<Option<Mode>, Halt>
 }
 
 pub fn bang_dashed(held: &Held, c: char) -> Result<Option<Mode>, Halt>
-    ensures { Moves (in_bang_dashed (held_view held.now) (class_of c)) held.now result }
+    ensures { Moves (spec.in_bang_dashed (held_view held.now) (class_of c)) held.now result }
 {
     match Class::of(c) {
         Class::Dash => goes(held, Mode::Commented),
@@ -124,7 +128,7 @@ pub fn bang_dashed(held: &Held, c: char) -> Result<Option<Mode>, Halt>
 }
 
 pub fn commented(held: &Held, c: char) -> Result<Option<Mode>, Halt>
-    ensures { Moves (in_commented (held_view held.now) (class_of c)) held.now result }
+    ensures { Moves (spec.in_commented (held_view held.now) (class_of c)) held.now result }
 {
     match Class::of(c) {
         Class::Dash => goes(held, Mode::Dashed),
@@ -133,7 +137,7 @@ pub fn commented(held: &Held, c: char) -> Result<Option<Mode>, Halt>
 }
 
 pub fn dashed(held: &Held, c: char) -> Result<Option<Mode>, Halt>
-    ensures { Moves (in_dashed (held_view held.now) (class_of c)) held.now result }
+    ensures { Moves (spec.in_dashed (held_view held.now) (class_of c)) held.now result }
 {
     match Class::of(c) {
         Class::Dash => goes(held, Mode::DashDashed),
@@ -142,7 +146,7 @@ pub fn dashed(held: &Held, c: char) -> Result<Option<Mode>, Halt>
 }
 
 pub fn dash_dashed(held: &Held, c: char) -> Result<Option<Mode>, Halt>
-    ensures { Moves (in_dash_dashed (held_view held.now) (class_of c)) held.now result }
+    ensures { Moves (spec.in_dash_dashed (held_view held.now) (class_of c)) held.now result }
 {
     match Class::of(c) {
         Class::Dash => goes(held, Mode::DashDashed),

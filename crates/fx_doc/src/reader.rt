@@ -11,7 +11,7 @@ ghost use Rattle.fx_base.specs.declared.positions.Position.{Position};
 ghost use Rattle.fx_doc_grammar.specs.Judgements.{document_text, judgement};
 ghost use Rattle.fx_doc.specs.Judgements.{Tells};
 ghost use Rattle.fx_doc.specs.Reads.{IsNext, IsStep, IsRead, HasFault, IsGiven, IsRefused};
-ghost use Rattle.fx_doc.specs.Views.{view, held_view, mode_view, stack_view, Moves, Steps, IsDeepAt, reading, inside_view, AnswersRoot, onto, onto_element, IsRun};
+ghost use Rattle.fx_doc.specs.Views as spec;
 
 use crate::bytes::text_in;
 use crate::document::{Content, DocError, Document, Element};
@@ -33,7 +33,7 @@ const DEPTH_LIMIT: usize = 128;
 
 impl Reader {
     pub fn new(alloc: Global) -> Reader
-        ensures { view result ≡ initial }
+        ensures { spec.view result ≡ initial }
     {
         let held = Held {
             imports: Vec::new(alloc),
@@ -48,7 +48,7 @@ impl Reader {
 
     /// Reads this character, which stands at that position; false where no document goes on so.
     fn step(&mut self, alloc: Global, position: Position, c: char) -> Result<bool, Halt>
-        ensures { Steps (step position (view self.old) c) self.new result }
+        ensures { spec.Steps (step position (spec.view self.old) c) self.new result }
     {
         if self.absorb(position, c)? {
             return Ok(true);
@@ -65,7 +65,7 @@ impl Reader {
 
     /// Where the sign begins whose last character stands at that position: a reference at its `&`.
     fn sign_position(&self, position: Position) -> Position
-        ensures { result ≡ sign_position position (view self.now).mode }
+        ensures { result ≡ sign_position position (spec.view self.now).mode }
     {
         match &self.mode {
             Mode::Referring(at, _) => *at,
@@ -76,7 +76,8 @@ impl Reader {
 
     /// The position of the element that begins within 128 others.
     fn deep_position(&self) -> Option<Position>
-        ensures { MatchOption result (is_deep (view self.now) ≡ false) (λ p. IsDeepAt (view self.now) p) }
+        ensures { MatchOption result (is_deep (spec.view self.now) ≡ false)
+            (λ p. spec.IsDeepAt (spec.view self.now) p) }
     {
         match &self.mode {
             Mode::Naming(at, _) => {
@@ -92,7 +93,7 @@ impl Reader {
 
     /// One character further, within the limits on depth and length.
     pub fn next(&mut self, alloc: Global, position: Position, c: char) -> Result<(), DocError>
-        ensures { IsNext (view self.old) position c self.new result }
+        ensures { IsNext (spec.view self.old) position c self.new result }
     {
         let sign = self.sign_position(position);
         match self.step(alloc, position, c) {
@@ -105,7 +106,7 @@ impl Reader {
 
     /// Refuses an element that begins too deep.
     fn within_depth(&self) -> Result<(), DocError>
-        ensures { (p sign : Position) → IsStep (Some (view self.now)) p sign self.now result }
+        ensures { (p sign : Position) → IsStep (Some (spec.view self.now)) p sign self.now result }
     {
         match self.deep_position() {
             None => Ok(()),
@@ -115,8 +116,9 @@ impl Reader {
 
     /// The document, if the text may end here.
     pub fn into_document(self) -> Option<Document>
-        requires { AnswersRoot (view self) }
-        ensures { MatchOption result (answer (view self) ≡ None) (λ d. answer (view self) ≡ Some (reading d)) }
+        requires { spec.AnswersRoot (spec.view self) }
+        ensures { MatchOption result (answer (spec.view self) ≡ None) (λ d. answer (spec.view self)
+            ≡ Some (spec.reading d)) }
     {
         let Reader { held, mode } = self;
         let Mode::Inside = mode else {
@@ -128,8 +130,9 @@ impl Reader {
 
 impl Held {
     fn into_document(self) -> Option<Document>
-        requires { AnswersRoot (inside_view self) }
-        ensures { MatchOption result (answer (inside_view self) ≡ None) (λ d. answer (inside_view self) ≡ Some (reading d)) }
+        requires { spec.AnswersRoot (spec.inside_view self) }
+        ensures { MatchOption result (answer (spec.inside_view self) ≡ None) (λ d. answer (spec.inside_view self)
+            ≡ Some (spec.reading d)) }
     {
         if self.is_within() {
             return None;
@@ -163,7 +166,9 @@ fn moved(
     position: Position,
     c: char,
 ) -> Result<Option<Mode>, Halt>
-    ensures { Moves (move position (held_view held.old) (mode_view (stack_view held.old.stack.items) mode) c (class_of c)) held.new result }
+    ensures { spec.Moves (move position (spec.held_view held.old)
+        (spec.mode_view (spec.stack_view held.old.stack.items) mode) c
+        (class_of c)) held.new result }
 {
     match mode {
         Mode::Inside => inside(held, position, c),
@@ -195,8 +200,8 @@ fn moved(
 
 /// The element that a piece of content is, unless it is a run.
 fn child_in(piece: Content) -> Option<Element>
-    ensures child { IfSome result (λ e. onto piece ≡ onto_element e) }
-    ensures run { IfNone result (IsRun piece) }
+    ensures child { IfSome result (λ e. spec.onto piece ≡ spec.onto_element e) }
+    ensures run { IfNone result (spec.IsRun piece) }
 {
     match piece {
         Content::Child(element) => Some(element),
@@ -204,12 +209,13 @@ fn child_in(piece: Content) -> Option<Element>
     }
 }
 
-/// The document of these bytes of an FXML file (Introduction to FXML, over the grammar of `fx_doc_grammar`), or why they are none:
+/// The document of these bytes of an FXML file (Introduction to FXML, over the grammar of `fx_doc_grammar`), or why
+/// they are none:
 /// not UTF-8, the end of the longest prefix that some document begins with, the `<` of an element within 128 others,
 /// or the first character past 4,096 of a name, a value or a run.
 pub fn read_document(alloc: Global, bytes: &[u8]) -> Result<Document, DocError>
     requires { length bytes.now ≤ 4194304 }
-    ensures read { IfOk result (λ d. Spells (document_text bytes.now) (reading d)) }
+    ensures read { IfOk result (λ d. Spells (document_text bytes.now) (spec.reading d)) }
     ensures within { OnOk result (IsUtf8 bytes.now × IsWithinLimits (document_text bytes.now)) }
     ensures fault { IfErr result (HasFault bytes.now) }
     ensures exact { (v : Verdict) → IsUtf8 bytes.now → IsVerdict (document_text bytes.now) v → IsGiven v result }

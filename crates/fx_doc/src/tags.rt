@@ -3,8 +3,8 @@
 ghost use Rattle.std.specs.Prelude.{◌≡◌, true, [], ◌∷◌, ◌++◌, drop, not};
 ghost use Rattle.std.specs.String.{string_bytes};
 ghost use Rattle.fx_doc_grammar.specs.Characters.{class_of, in_name};
-ghost use Rattle.fx_doc_grammar.specs.Machine.{at, Inside, some_if, open_element, is_fresh, with_leaf, in_naming, in_spaced, in_tight, in_keyed, in_key_spaced, in_signed, in_slashed, in_ended, in_ending};
-ghost use Rattle.fx_doc.specs.Views.{bare_head, head_view, stack_view, held_view, open_name, Moves, inside_state, naming_state, keyed_state, key_spaced_state, signed_state};
+ghost use Rattle.fx_doc_grammar.specs.Machine as machine;
+ghost use Rattle.fx_doc.specs.Views as views;
 
 use crate::levels::goes;
 use crate::modes::{Head, Held, Mode, Valued};
@@ -15,7 +15,8 @@ use std::alloc::Global;
 
 /// An element begins with this tag.
 fn opens(alloc: Global, held: &mut Held, head: Head) -> Result<Option<Mode>, Halt>
-    ensures { Moves (inside_state (open_element (held_view held.old) (head_view head))) held.new result }
+    ensures { views.Moves (views.inside_state
+        (machine.open_element (views.held_view held.old) (views.head_view head))) held.new result }
 {
     held.open(alloc, head)?;
     goes(held, Mode::Inside)
@@ -29,7 +30,8 @@ pub fn naming(
     name: Word,
     c: char,
 ) -> Result<Option<Mode>, Halt>
-    ensures { Moves (in_naming position (string_bytes name.text) (held_view held.old) c (class_of c)) held.new result }
+    ensures { views.Moves (machine.in_naming position (string_bytes name.text) (views.held_view held.old) c
+        (class_of c)) held.new result }
 {
     match Class::of(c) {
         Class::White => goes(held, Mode::Spaced(Head::bare(alloc, position, name))),
@@ -48,7 +50,8 @@ fn longer_name(
     class: Class,
 ) -> Result<Option<Mode>, Halt>
     requires { class ≡ class_of c }
-    ensures { Moves (some_if (in_name class) (naming_state (held_view held.now) position (string_bytes name.text ++ (c ∷ [])))) held.now result }
+    ensures { views.Moves (machine.some_if (in_name class)
+        (views.naming_state (views.held_view held.now) position (string_bytes name.text ++ (c ∷ [])))) held.now result }
 {
     if !class.is_named() {
         return Ok(None);
@@ -64,7 +67,8 @@ pub fn spaced(
     position: Position,
     c: char,
 ) -> Result<Option<Mode>, Halt>
-    ensures { Moves (in_spaced position (head_view head) (held_view held.old) c (class_of c)) held.new result }
+    ensures { views.Moves (machine.in_spaced position (views.head_view head) (views.held_view held.old) c
+        (class_of c)) held.new result }
 {
     match Class::of(c) {
         Class::White => goes(held, Mode::Spaced(head)),
@@ -77,7 +81,8 @@ pub fn spaced(
 
 /// Behind a value: no attribute begins without white before it.
 pub fn tight(alloc: Global, held: &mut Held, head: Head, c: char) -> Result<Option<Mode>, Halt>
-    ensures { Moves (in_tight (head_view head) (held_view held.old) (class_of c)) held.new result }
+    ensures { views.Moves (machine.in_tight (views.head_view head) (views.held_view held.old) (class_of c)) held.new
+        result }
 {
     match Class::of(c) {
         Class::White => goes(held, Mode::Spaced(head)),
@@ -95,7 +100,9 @@ pub fn keyed(
     key: Word,
     c: char,
 ) -> Result<Option<Mode>, Halt>
-    ensures { Moves (in_keyed (head_view head) position (string_bytes key.text) (held_view held.now) c (class_of c)) held.now result }
+    ensures { views.Moves (machine.in_keyed (views.head_view head) position (string_bytes key.text)
+        (views.held_view held.now) c (class_of c))
+        held.now result }
 {
     match Class::of(c) {
         Class::White => behind_key(held, head, position, key),
@@ -105,7 +112,8 @@ pub fn keyed(
 }
 
 fn behind_key(held: &Held, head: Head, position: Position, key: Word) -> Result<Option<Mode>, Halt>
-    ensures { Moves (some_if (is_fresh (string_bytes key.text) (head_view head)) (key_spaced_state (held_view held.now) (head_view head) position (string_bytes key.text))) held.now result }
+    ensures { views.Moves (machine.some_if (machine.is_fresh (string_bytes key.text) (views.head_view head))
+        (views.key_spaced_state (views.held_view held.now) (views.head_view head) position (string_bytes key.text))) held.now result }
 {
     if !head.is_fresh(&key) {
         return Ok(None);
@@ -114,7 +122,8 @@ fn behind_key(held: &Held, head: Head, position: Position, key: Word) -> Result<
 }
 
 fn behind_sign(held: &Held, head: Head, position: Position, key: Word) -> Result<Option<Mode>, Halt>
-    ensures { Moves (some_if (is_fresh (string_bytes key.text) (head_view head)) (signed_state (held_view held.now) (head_view head) position (string_bytes key.text))) held.now result }
+    ensures { views.Moves (machine.some_if (machine.is_fresh (string_bytes key.text) (views.head_view head))
+        (views.signed_state (views.held_view held.now) (views.head_view head) position (string_bytes key.text))) held.now result }
 {
     if !head.is_fresh(&key) {
         return Ok(None);
@@ -132,7 +141,9 @@ fn longer_key(
     class: Class,
 ) -> Result<Option<Mode>, Halt>
     requires { class ≡ class_of c }
-    ensures { Moves (some_if (in_name class) (keyed_state (held_view held.now) (head_view head) position (string_bytes key.text ++ (c ∷ [])))) held.now result }
+    ensures { views.Moves (machine.some_if (in_name class)
+        (views.keyed_state (views.held_view held.now) (views.head_view head) position (string_bytes key.text ++ (c ∷ [])))) held.now
+        result }
 {
     if !class.is_named() {
         return Ok(None);
@@ -148,7 +159,9 @@ pub fn key_spaced(
     key: Word,
     c: char,
 ) -> Result<Option<Mode>, Halt>
-    ensures { Moves (in_key_spaced (head_view head) position (string_bytes key.text) (held_view held.now) (class_of c)) held.now result }
+    ensures { views.Moves (machine.in_key_spaced (views.head_view head) position (string_bytes key.text)
+        (views.held_view held.now)
+        (class_of c)) held.now result }
 {
     match Class::of(c) {
         Class::White => goes(held, Mode::KeySpaced(head, position, key)),
@@ -165,7 +178,9 @@ pub fn signed(
     key: Word,
     c: char,
 ) -> Result<Option<Mode>, Halt>
-    ensures { Moves (in_signed (head_view head) position (string_bytes key.text) (held_view held.now) (class_of c)) held.now result }
+    ensures { views.Moves (machine.in_signed (views.head_view head) position (string_bytes key.text)
+        (views.held_view held.now) (class_of c))
+        held.now result }
 {
     match Class::of(c) {
         Class::White => goes(held, Mode::Signed(head, position, key)),
@@ -195,14 +210,16 @@ pub fn signed(
 
 /// An element without content ends with its tag.
 fn leaf(alloc: Global, held: &mut Held, head: Head) -> Result<Option<Mode>, Halt>
-    ensures { Moves (inside_state (with_leaf (held_view held.old) (head_view head))) held.new result }
+    ensures { views.Moves (views.inside_state (machine.with_leaf (views.held_view held.old) (views.head_view head)))
+        held.new result }
 {
     held.add_leaf(alloc, head)?;
     goes(held, Mode::Inside)
 }
 
 pub fn slashed(alloc: Global, held: &mut Held, head: Head, c: char) -> Result<Option<Mode>, Halt>
-    ensures { Moves (in_slashed (head_view head) (held_view held.old) (class_of c)) held.new result }
+    ensures { views.Moves (machine.in_slashed (views.head_view head) (views.held_view held.old) (class_of c)) held.new
+        result }
 {
     match Class::of(c) {
         Class::Greater => leaf(alloc, held, head),
@@ -211,7 +228,7 @@ pub fn slashed(alloc: Global, held: &mut Held, head: Head, c: char) -> Result<Op
 }
 
 pub fn ended(alloc: Global, held: &mut Held, c: char) -> Result<Option<Mode>, Halt>
-    ensures { Moves (in_ended (held_view held.old) (class_of c)) held.new result }
+    ensures { views.Moves (machine.in_ended (views.held_view held.old) (class_of c)) held.new result }
 {
     match Class::of(c) {
         Class::White => goes(held, Mode::Ended),

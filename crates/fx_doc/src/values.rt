@@ -24,7 +24,9 @@ pub fn quoted(
     position: Position,
     c: char,
 ) -> Result<Option<Mode>, Halt>
-    ensures { Moves (in_quoted position (head_view valued.head) valued.position (string_bytes valued.key.text) valued.quote (string_bytes valued.value.text) valued.value.count (held_view held.now) c (class_of c)) held.now result }
+    ensures { Moves (in_quoted position (head_view valued.head) valued.position (string_bytes valued.key.text)
+        valued.quote (string_bytes valued.value.text) valued.value.count (held_view held.now) c (class_of c)) held.now
+        result }
 {
     match Class::of(c) {
         Class::Less => Ok(None),
@@ -41,7 +43,9 @@ fn in_text(
     c: char,
     class: Class,
 ) -> Result<Option<Mode>, Halt>
-    ensures { Moves (in_value (is_quote valued.quote class) (head_view valued.head) valued.position (string_bytes valued.key.text) valued.quote (string_bytes valued.value.text) valued.value.count (held_view held.now) c class) held.now result }
+    ensures { Moves (in_value (is_quote valued.quote class) (head_view valued.head) valued.position
+        (string_bytes valued.key.text) valued.quote (string_bytes valued.value.text) valued.value.count
+        (held_view held.now) c class) held.now result }
 {
     if class.is_quote(valued.quote) {
         return whole(alloc, held, valued);
@@ -60,7 +64,9 @@ pub fn shown(c: char, class: Class) -> char
 }
 
 fn whole(alloc: Global, held: &Held, valued: Valued) -> Result<Option<Mode>, Halt>
-    ensures { Moves (tight_state (held_view held.now) (with_attribute (head_view valued.head) valued.position (string_bytes valued.key.text) (string_bytes valued.value.text))) held.now result }
+    ensures { Moves (tight_state (held_view held.now)
+        (with_attribute (head_view valued.head) valued.position (string_bytes valued.key.text)
+        (string_bytes valued.value.text))) held.now result }
 {
     let Valued {
         head,
@@ -75,7 +81,9 @@ fn whole(alloc: Global, held: &Held, valued: Valued) -> Result<Option<Mode>, Hal
 
 #[tactic(auto, using(crate::proofs::Defaults::long_value))]
 fn longer(held: &Held, mut valued: Valued, c: char) -> Result<Option<Mode>, Halt>
-    ensures { Moves (quoted_state (held_view held.now) (head_view valued.head) valued.position (string_bytes valued.key.text) valued.quote (string_bytes valued.value.text ++ encode_utf8 c) (valued.value.count + 1)) held.now result }
+    ensures { Moves (quoted_state (held_view held.now) (head_view valued.head) valued.position
+        (string_bytes valued.key.text) valued.quote (string_bytes valued.value.text ++ encode_utf8 c)
+        (valued.value.count + 1)) held.now result }
 {
     valued.value.push(c)?;
     goes(held, Mode::Quoted(valued))
@@ -88,7 +96,9 @@ pub fn value_referring(
     entity: Entity,
     c: char,
 ) -> Result<Option<Mode>, Halt>
-    ensures { Moves (in_value_referring (head_view valued.head) valued.position (string_bytes valued.key.text) valued.quote (string_bytes valued.value.text) valued.value.count position (held_view held.now) (entity_step entity c)) held.now result }
+    ensures { Moves (in_value_referring (head_view valued.head) valued.position (string_bytes valued.key.text)
+        valued.quote (string_bytes valued.value.text) valued.value.count position (held_view held.now)
+        (entity_step entity c)) held.now result }
 {
     match entity.step(c) {
         Some(Turn::Further(next)) => goes(held, Mode::ValueReferring(valued, position, next)),
@@ -100,7 +110,8 @@ pub fn value_referring(
 impl Held {
     /// The byte at that index of the innermost open name.
     fn name_byte(&self, at: usize) -> Option<u8>
-        ensures found { IfSome result (λ b. drop at (open_name (stack_view self.now.stack.items)) ≡ b ∷ drop (at + 1) (open_name (stack_view self.now.stack.items))) }
+        ensures found { IfSome result (λ b. drop at (open_name (stack_view self.now.stack.items))
+            ≡ b ∷ drop (at + 1) (open_name (stack_view self.now.stack.items))) }
         ensures none { IfNone result (drop at (open_name (stack_view self.now.stack.items)) ≡ []) }
         ensures small { IfSome result (λ _. at + 1 < 2 ^ 64) }
     {
@@ -116,7 +127,8 @@ impl Held {
 
 /// In an end tag, behind so many characters of the open name.
 pub fn ending(alloc: Global, held: &mut Held, at: usize, c: char) -> Result<Option<Mode>, Halt>
-    ensures { Moves (in_ending (drop at (open_name (stack_view held.old.stack.items))) (held_view held.old) c (class_of c)) held.new result }
+    ensures { Moves (in_ending (drop at (open_name (stack_view held.old.stack.items))) (held_view held.old) c
+        (class_of c)) held.new result }
 {
     let Some(byte) = held.name_byte(at) else {
         return ended(alloc, held, c);

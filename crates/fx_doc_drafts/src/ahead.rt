@@ -1,4 +1,5 @@
-//! Attributes as most are written, `name="value"` with nothing but plain ASCII between the quotes: found ahead as slices.
+//! Attributes as most are written, `name="value"` with nothing but plain ASCII between the quotes: found ahead as
+//! slices.
 //! Every other attribute, and every fault, is left to the reader's steps.
 ghost use Rattle.std.specs.Prelude.{◌≡◌, ◌∷◌, ◌<◌, ◌≤◌, ℕ, List, length, IfSome, IfNone};
 ghost use Rattle.std.specs.List.{prefix_len};

@@ -26,14 +26,16 @@ impl Names {
 
     /// Is the name among these?
     pub fn has(&self, name: &Word) -> bool
-        ensures { (names : List (List ℕ)) → HasNames self.now names → result ≡ is_among (string_bytes name.now.text) names }
+        ensures { (names : List (List ℕ)) → HasNames self.now names
+            → result ≡ is_among (string_bytes name.now.text) names }
     {
         self.names.contains(&name.text)
     }
 
     /// Adds a name.
     pub fn add(&mut self, alloc: Global, name: &str) -> Result<(), AllocError>
-        ensures { OnOk result ((names : List (List ℕ)) → HasNames self.old names → HasNames self.new (names ++ name.now ∷ [])) }
+        ensures { OnOk result ((names : List (List ℕ)) → HasNames self.old names
+            → HasNames self.new (names ++ name.now ∷ [])) }
     {
         let name = String::from_str(alloc, name)?;
         self.names.insert(name)?;

@@ -10,7 +10,8 @@ pub fn documents_are_one()
     ensures { OneDocument }
 {}
 
-/// No text has two answers: what is read, the end of its longest prefix, and the first limit that it passes exclude each other.
+/// No text has two answers: what is read, the end of its longest prefix, and the first limit that it passes exclude
+/// each other.
 pub fn answers_are_one()
     ensures { OneVerdict }
 {}

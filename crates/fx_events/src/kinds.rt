@@ -21,8 +21,8 @@ pub enum EventKind {
     KeyPressed,
 }
 
-/// When a registration runs: on the way down to the target, on the way back up, or on the way up behind all handlers of its type,
-/// as what JavaFX's `setOnMouseClicked` and the like set.
+/// When a registration runs: on the way down to the target, on the way back up, or on the way up behind all handlers of
+/// its type, as what JavaFX's `setOnMouseClicked` and the like set.
 #[derive(Clone, Copy, PartialEq, Eq, Debug)]
 pub enum Phase {
     Filter,

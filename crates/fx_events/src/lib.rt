@@ -2,7 +2,6 @@
 //! who sends an event asks for its route, and at each node of it for the actions to call.
 #![tactic(auto)]
 
-mod keys;
 mod kinds;
 mod registrations;
 mod routes;
@@ -13,7 +12,6 @@ ghost use Rattle.fx_events.specs.Handlers.{AtMost64, OneConvenience, after_add, 
 
 use fx_base::{NodeKey, Text};
 use indexmap::IndexMap;
-pub use keys::KeptKey;
 pub use kinds::{EventKind, Phase};
 use registrations::{NodeHandlers, Registration};
 pub use routes::route;
@@ -50,7 +48,7 @@ impl From<AllocError> for EventError {
 /// The registrations of all nodes. Contracts see a map from keys to lists in order of registration.
 #[derive(Drop)]
 pub struct Handlers {
-    nodes: IndexMap<KeptKey, NodeHandlers>,
+    nodes: IndexMap<NodeKey, NodeHandlers>,
 }
 
 impl Model for Handlers {
@@ -77,7 +75,8 @@ impl Handlers {
         }
     }
 
-    /// Registers an action at a node, behind all others. A convenience handler stands in the place of the one of its type, as
+    /// Registers an action at a node, behind all others. A convenience handler stands in the place of the one of its
+    /// type, as
     /// JavaFX's `setOnMouseClicked` does.
     pub fn add(
         &mut self,
@@ -87,17 +86,19 @@ impl Handlers {
         phase: Phase,
         action: Text,
     ) -> Result<(), EventError>
-        ensures added { OnOk result (self.new ≡ after_add self.old key (record { on = on; phase = phase; action = action })) }
-        ensures full { (result ≡ Err EventError.Full) ↔ IsTrue (is_full (record { on = on; phase = phase; action = action }) (registrations_of self.old key)) }
+        ensures added { OnOk result (self.new
+            ≡ after_add self.old key (record { on = on; phase = phase; action = action })) }
+        ensures full { (result ≡ Err EventError.Full)
+            ↔ IsTrue (is_full (record { on = on; phase = phase; action = action }) (registrations_of self.old key)) }
         ensures refused { OnErr result ((result ≡ Err EventError.Full) ⊎ (result ≡ Err EventError.Memory)) }
         ensures err { OnErr result (self.new ≡ self.old) }
     {
         let registration = Registration { on, phase, action };
-        if let Some(node) = self.nodes.get_mut(&KeptKey::new(key)) {
+        if let Some(node) = self.nodes.get_mut(&key) {
             return node.add(registration);
         }
         let node = NodeHandlers::of(alloc, registration)?;
-        self.nodes.insert(KeptKey::new(key), node)?;
+        self.nodes.insert(key, node)?;
         Ok(())
     }
 
@@ -111,7 +112,7 @@ impl Handlers {
     ) -> Result<Vec<Text>, AllocError>
         ensures { IfOk result (λ calls. calls.items ≡ calls_of self.now key on phase) }
     {
-        match self.nodes.get(&KeptKey::new(key)) {
+        match self.nodes.get(&key) {
             None => Ok(Vec::new(alloc)),
             Some(node) => node.calls(alloc, on, phase),
         }
@@ -121,7 +122,7 @@ impl Handlers {
     pub fn forget(&mut self, key: NodeKey)
         ensures { self.new ≡ after_forget self.old key }
     {
-        let _ = self.nodes.swap_remove(&KeptKey::new(key));
+        let _ = self.nodes.swap_remove(&key);
     }
 }
 

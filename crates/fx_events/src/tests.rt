@@ -84,12 +84,9 @@ fn goes_down_to_the_target(rt: HostRuntime) -> Result<(), Fail> {
     let b = tree.make(alloc)?;
     tree.attach(alloc, r, b, 0)?;
     let clicked = route(alloc, &tree, EventKind::MouseClicked, b)?;
-    assert_eq!(rt;
-        clicked.as_slice(),
-        [KeptKey::new(r), KeptKey::new(b)].as_slice()
-    );
+    assert_eq!(rt; clicked.as_slice(), [r, b].as_slice());
     let entered = route(alloc, &tree, EventKind::MouseEntered, b)?;
-    assert_eq!(rt; entered.as_slice(), [KeptKey::new(b)].as_slice());
+    assert_eq!(rt; entered.as_slice(), [b].as_slice());
     Ok(())
 }
 

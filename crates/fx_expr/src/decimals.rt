@@ -11,7 +11,8 @@ use fx_base::Value;
 
 /// The constant whose digits stand at the front of the text, and what is behind it.
 pub fn number(text: &[char]) -> (Token, &[char])
-    ensures number { result.0 ≡ Constant (value.Int (decimal (passing is_ascii_digit text.now) (fraction_digits (behind is_ascii_digit text.now)))) }
+    ensures number { result.0 ≡ Constant
+        (value.Int (decimal (passing is_ascii_digit text.now) (fraction_digits (behind is_ascii_digit text.now)))) }
     ensures rest { result.1.now ≡ fraction_rest (behind is_ascii_digit text.now) }
 {
     let (whole, behind) = digits(text);

@@ -18,7 +18,8 @@ pub fn fill(alloc: Global, parsed: Parsed, known: Vec<Option<Value>>) -> Result<
     requires places { IsTrue (is_within (tree parsed.expr) (length known.items)) }
     ensures filled { IfOk result (λ e. tree e ≡ filled known.items (tree parsed.expr)) }
     ensures within { IfOk result (λ e. IsTrue (is_within (tree e) (unknowns known.items))) }
-    ensures meaning { IfOk result (λ e. (left : List Content) → length left ≡ unknowns known.items → mean (tree e) left ≡ mean (tree parsed.expr) (merged known.items left)) }
+    ensures meaning { IfOk result (λ e. (left : List Content) → length left ≡ unknowns known.items
+        → mean (tree e) left ≡ mean (tree parsed.expr) (merged known.items left)) }
 {
     let Parsed { expr, paths: _ } = parsed;
     filled_with(alloc, expr, known.as_slice())
@@ -46,7 +47,8 @@ fn filled_with(alloc: Global, expr: Expr, known: &[Option<Value>]) -> Result<Exp
 
 fn operand(alloc: Global, place: usize, known: &[Option<Value>]) -> Result<Expr, AllocError>
     requires { place < length known.now }
-    ensures { IfOk result (λ e. tree e ≡ filled_operand (slice_index_or known.now place None) (unknowns (take place known.now))) }
+    ensures { IfOk result (λ e. tree e ≡ filled_operand (slice_index_or known.now place None)
+        (unknowns (take place known.now))) }
 {
     match &known[place] {
         Some(value) => Ok(Expr::Const(value.copy(alloc)?)),

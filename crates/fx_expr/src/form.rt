@@ -28,7 +28,8 @@ pub fn is_expression(tokens: &[Token]) -> bool
 /// Whether an operand is wanted behind the token, and how many parentheses are open there.
 fn step(wanted: bool, count: usize, token: &Token) -> Option<(bool, usize)>
     requires { count < 2 ^ 63 }
-    ensures form { (ts : List Piece) → has_form wanted count (token.now ∷ ts) ≡ option_map_or (λ p. has_form p.0 p.1 ts) result false }
+    ensures form { (ts : List Piece) → has_form wanted count (token.now ∷ ts)
+        ≡ option_map_or (λ p. has_form p.0 p.1 ts) result false }
     ensures count { IfSome result (λ p. p.1 ≤ count + 1) }
 {
     if wanted {

@@ -3,7 +3,7 @@ ghost use Rattle.std.specs.Prelude.{◌≡◌, ◌++◌, ℕ, IfOk, IsTrue, take
 ghost use Rattle.std.specs.Str.{chars};
 ghost use Rattle.std.specs.String.{string_bytes};
 ghost use Rattle.fx_expr.specs.Tree.{tree, is_within};
-ghost use Rattle.fx_expr.specs.Meaning.{mean, unary_of, binary_of, quotient_of, rest_of, over_numbers, numeric, number_sum, sum_of, same, holds, shown, joined, negated, denied};
+ghost use Rattle.fx_expr.specs.Meaning as spec;
 
 use crate::tree::{BinarySign, Expr, UnarySign};
 use fx_base::{Text, Value};
@@ -12,7 +12,7 @@ use std::alloc::{AllocError, Global};
 /// The meaning of the expression over its operands.
 pub fn value_of(alloc: Global, expr: &Expr, operands: &[Value]) -> Result<Value, AllocError>
     requires { IsTrue (is_within (tree expr.now) (length operands.now)) }
-    ensures { IfOk result (λ value. value ≡ mean (tree expr.now) operands.now) }
+    ensures { IfOk result (λ value. value ≡ spec.mean (tree expr.now) operands.now) }
 {
     match expr {
         Expr::Const(value) => value.copy(alloc),
@@ -30,7 +30,7 @@ pub fn value_of(alloc: Global, expr: &Expr, operands: &[Value]) -> Result<Value,
 }
 
 fn unary(sign: UnarySign, value: &Value) -> Value
-    ensures { result ≡ unary_of sign value.now }
+    ensures { result ≡ spec.unary_of sign value.now }
 {
     match sign {
         UnarySign::Minus => minus(value),
@@ -39,7 +39,7 @@ fn unary(sign: UnarySign, value: &Value) -> Value
 }
 
 fn minus(value: &Value) -> Value
-    ensures { result ≡ negated value.now }
+    ensures { result ≡ spec.negated value.now }
 {
     match value {
         Value::Int(number) => Value::Int(number.saturating_neg()),
@@ -48,7 +48,7 @@ fn minus(value: &Value) -> Value
 }
 
 fn negation(value: &Value) -> Value
-    ensures { result ≡ denied value.now }
+    ensures { result ≡ spec.denied value.now }
 {
     match value {
         Value::Bool(truth) => Value::Bool(!*truth),
@@ -57,7 +57,7 @@ fn negation(value: &Value) -> Value
 }
 
 fn binary(alloc: Global, sign: BinarySign, left: &Value, right: &Value) -> Result<Value, AllocError>
-    ensures { IfOk result (λ value. value ≡ binary_of sign left.now right.now) }
+    ensures { IfOk result (λ value. value ≡ spec.binary_of sign left.now right.now) }
 {
     match sign {
         BinarySign::Or => Ok(Value::Bool(is_true(left) || is_true(right))),
@@ -77,7 +77,7 @@ fn binary(alloc: Global, sign: BinarySign, left: &Value, right: &Value) -> Resul
 }
 
 fn is_true(value: &Value) -> bool
-    ensures { result ≡ holds value.now }
+    ensures { result ≡ spec.holds value.now }
 {
     match value {
         Value::Bool(truth) => *truth,
@@ -86,7 +86,7 @@ fn is_true(value: &Value) -> bool
 }
 
 fn are_same(left: &Value, right: &Value) -> bool
-    ensures { result ≡ same left.now right.now }
+    ensures { result ≡ spec.same left.now right.now }
 {
     match (left, right) {
         (Value::Int(m), Value::Int(n)) => *m == *n,
@@ -97,7 +97,7 @@ fn are_same(left: &Value, right: &Value) -> bool
 }
 
 fn of_numbers(sign: BinarySign, left: &Value, right: &Value) -> Value
-    ensures { result ≡ numeric sign left.now right.now }
+    ensures { result ≡ spec.numeric sign left.now right.now }
 {
     match (left, right) {
         (Value::Int(m), Value::Int(n)) => over(sign, *m, *n),
@@ -106,7 +106,7 @@ fn of_numbers(sign: BinarySign, left: &Value, right: &Value) -> Value
 }
 
 fn over(sign: BinarySign, m: i64, n: i64) -> Value
-    ensures { result ≡ over_numbers sign m n }
+    ensures { result ≡ spec.over_numbers sign m n }
 {
     match sign {
         BinarySign::Plus => Value::Int(m.saturating_add(n)),
@@ -123,7 +123,7 @@ fn over(sign: BinarySign, m: i64, n: i64) -> Value
 }
 
 fn quotient(m: i64, n: i64) -> Value
-    ensures { result ≡ quotient_of m n }
+    ensures { result ≡ spec.quotient_of m n }
 {
     if n == 0 {
         return Value::Int(0);
@@ -135,7 +135,7 @@ fn quotient(m: i64, n: i64) -> Value
 }
 
 fn remainder(m: i64, n: i64) -> Value
-    ensures { result ≡ rest_of m n }
+    ensures { result ≡ spec.rest_of m n }
 {
     if n == 0 {
         return Value::Int(0);
@@ -144,7 +144,7 @@ fn remainder(m: i64, n: i64) -> Value
 }
 
 fn plus(alloc: Global, left: &Value, right: &Value) -> Result<Value, AllocError>
-    ensures { IfOk result (λ value. value ≡ sum_of left.now right.now) }
+    ensures { IfOk result (λ value. value ≡ spec.sum_of left.now right.now) }
 {
     match sum_of_numbers(left, right) {
         Some(number) => Ok(Value::Int(number)),
@@ -153,7 +153,7 @@ fn plus(alloc: Global, left: &Value, right: &Value) -> Result<Value, AllocError>
 }
 
 fn sum_of_numbers(left: &Value, right: &Value) -> Option<i64>
-    ensures { result ≡ number_sum left.now right.now }
+    ensures { result ≡ spec.number_sum left.now right.now }
 {
     match (left, right) {
         (Value::Int(m), Value::Int(n)) => Some(m.saturating_add(*n)),
@@ -162,7 +162,7 @@ fn sum_of_numbers(left: &Value, right: &Value) -> Option<i64>
 }
 
 fn joined_text(alloc: Global, left: &Value, right: &Value) -> Result<Text, AllocError>
-    ensures { IfOk result (λ text. text ≡ joined (shown left.now) (shown right.now)) }
+    ensures { IfOk result (λ text. text ≡ spec.joined (spec.shown left.now) (spec.shown right.now)) }
 {
     let left = shown_text(alloc, left)?;
     let right = shown_text(alloc, right)?;
@@ -174,20 +174,20 @@ fn joined_text(alloc: Global, left: &Value, right: &Value) -> Result<Text, Alloc
 }
 
 fn cut(alloc: Global, left: &str, right: &str) -> Result<String, AllocError>
-    ensures text { IfOk result (λ both. string_bytes both ≡ joined left.now right.now) }
+    ensures text { IfOk result (λ both. string_bytes both ≡ spec.joined left.now right.now) }
     ensures short { IfOk result (λ both. length (chars (string_bytes both)) ≤ 4096) }
 {
     joined_front(alloc, left, right)
 }
 
 fn joined_front(alloc: Global, left: &str, right: &str) -> Result<String, AllocError>
-    ensures { IfOk result (λ both. string_bytes both ≡ joined left.now right.now) }
+    ensures { IfOk result (λ both. string_bytes both ≡ spec.joined left.now right.now) }
 {
     left.chars().chain(right.chars()).take(4096).collect(alloc)
 }
 
 fn shown_text(alloc: Global, value: &Value) -> Result<String, AllocError>
-    ensures { IfOk result (λ text. string_bytes text ≡ shown value.now) }
+    ensures { IfOk result (λ text. string_bytes text ≡ spec.shown value.now) }
 {
     match value {
         Value::Int(number) => {

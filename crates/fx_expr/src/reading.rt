@@ -49,20 +49,24 @@ pub fn read_expr(alloc: Global, text: &str) -> Result<Parsed, ExprError>
     ensures within { IfOk result (λ p. IsTrue (is_within (tree p.expr) (length p.paths))) }
 
     // What is written so is read, unless memory runs out.
-    ensures only { (paths : Items (Items (Items ℕ))) (t : Tree) → IsRead (chars text.now) paths t → length paths ≤ 256 → IsThat t paths result }
+    ensures only { (paths : Items (Items (Items ℕ))) (t : Tree) → IsRead (chars text.now) paths t → length paths ≤ 256
+        → IsThat t paths result }
 
     // Which refusal it is.
     ensures syntax { result ≡ Err ExprError.Syntax → HasForm (chars text.now) → ⊥ }
     ensures deep { result ≡ Err ExprError.Depth → HasForm (chars text.now) }
-    ensures too_deep { result ≡ Err ExprError.Depth → (paths : Items (Items (Items ℕ))) (t : Tree) → IsRead (chars text.now) paths t → ⊥ }
-    ensures operands { result ≡ Err ExprError.Operands → (paths : Items (Items (Items ℕ))) × (t : Tree) × IsRead (chars text.now) paths t × (256 < length paths) }
+    ensures too_deep { result ≡ Err ExprError.Depth → (paths : Items (Items (Items ℕ))) (t : Tree)
+        → IsRead (chars text.now) paths t → ⊥ }
+    ensures operands { result ≡ Err ExprError.Operands → (paths : Items (Items (Items ℕ))) × (t : Tree)
+        × IsRead (chars text.now) paths t × (256 < length paths) }
 {
     parsed(alloc, text)
 }
 
 /// A text reads as one tree at most, over one list of paths.
 pub fn one_reading()
-    ensures { (text : Items ℕ) (paths others : Items (Items (Items ℕ))) (t u : Tree) → IsRead text paths t → IsRead text others u → (paths ≡ others) × (t ≡ u) }
+    ensures { (text : Items ℕ) (paths others : Items (Items (Items ℕ))) (t u : Tree) → IsRead text paths t
+        → IsRead text others u → (paths ≡ others) × (t ≡ u) }
 {}
 
 #[tactic(auto, unfolding(crate::specs::Reading::reading_of))]

@@ -4,7 +4,7 @@ ghost use Rattle.std.specs.Option.{option_map};
 ghost use Rattle.std.specs.Str.{chars};
 ghost use Rattle.std.specs.String.{string_bytes};
 ghost use Rattle.fx_text.specs.Classes.{is_white, is_quote};
-ghost use Rattle.fx_expr.specs.Scanning.{after_white, character_at, end_at, quoted_at, text_token, with_front, with_tokens, token_at, tokens_of, number_at};
+ghost use Rattle.fx_expr.specs.Scanning as spec;
 ghost use Rattle.fx_expr.specs.Reading.{Gives};
 
 use crate::decimals::{is_digit, number};
@@ -17,7 +17,8 @@ use std::alloc::{AllocError, Global};
 
 /// The tokens that the text is written in.
 pub fn scan(alloc: Global, text: &str) -> Result<Vec<Token>, Stop>
-    ensures { Gives (λ tokens. tokens.items) result (tokens_of (length (chars text.now)) (after_white (chars text.now))) }
+    ensures { Gives (λ tokens. tokens.items) result
+        (spec.tokens_of (length (chars text.now)) (spec.after_white (chars text.now))) }
 {
     let characters = characters(alloc, text)?;
     tokens(alloc, characters.as_slice())
@@ -30,7 +31,7 @@ fn characters(alloc: Global, text: &str) -> Result<Vec<char>, AllocError>
 }
 
 fn tokens(alloc: Global, text: &[char]) -> Result<Vec<Token>, Stop>
-    ensures { Gives (λ tokens. tokens.items) result (tokens_of (length text.now) (after_white text.now)) }
+    ensures { Gives (λ tokens. tokens.items) result (spec.tokens_of (length text.now) (spec.after_white text.now)) }
 {
     let mut tokens = Vec::new(alloc);
     let mut rest = past_white(text);
@@ -50,7 +51,7 @@ fn tokens(alloc: Global, text: &[char]) -> Result<Vec<Token>, Stop>
 }
 
 fn past_white(text: &[char]) -> &[char]
-    ensures { result.now ≡ after_white text.now }
+    ensures { result.now ≡ spec.after_white text.now }
 {
     let mut rest = text;
     while let [first, behind @ ..] = rest {
@@ -70,7 +71,7 @@ fn is_white(c: char) -> bool
 
 #[tactic(auto, unfolding(crate::specs::Scanning::token_at))]
 fn token<'a>(alloc: Global, text: &'a [char]) -> Result<(Token, &'a [char]), Stop>
-    ensures { Gives (λ p. (p.0, p.1.now)) result (token_at text.now) }
+    ensures { Gives (λ p. (p.0, p.1.now)) result (spec.token_at text.now) }
 {
     match text {
         [] => Err(Stop::Refused),
@@ -100,7 +101,8 @@ fn quoted_token<'a>(
     quote: char,
     text: &'a [char],
 ) -> Result<(Token, &'a [char]), Stop>
-    ensures { Gives (λ p. (p.0, p.1.now)) result (option_and_then text_token (quoted_at (length text.now) quote text.now)) }
+    ensures { Gives (λ p. (p.0, p.1.now)) result
+        (option_and_then spec.text_token (spec.quoted_at (length text.now) quote text.now)) }
 {
     let (content, rest) = quoted(alloc, quote, text)?;
     match Text::from_string(content) {
@@ -111,7 +113,7 @@ fn quoted_token<'a>(
 
 /// The text that is written up to the quote, and what is behind it.
 fn quoted<'a>(alloc: Global, quote: char, text: &'a [char]) -> Result<(String, &'a [char]), Stop>
-    ensures { Gives (λ p. (string_bytes p.0, p.1.now)) result (quoted_at (length text.now) quote text.now) }
+    ensures { Gives (λ p. (string_bytes p.0, p.1.now)) result (spec.quoted_at (length text.now) quote text.now) }
 {
     let mut content = String::new(alloc);
     let mut rest = text;
@@ -128,7 +130,7 @@ fn quoted<'a>(alloc: Global, quote: char, text: &'a [char]) -> Result<(String, &
 }
 
 fn character(quote: char, text: &[char]) -> Option<(char, &[char])>
-    ensures { option_map (λ p. (p.0, p.1.now)) result ≡ character_at quote text.now }
+    ensures { option_map (λ p. (p.0, p.1.now)) result ≡ spec.character_at quote text.now }
 {
     match text {
         [] => None,
@@ -151,7 +153,8 @@ fn character(quote: char, text: &[char]) -> Option<(char, &[char])>
 }
 
 fn end<'a>(quote: char, content: String, text: &'a [char]) -> Result<(String, &'a [char]), Stop>
-    ensures { Gives (λ p. (string_bytes p.0, p.1.now)) result (with_front (string_bytes content) (end_at quote text.now)) }
+    ensures { Gives (λ p. (string_bytes p.0, p.1.now)) result
+        (spec.with_front (string_bytes content) (spec.end_at quote text.now)) }
 {
     match text {
         [c, rest @ ..] => {

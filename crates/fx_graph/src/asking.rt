@@ -82,7 +82,8 @@ fn known_origin(entry: &Entry) -> Option<Origin>
 
 /// A copy of the value, if this is one.
 fn copy_of(alloc: Global, definition: &Definition) -> Result<Value, AllocError>
-    ensures { IfOk result (λ value. is_binding definition.now ≡ false → is_gone definition.now ≡ false → definition.now ≡ defined.Base value) }
+    ensures { IfOk result (λ value. is_binding definition.now ≡ false → is_gone definition.now ≡ false
+        → definition.now ≡ defined.Base value) }
 {
     match definition {
         Definition::Base(value) => value.copy(alloc),
@@ -93,7 +94,8 @@ fn copy_of(alloc: Global, definition: &Definition) -> Result<Value, AllocError>
 
 fn own_at(alloc: Global, entries: &[Entry], place: usize) -> Result<Value, AllocError>
     requires { place < length entries.now }
-    ensures { IfOk result (λ value. bound_in entries.now place ≡ false → unknown_in entries.now place ≡ false → (entry_of entries.now place).definition ≡ defined.Base value) }
+    ensures { IfOk result (λ value. bound_in entries.now place ≡ false → unknown_in entries.now place ≡ false
+        → (entry_of entries.now place).definition ≡ defined.Base value) }
 {
     copy_of(alloc, &entries[place].definition)
 }

@@ -79,7 +79,8 @@ fn cycle_among(
     requires flags { flags.old ≡ replicate (length entries.now) false }
     requires places { length work.old ≡ length entries.now }
     ensures places { length work.new ≡ length work.old }
-    ensures refusal { result ≡ refused_first error.Cycle (λ (operand : Named). leads entries.now operand.0 name) operands.now }
+    ensures refusal { result ≡ refused_first error.Cycle (λ (operand : Named). leads entries.now operand.0 name)
+        operands.now }
 {
     let count = mark_one(flags, work, 0, name);
     spread(entries, users, flags, work, count);
@@ -100,7 +101,8 @@ fn cycle(
     requires operands { (operand : ℕ) → Contains (numbers operands.now) operand → operand < length entries.now }
     requires places { length work.old ≡ length entries.now }
     ensures places { length work.new ≡ length work.old }
-    ensures refusal { IfOk result (λ refusal. refusal ≡ refused_first error.Cycle (λ (operand : Named). leads entries.now operand.0 name) operands.now) }
+    ensures refusal { IfOk result (λ refusal. refusal
+        ≡ refused_first error.Cycle (λ (operand : Named). leads entries.now operand.0 name) operands.now) }
 {
     let mut flags = vec![in alloc; false; entries.len()]?;
     Ok(cycle_among(entries, users, flags.as_mut_slice(), work, name, operands))
@@ -111,7 +113,8 @@ fn is_full(entries: &[Entry], total: usize, name: usize, operands: &[Name]) -> b
     requires known { name < length entries.now }
     requires counted { total ≡ operand_count entries.now }
     requires few { total ≤ 1000000 }
-    ensures { (expr : Expression) → result ≡ nat_lt 1000000 (operand_count (with_binding name expr (numbers operands.now) entries.now)) }
+    ensures { (expr : Expression) → result
+        ≡ nat_lt 1000000 (operand_count (with_binding name expr (numbers operands.now) entries.now)) }
 {
     let others = total - operands_at(entries, name);
     operands.len() > MOST_OPERANDS - others
@@ -164,7 +167,8 @@ fn unlinkable(
     requires counted { total ≡ operand_count entries.now }
     requires few { total ≤ 1000000 }
     ensures places { length work.new ≡ length work.old }
-    ensures refusal { IfOk result (λ refusal. (expr : Expression) → refusal ≡ link_refusal name expr operands.now entries.now) }
+    ensures refusal { IfOk result (λ refusal. (expr : Expression)
+        → refusal ≡ link_refusal name expr operands.now entries.now) }
 {
     let place = name.0 as usize;
     let cycle = cycle(alloc, entries, users, work, place, operands)?;
@@ -244,8 +248,10 @@ fn bind_linked(
     ensures newly { length newly.new ≡ length entries.old }
     ensures count { result ≤ length entries.old }
     ensures entries { entries.new ≡ with_binding name expr (numbers operands.items) entries.old }
-    ensures unread { unread.new ≡ after_marking (with_binding name expr (numbers operands.items) entries.old) (name ∷ []) unread.old }
-    ensures names { numbers (take result newly.new) ≡ newly_marked (with_binding name expr (numbers operands.items) entries.old) (name ∷ []) unread.old }
+    ensures unread { unread.new ≡ after_marking (with_binding name expr (numbers operands.items) entries.old)
+        (name ∷ []) unread.old }
+    ensures names { numbers (take result newly.new)
+        ≡ newly_marked (with_binding name expr (numbers operands.items) entries.old) (name ∷ []) unread.old }
 {
     write_binding(entries, name, expr, operands);
     let count = mark_one(unread, work, 0, name);
@@ -278,8 +284,10 @@ pub fn bind_name(
     ensures count { IfOk result (λ count. count ≤ length entries.old) }
     ensures mirrors { Mirrors entries.new users.new }
     ensures entries { OnOk result (entries.new ≡ with_binding name expr (numbers operands.items) entries.old) }
-    ensures unread { OnOk result (unread.new ≡ after_marking (with_binding name expr (numbers operands.items) entries.old) (name ∷ []) unread.old) }
-    ensures names { IfOk result (λ count. numbers (take count newly.new) ≡ newly_marked (with_binding name expr (numbers operands.items) entries.old) (name ∷ []) unread.old) }
+    ensures unread { OnOk result (unread.new
+        ≡ after_marking (with_binding name expr (numbers operands.items) entries.old) (name ∷ []) unread.old) }
+    ensures names { IfOk result (λ count. numbers (take count newly.new)
+        ≡ newly_marked (with_binding name expr (numbers operands.items) entries.old) (name ∷ []) unread.old) }
     ensures kept_entries { OnErr result (entries.new ≡ entries.old) }
     ensures kept_unread { OnErr result (unread.new ≡ unread.old) }
     ensures kept_newly { OnErr result (newly.new ≡ newly.old) }

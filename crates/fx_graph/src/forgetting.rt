@@ -55,7 +55,8 @@ fn bound_outside(users: &[Users], names: &[Name]) -> Option<usize>
 pub fn refusal(entries: &[Entry], users: &[Users], names: &[Name]) -> Option<GraphError>
     requires mirrors { Mirrors entries.now users.now }
     requires few { length entries.now ≤ 4000000 }
-    ensures { MatchOption result ((unknown_name entries.now names.now ≡ None) × IsFree (numbers names.now) entries.now) (IsForgetRefusal names.now entries.now) }
+    ensures { MatchOption result ((unknown_name entries.now names.now ≡ None)
+        × IsFree (numbers names.now) entries.now) (IsForgetRefusal names.now entries.now) }
 {
     if let Some(unknown) = unknown_among(entries, names) {
         return Some(unknown);

@@ -86,7 +86,8 @@ pub fn write_value(entries: &mut [Entry], place: usize, value: Value, sets: bool
 fn give_one(entries: &mut [Entry], fresh: &mut [Value], place: usize, sets: bool)
     requires known { place < length entries.old }
     requires prepared { place < length fresh.old }
-    ensures entries { entries.new ≡ slice_set entries.old place (given sets (slice_index_or fresh.old place no_value) (entry_of entries.old place)) }
+    ensures entries { entries.new ≡ slice_set entries.old place
+        (given sets (slice_index_or fresh.old place no_value) (entry_of entries.old place)) }
     ensures fresh { fresh.new ≡ slice_set fresh.old place no_value }
 {
     let value = mem::replace(&mut fresh[place], Value::Bool(false));
@@ -108,7 +109,8 @@ fn give(entries: &mut [Entry], fresh: &mut [Value], pairs: &[(Name, Value)], set
 
 /// Whether what isn't a binding gives this value.
 fn gives(definition: &Definition, value: &Value) -> bool
-    ensures { (f : ℕ → Content) → is_binding definition.now ≡ false → result ≡ same_value (value_of_definition f definition.now) value.now }
+    ensures { (f : ℕ → Content) → is_binding definition.now ≡ false
+        → result ≡ same_value (value_of_definition f definition.now) value.now }
 {
     match definition {
         Definition::Base(held) => are_same(held, value),
@@ -120,7 +122,8 @@ fn gives(definition: &Definition, value: &Value) -> bool
 /// Whether the name, which isn't bound, has this value.
 fn has_value(entries: &[Entry], name: Name, value: &Value) -> bool
     requires { bound_in entries.now name.0 ≡ false }
-    ensures { (f : ℕ → Content) → result ≡ same_value (value_of_definition f (entry_of entries.now name.0).definition) value.now }
+    ensures { (f : ℕ → Content) → result
+        ≡ same_value (value_of_definition f (entry_of entries.now name.0).definition) value.now }
 {
     match entries.get(name.0 as usize) {
         None => are_same(&Value::Bool(false), value),
@@ -196,8 +199,10 @@ fn apply_values(
     ensures newly { length newly.new ≡ length entries.old }
     ensures count { result ≤ length entries.old }
     ensures entries { entries.new ≡ with_values sets pairs.now entries.old }
-    ensures unread { unread.new ≡ after_marking (with_values sets pairs.now entries.old) (changed pairs.now entries.old) unread.old }
-    ensures names { numbers (take result newly.new) ≡ newly_marked (with_values sets pairs.now entries.old) (changed pairs.now entries.old) unread.old }
+    ensures unread { unread.new ≡ after_marking (with_values sets pairs.now entries.old)
+        (changed pairs.now entries.old) unread.old }
+    ensures names { numbers (take result newly.new)
+        ≡ newly_marked (with_values sets pairs.now entries.old) (changed pairs.now entries.old) unread.old }
 {
     let count = mark_changed(entries, pairs, unread, work);
     give(entries, fresh, pairs, sets);
@@ -231,8 +236,10 @@ pub fn change_values(
     ensures newly { length newly.new ≡ length entries.old }
     ensures count { IfOk result (λ count. count ≤ length entries.old) }
     ensures entries { OnOk result (entries.new ≡ with_values sets pairs.now entries.old) }
-    ensures unread { OnOk result (unread.new ≡ after_marking (with_values sets pairs.now entries.old) (changed pairs.now entries.old) unread.old) }
-    ensures names { IfOk result (λ count. numbers (take count newly.new) ≡ newly_marked (with_values sets pairs.now entries.old) (changed pairs.now entries.old) unread.old) }
+    ensures unread { OnOk result (unread.new
+        ≡ after_marking (with_values sets pairs.now entries.old) (changed pairs.now entries.old) unread.old) }
+    ensures names { IfOk result (λ count. numbers (take count newly.new)
+        ≡ newly_marked (with_values sets pairs.now entries.old) (changed pairs.now entries.old) unread.old) }
     ensures kept_entries { OnErr result (entries.new ≡ entries.old) }
     ensures kept_unread { OnErr result (unread.new ≡ unread.old) }
     ensures kept_newly { OnErr result (newly.new ≡ newly.old) }

@@ -1,4 +1,5 @@
-//! The lazy graph of properties and bindings (JavaFX `javafx.beans.property` and `javafx.beans.binding`): a change marks at
+//! The lazy graph of properties and bindings (JavaFX `javafx.beans.property` and `javafx.beans.binding`): a change
+//! marks at
 //! once all that reads what changed, and nothing is evaluated before it is read. The store of listeners stands on it.
 #![tactic(auto)]
 
@@ -23,9 +24,9 @@ ghost use Rattle.fx_graph_model.specs.Unread.{marked, IsClosed, bound_unread, ev
 ghost use Rattle.fx_graph_model.specs.Eager.{eager};
 ghost use Rattle.fx_graph_model.specs.Equality.{same_kind};
 ghost use Rattle.fx_graph_model.specs.Sound.{AreSound, IsAcyclic};
-ghost use Rattle.fx_graph_model.specs.Changes.{empty, after_declare, after_read, after_read_all, after_values, after_bind, after_unbind, after_forget, AreKnown, IsReadInPart, IsSomeRead};
+ghost use Rattle.fx_graph_model.specs.Changes as changes;
 ghost use Rattle.fx_base.specs.Answers.{IsAnswer, IsFirmAnswer};
-ghost use Rattle.fx_graph_model.specs.Refusals.{kind_at, read_only_in, declare_refusal, unknown_refusal, set_refusal, publish_refusal, fit_refusal, bind_refusal, unknown_name, IsFree, IsForgetAnswer};
+ghost use Rattle.fx_graph_model.specs.Refusals as refusals;
 ghost use Rattle.fx_graph.specs.Given.{ArePlain, AreBase, AreReadOnly};
 ghost use Rattle.fx_graph.specs.Store.{origin_in};
 
@@ -40,7 +41,8 @@ use std::marker::Model;
 pub const MOST_NAMES: usize = 4_000_000;
 
 /// Properties under names that are given once, each with its definition, a flag that says whether it is unread, and the
-/// value that it had when it was read. Contracts see the entries, the flags, and the names that became unread in the last
+/// value that it had when it was read. Contracts see the entries, the flags, and the names that became unread in the
+/// last
 /// change. The lists of the fields have a place for each name that was ever declared.
 #[derive(Drop)]
 pub struct Graph {
@@ -72,13 +74,14 @@ impl Model for Graph {
 
     ghost view = { λ graph. state_of graph.entries.items graph.unread.items graph.newly.items graph.newly_count };
 
-    ghost invariant = { λ graph. IsStore graph.entries.items graph.users.items graph.unread.items graph.before.items graph.newly.items graph.newly_count graph.cache.items graph.fresh.items graph.work.items graph.operand_count };
+    ghost invariant = { λ graph. IsStore graph.entries.items graph.users.items graph.unread.items graph.before.items
+        graph.newly.items graph.newly_count graph.cache.items graph.fresh.items graph.work.items graph.operand_count };
 }
 
 impl Graph {
     /// No property was declared.
     pub fn new(alloc: Global) -> Graph
-        ensures { result ≡ empty }
+        ensures { result ≡ changes.empty }
     {
         Graph {
             entries: Vec::new(alloc),
@@ -103,9 +106,9 @@ impl Graph {
         value: Value,
     ) -> Result<Name, GraphError>
         requires { kind_of value ≡ kind }
-        ensures answer { IsAnswer GraphError.Memory (declare_refusal self.old.entries) result }
+        ensures answer { IsAnswer GraphError.Memory (refusals.declare_refusal self.old.entries) result }
         ensures name { IfOk result (λ name. name.0 ≡ length self.old.entries) }
-        ensures ok { OnOk result (self.new ≡ after_declare kind read_only value self.old) }
+        ensures ok { OnOk result (self.new ≡ changes.after_declare kind read_only value self.old) }
         ensures err { OnErr result (self.new ≡ self.old) }
     {
         let place = self.entries.len();
@@ -142,13 +145,14 @@ impl Graph {
         Ok(Name(place as u32))
     }
 
-    /// Sets properties by code, all or none, so that those that are joined never differ. Values other than texts take no
+    /// Sets properties by code, all or none, so that those that are joined never differ. Values other than texts take
+    /// no
     /// memory.
     pub fn set_group(&mut self, alloc: Global, pairs: &[(Name, Value)]) -> Result<(), GraphError>
         requires { AllPairs (λ (one other : Named × Content). one.0 ≢ other.0) pairs.now }
-        ensures answer { IsAnswer GraphError.Memory (set_refusal pairs.now self.old.entries) result }
-        ensures firm { ArePlain pairs.now → IsFirmAnswer (set_refusal pairs.now self.old.entries) result }
-        ensures ok { OnOk result (self.new ≡ after_values true pairs.now self.old) }
+        ensures answer { IsAnswer GraphError.Memory (refusals.set_refusal pairs.now self.old.entries) result }
+        ensures firm { ArePlain pairs.now → IsFirmAnswer (refusals.set_refusal pairs.now self.old.entries) result }
+        ensures ok { OnOk result (self.new ≡ changes.after_values true pairs.now self.old) }
         ensures err { OnErr result (self.new ≡ self.old) }
     {
         if let Some(refusal) = refusals::of_set(self.entries.as_slice(), pairs) {
@@ -160,14 +164,14 @@ impl Graph {
 
     /// Why these may not be set, if they may not.
     pub fn refuses_set(&self, pairs: &[(Name, Value)]) -> Option<GraphError>
-        ensures { result ≡ set_refusal pairs.now self.now.entries }
+        ensures { result ≡ refusals.set_refusal pairs.now self.now.entries }
     {
         refusals::of_set(self.entries.as_slice(), pairs)
     }
 
     /// Why these may not be published, if they may not.
     pub fn refuses_publish(&self, pairs: &[(Name, Value)]) -> Option<GraphError>
-        ensures { result ≡ publish_refusal pairs.now self.now.entries }
+        ensures { result ≡ refusals.publish_refusal pairs.now self.now.entries }
     {
         refusals::of_publish(self.entries.as_slice(), pairs)
     }
@@ -176,9 +180,9 @@ impl Graph {
     pub fn publish(&mut self, alloc: Global, pairs: &[(Name, Value)]) -> Result<(), GraphError>
         requires distinct { AllPairs (λ (one other : Named × Content). one.0 ≢ other.0) pairs.now }
         requires read_only { AreReadOnly self.old.entries pairs.now }
-        ensures answer { IsAnswer GraphError.Memory (publish_refusal pairs.now self.old.entries) result }
-        ensures firm { ArePlain pairs.now → IsFirmAnswer (publish_refusal pairs.now self.old.entries) result }
-        ensures ok { OnOk result (self.new ≡ after_values false pairs.now self.old) }
+        ensures answer { IsAnswer GraphError.Memory (refusals.publish_refusal pairs.now self.old.entries) result }
+        ensures firm { ArePlain pairs.now → IsFirmAnswer (refusals.publish_refusal pairs.now self.old.entries) result }
+        ensures ok { OnOk result (self.new ≡ changes.after_values false pairs.now self.old) }
         ensures err { OnErr result (self.new ≡ self.old) }
     {
         if let Some(refusal) = refusals::of_publish(self.entries.as_slice(), pairs) {
@@ -197,7 +201,7 @@ impl Graph {
         requires distinct { AllPairs (λ (one other : Named × Content). one.0 ≢ other.0) pairs.now }
         requires base { AreBase self.old.entries pairs.now }
         ensures firm { ArePlain pairs.now → IsOk result }
-        ensures ok { OnOk result (self.new ≡ after_values sets pairs.now self.old) }
+        ensures ok { OnOk result (self.new ≡ changes.after_values sets pairs.now self.old) }
         ensures err { OnErr result (self.new ≡ self.old) }
     {
         let count = giving::change_values(
@@ -224,8 +228,9 @@ impl Graph {
         operands: Vec<Name>,
     ) -> Result<(), GraphError>
         requires { is_within (tree expr) (length operands.items) ≡ true }
-        ensures answer { IsAnswer GraphError.Memory (bind_refusal name expr operands.items self.old.entries) result }
-        ensures ok { OnOk result (self.new ≡ after_bind name.0 expr (numbers operands.items) self.old) }
+        ensures answer { IsAnswer GraphError.Memory (refusals.bind_refusal name expr operands.items self.old.entries)
+            result }
+        ensures ok { OnOk result (self.new ≡ changes.after_bind name.0 expr (numbers operands.items) self.old) }
         ensures err { OnErr result (self.new ≡ self.old) }
     {
         let refusal = self.refuses_bind(alloc, name, &expr, operands.as_slice())?;
@@ -246,7 +251,7 @@ impl Graph {
         operands: &[Name],
     ) -> Result<Option<GraphError>, AllocError>
         requires { is_within (tree expr.now) (length operands.now) ≡ true }
-        ensures { IfOk result (λ refusal. refusal ≡ fit_refusal name expr.now operands.now self.now.entries) }
+        ensures { IfOk result (λ refusal. refusal ≡ refusals.fit_refusal name expr.now operands.now self.now.entries) }
     {
         binding::unfit(alloc, self.entries.as_slice(), name, expr, operands)
     }
@@ -261,7 +266,8 @@ impl Graph {
     ) -> Result<Option<GraphError>, AllocError>
         requires { is_within (tree expr.now) (length operands.now) ≡ true }
         ensures same { self.new ≡ self.old }
-        ensures refusal { IfOk result (λ refusal. refusal ≡ bind_refusal name expr.now operands.now self.old.entries) }
+        ensures refusal { IfOk result (λ refusal. refusal
+            ≡ refusals.bind_refusal name expr.now operands.now self.old.entries) }
     {
         binding::refusal(
             alloc,
@@ -283,8 +289,8 @@ impl Graph {
         operands: Vec<Name>,
     ) -> Result<(), AllocError>
         requires places { is_within (tree expr) (length operands.items) ≡ true }
-        requires allowed { bind_refusal name expr operands.items self.old.entries ≡ None }
-        ensures ok { OnOk result (self.new ≡ after_bind name.0 expr (numbers operands.items) self.old) }
+        requires allowed { refusals.bind_refusal name expr operands.items self.old.entries ≡ None }
+        ensures ok { OnOk result (self.new ≡ changes.after_bind name.0 expr (numbers operands.items) self.old) }
         ensures err { OnErr result (self.new ≡ self.old) }
     {
         let place = name.0 as usize;
@@ -305,7 +311,8 @@ impl Graph {
         Ok(())
     }
 
-    /// The value of the property. A bound one is evaluated where it may have changed, after what it reads, each name once.
+    /// The value of the property. A bound one is evaluated where it may have changed, after what it reads, each name
+    /// once.
     /// Where memory is wanting, some names may have been read.
     pub fn read<L: Ledgers>(
         &mut self,
@@ -313,16 +320,17 @@ impl Graph {
         name: Name,
         work: &mut Work<L>,
     ) -> Result<Value, GraphError>
-        ensures answer { IsAnswer GraphError.Memory (unknown_refusal name self.old.entries) result }
+        ensures answer { IsAnswer GraphError.Memory (refusals.unknown_refusal name self.old.entries) result }
         ensures value { IfOk result (λ value. value ≡ eager self.old.entries name.0) }
         ensures again { marked self.old.unread name.0 ≡ false → self.new ≡ self.old }
-        ensures ok { OnOk result (self.new ≡ after_read name.0 self.old) }
-        ensures memory { result ≡ Err GraphError.Memory → IsReadInPart name.0 self.old self.new }
+        ensures ok { OnOk result (self.new ≡ changes.after_read name.0 self.old) }
+        ensures memory { result ≡ Err GraphError.Memory → changes.IsReadInPart name.0 self.old self.new }
         ensures refused { IfErr result (λ error. error ≢ GraphError.Memory → self.new ≡ self.old) }
 
         // How often an expression was evaluated: at most once for each bound unread name that this one needs.
         ensures cost { work.new.evaluated ≤ work.old.evaluated + evaluations self.old.entries name.0 self.old.unread }
-        ensures steps { OnOk result (work.new.evaluated + bound_unread self.old.entries self.new.unread ≡ work.old.evaluated + bound_unread self.old.entries self.old.unread) }
+        ensures steps { OnOk result (work.new.evaluated + bound_unread self.old.entries self.new.unread
+            ≡ work.old.evaluated + bound_unread self.old.entries self.old.unread) }
         ensures others { work.new ≡ record work.old { evaluated = work.new.evaluated } }
     {
         if asking::is_unknown(self.entries.as_slice(), name) {
@@ -347,11 +355,12 @@ impl Graph {
         names: &[Name],
         work: &mut Work<L>,
     ) -> Result<Vec<Value>, AllocError>
-        requires { AreKnown self.old.entries names.now }
+        requires { changes.AreKnown self.old.entries names.now }
         ensures values { IfOk result (λ values. values.items ≡ map (eager self.old.entries) (numbers names.now)) }
-        ensures ok { OnOk result (self.new ≡ after_read_all (numbers names.now) self.old) }
-        ensures part { IsSomeRead self.old self.new }
-        ensures cost { work.new.evaluated ≤ work.old.evaluated + evaluations_of self.old.entries (numbers names.now) self.old.unread }
+        ensures ok { OnOk result (self.new ≡ changes.after_read_all (numbers names.now) self.old) }
+        ensures part { changes.IsSomeRead self.old self.new }
+        ensures cost { work.new.evaluated
+            ≤ work.old.evaluated + evaluations_of self.old.entries (numbers names.now) self.old.unread }
         ensures others { work.new ≡ record work.old { evaluated = work.new.evaluated } }
     {
         looking::read_each(
@@ -372,10 +381,11 @@ impl Graph {
         names: &[Name],
         work: &mut Work<L>,
     ) -> Result<Vec<Value>, AllocError>
-        requires { AreKnown self.old.entries names.now }
+        requires { changes.AreKnown self.old.entries names.now }
         ensures same { self.new ≡ self.old }
         ensures values { IfOk result (λ values. values.items ≡ map (eager self.old.entries) (numbers names.now)) }
-        ensures cost { work.new.evaluated ≤ work.old.evaluated + evaluations_of self.old.entries (numbers names.now) self.old.unread }
+        ensures cost { work.new.evaluated
+            ≤ work.old.evaluated + evaluations_of self.old.entries (numbers names.now) self.old.unread }
         ensures others { work.new ≡ record work.old { evaluated = work.new.evaluated } }
     {
         looking::look_at_each(
@@ -398,12 +408,13 @@ impl Graph {
         name: Name,
         work: &mut Work<L>,
     ) -> Result<(), GraphError>
-        ensures answer { IsAnswer GraphError.Memory (unknown_refusal name self.old.entries) result }
-        ensures ok { OnOk result (self.new ≡ after_unbind name.0 self.old) }
-        ensures memory { result ≡ Err GraphError.Memory → IsReadInPart name.0 self.old self.new }
+        ensures answer { IsAnswer GraphError.Memory (refusals.unknown_refusal name self.old.entries) result }
+        ensures ok { OnOk result (self.new ≡ changes.after_unbind name.0 self.old) }
+        ensures memory { result ≡ Err GraphError.Memory → changes.IsReadInPart name.0 self.old self.new }
         ensures refused { IfErr result (λ error. error ≢ GraphError.Memory → self.new ≡ self.old) }
         ensures cost { work.new.evaluated ≤ work.old.evaluated + evaluations self.old.entries name.0 self.old.unread }
-        ensures steps { OnOk result (work.new.evaluated + bound_unread self.old.entries self.new.unread ≡ work.old.evaluated + bound_unread self.old.entries self.old.unread) }
+        ensures steps { OnOk result (work.new.evaluated + bound_unread self.old.entries self.new.unread
+            ≡ work.old.evaluated + bound_unread self.old.entries self.old.unread) }
         ensures others { work.new ≡ record work.old { evaluated = work.new.evaluated } }
     {
         if asking::is_unknown(self.entries.as_slice(), name) {
@@ -423,10 +434,11 @@ impl Graph {
         work: &mut Work<L>,
     ) -> Result<(), AllocError>
         requires { bound_in self.old.entries place ≡ true }
-        ensures ok { OnOk result (self.new ≡ after_unbind place self.old) }
-        ensures part { OnErr result (IsReadInPart place self.old self.new) }
+        ensures ok { OnOk result (self.new ≡ changes.after_unbind place self.old) }
+        ensures part { OnErr result (changes.IsReadInPart place self.old self.new) }
         ensures cost { work.new.evaluated ≤ work.old.evaluated + evaluations self.old.entries place self.old.unread }
-        ensures steps { OnOk result (work.new.evaluated + bound_unread self.old.entries self.new.unread ≡ work.old.evaluated + bound_unread self.old.entries self.old.unread) }
+        ensures steps { OnOk result (work.new.evaluated + bound_unread self.old.entries self.new.unread
+            ≡ work.old.evaluated + bound_unread self.old.entries self.old.unread) }
         ensures others { work.new ≡ record work.old { evaluated = work.new.evaluated } }
     {
         let operands = operands_at(self.entries.as_slice(), place);
@@ -447,8 +459,8 @@ impl Graph {
 
     /// Gives names back, unless a property that stays is bound to one of them. They are never given again.
     pub fn forget(&mut self, names: &[Name]) -> Result<(), GraphError>
-        ensures answer { IsForgetAnswer names.now self.old.entries result }
-        ensures ok { OnOk result (self.new ≡ after_forget (numbers names.now) self.old) }
+        ensures answer { refusals.IsForgetAnswer names.now self.old.entries result }
+        ensures ok { OnOk result (self.new ≡ changes.after_forget (numbers names.now) self.old) }
         ensures err { OnErr result (self.new ≡ self.old) }
     {
         let refusal = forgetting::refusal(self.entries.as_slice(), self.users.as_slice(), names);
@@ -460,9 +472,9 @@ impl Graph {
     }
 
     fn forget_free(&mut self, names: &[Name])
-        requires known { unknown_name self.old.entries names.now ≡ None }
-        requires free { IsFree (numbers names.now) self.old.entries }
-        ensures { self.new ≡ after_forget (numbers names.now) self.old }
+        requires known { refusals.unknown_name self.old.entries names.now ≡ None }
+        requires free { refusals.IsFree (numbers names.now) self.old.entries }
+        ensures { self.new ≡ changes.after_forget (numbers names.now) self.old }
     {
         let left = forgetting::forget_names(
             self.entries.as_mut_slice(),
@@ -500,7 +512,7 @@ impl Graph {
 
     /// Whether the property is only published by the player.
     pub fn is_read_only(&self, name: Name) -> bool
-        ensures { result ≡ read_only_in self.now.entries name.0 }
+        ensures { result ≡ refusals.read_only_in self.now.entries name.0 }
     {
         asking::is_read_only(self.entries.as_slice(), name)
     }
@@ -514,7 +526,8 @@ impl Graph {
 
     /// Whether two known properties are of one kind.
     pub fn are_of_one_kind(&self, one: Name, other: Name) -> bool
-        ensures { result ≡ same_kind (kind_at self.now.entries one.0) (kind_at self.now.entries other.0) }
+        ensures { result ≡ same_kind (refusals.kind_at self.now.entries one.0)
+            (refusals.kind_at self.now.entries other.0) }
     {
         refusals::are_of_one_kind(self.entries.as_slice(), one, other)
     }

@@ -30,7 +30,8 @@ pub fn read_each<L: Ledgers>(
     ensures room { length stack.new ≡ length entries.now }
     ensures settled { IsSettled entries.now unread.new cache.new }
     ensures fewer { (name : ℕ) → marked unread.new name ≡ true → marked unread.old name ≡ true }
-    ensures again { ((name : ℕ) → Contains (numbers names.now) name → marked unread.old name ≡ false) → unread.new ≡ unread.old }
+    ensures again { ((name : ℕ) → Contains (numbers names.now) name → marked unread.old name ≡ false)
+        → unread.new ≡ unread.old }
     ensures values { IfOk result (λ values. values.items ≡ map (eager entries.now) (numbers names.now)) }
     ensures ok { OnOk result (unread.new ≡ after_reads entries.now (numbers names.now) unread.old) }
     ensures cost { work.new.evaluated ≤ work.old.evaluated + evaluations_of entries.now (numbers names.now) unread.old }

@@ -89,7 +89,8 @@ fn evaluate_at<L: Ledgers>(
 ) -> Result<Value, AllocError>
     requires known { place < length entries.now }
     requires evaluable { IsEvaluable (length cache.now) (entry_of entries.now place).definition }
-    ensures value { IfOk result (λ value. value ≡ value_of_definition (kept_value cache.now) (entry_of entries.now place).definition) }
+    ensures value { IfOk result (λ value. value
+        ≡ value_of_definition (kept_value cache.now) (entry_of entries.now place).definition) }
     ensures steps { OnOk result (work.new.evaluated ≡ work.old.evaluated + cond (bound_in entries.now place) 1 0) }
     ensures most { work.new.evaluated ≤ work.old.evaluated + cond (bound_in entries.now place) 1 0 }
     ensures others { work.new ≡ record work.old { evaluated = work.new.evaluated } }
@@ -136,7 +137,8 @@ fn settle_unread<L: Ledgers>(
     ensures read { OnOk result (marked unread.new name ≡ false) }
     ensures ok { OnOk result (unread.new ≡ after_reading entries.now name unread.old) }
     ensures cost { work.new.evaluated ≤ work.old.evaluated + evaluations entries.now name unread.old }
-    ensures steps { OnOk result (work.new.evaluated + bound_unread entries.now unread.new ≡ work.old.evaluated + bound_unread entries.now unread.old) }
+    ensures steps { OnOk result (work.new.evaluated + bound_unread entries.now unread.new
+        ≡ work.old.evaluated + bound_unread entries.now unread.old) }
     ensures others { work.new ≡ record work.old { evaluated = work.new.evaluated } }
 {
     push_place(stack, 0, name);
@@ -180,7 +182,8 @@ fn settle<L: Ledgers>(
     ensures read { OnOk result (marked unread.new name ≡ false) }
     ensures ok { OnOk result (unread.new ≡ after_reading entries.now name unread.old) }
     ensures cost { work.new.evaluated ≤ work.old.evaluated + evaluations entries.now name unread.old }
-    ensures steps { OnOk result (work.new.evaluated + bound_unread entries.now unread.new ≡ work.old.evaluated + bound_unread entries.now unread.old) }
+    ensures steps { OnOk result (work.new.evaluated + bound_unread entries.now unread.new
+        ≡ work.old.evaluated + bound_unread entries.now unread.old) }
     ensures others { work.new ≡ record work.old { evaluated = work.new.evaluated } }
 {
     if !unread[name] {
@@ -211,7 +214,8 @@ pub fn value_of<L: Ledgers>(
     ensures value { IfOk result (λ value. value ≡ eager entries.now name) }
     ensures ok { OnOk result (unread.new ≡ after_reading entries.now name unread.old) }
     ensures cost { work.new.evaluated ≤ work.old.evaluated + evaluations entries.now name unread.old }
-    ensures steps { OnOk result (work.new.evaluated + bound_unread entries.now unread.new ≡ work.old.evaluated + bound_unread entries.now unread.old) }
+    ensures steps { OnOk result (work.new.evaluated + bound_unread entries.now unread.new
+        ≡ work.old.evaluated + bound_unread entries.now unread.old) }
     ensures others { work.new ≡ record work.old { evaluated = work.new.evaluated } }
 {
     settle(alloc, entries, unread, cache, stack, name, work)?;

@@ -67,7 +67,8 @@ fn unknown_pair(entries: &[Entry], pairs: &[(Name, Value)]) -> Option<GraphError
 }
 
 fn read_only_pair(entries: &[Entry], pairs: &[(Name, Value)]) -> Option<GraphError>
-    ensures { result ≡ refused_first error.ReadOnly (λ (name : Named). read_only_in entries.now name.0) (pair_names pairs.now) }
+    ensures { result ≡ refused_first error.ReadOnly (λ (name : Named). read_only_in entries.now name.0)
+        (pair_names pairs.now) }
 {
     for pair in pairs {
         if is_read_only(entries, pair.0) {
@@ -89,7 +90,8 @@ fn misfit(entries: &[Entry], pairs: &[(Name, Value)]) -> Option<GraphError>
 }
 
 fn bound_pair(entries: &[Entry], pairs: &[(Name, Value)]) -> Option<GraphError>
-    ensures { result ≡ refused_first error.Bound (λ (name : Named). bound_in entries.now name.0) (pair_names pairs.now) }
+    ensures { result ≡ refused_first error.Bound (λ (name : Named). bound_in entries.now name.0)
+        (pair_names pairs.now) }
 {
     for pair in pairs {
         if is_bound(entries, pair.0) {

@@ -35,11 +35,13 @@ pub fn unbind_name<L: Ledgers>(
     ensures settled { IsSettled entries.new unread.new cache.new }
     ensures mirrors { Mirrors entries.new users.new }
     ensures part { IsPartRead entries.old name unread.old unread.new }
-    ensures entries { OnOk result (entries.new ≡ slice_set entries.old name (given true (eager entries.old name) (entry_of entries.old name))) }
+    ensures entries { OnOk result (entries.new
+        ≡ slice_set entries.old name (given true (eager entries.old name) (entry_of entries.old name))) }
     ensures kept { OnErr result (entries.new ≡ entries.old) }
     ensures unread { OnOk result (unread.new ≡ after_reading entries.old name unread.old) }
     ensures cost { work.new.evaluated ≤ work.old.evaluated + evaluations entries.old name unread.old }
-    ensures steps { OnOk result (work.new.evaluated + bound_unread entries.old unread.new ≡ work.old.evaluated + bound_unread entries.old unread.old) }
+    ensures steps { OnOk result (work.new.evaluated + bound_unread entries.old unread.new
+        ≡ work.old.evaluated + bound_unread entries.old unread.old) }
     ensures others { work.new ≡ record work.old { evaluated = work.new.evaluated } }
 {
     let value = value_of(alloc, entries, unread, cache, stack, name, work)?;

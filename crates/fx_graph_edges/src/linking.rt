@@ -113,7 +113,8 @@ pub fn relink(
     requires used { (operand : ℕ) → Contains (uses entries.now name) operand → operand < length entries.now }
     requires operands { (operand : ℕ) → Contains (numbers operands.now) operand → operand < length entries.now }
     ensures err { OnErr result (Mirrors entries.now users.new) }
-    ensures ok { OnOk result ((entry : Stored) → operands_in entry.definition ≡ numbers operands.now → Mirrors (slice_set entries.now name entry) users.new) }
+    ensures ok { OnOk result ((entry : Stored) → operands_in entry.definition ≡ numbers operands.now
+        → Mirrors (slice_set entries.now name entry) users.new) }
 {
     reserve_links(users, operands)?;
     release_at(entries, users, name);

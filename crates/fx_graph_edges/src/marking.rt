@@ -54,12 +54,15 @@ pub fn spread(
     requires mirrors { Mirrors entries.now users.now }
     requires flags { length unread.old ≡ length entries.now }
     requires places { length work.old ≡ length entries.now }
-    requires begun { (names : List ℕ) × (w : List ℕ) × (was : List Bool) × IsClosedBut entries.now was names × MarksAll names was w 0 unread.old work.old count }
+    requires begun { (names : List ℕ) × (w : List ℕ) × (was : List Bool) × IsClosedBut entries.now was names
+        × MarksAll names was w 0 unread.old work.old count }
     ensures flags { length unread.new ≡ length unread.old }
     ensures places { length work.new ≡ length work.old }
     ensures end { result ≤ length work.new }
-    ensures marks { (names w : List ℕ) (was : List Bool) → IsClosedBut entries.now was names → MarksAll names was w 0 unread.old work.old count → unread.new ≡ after_marking entries.now names was }
-    ensures listed { (names w : List ℕ) (was : List Bool) → IsClosedBut entries.now was names → MarksAll names was w 0 unread.old work.old count → Listed was unread.new work.new result }
+    ensures marks { (names w : List ℕ) (was : List Bool) → IsClosedBut entries.now was names
+        → MarksAll names was w 0 unread.old work.old count → unread.new ≡ after_marking entries.now names was }
+    ensures listed { (names w : List ℕ) (was : List Bool) → IsClosedBut entries.now was names
+        → MarksAll names was w 0 unread.old work.old count → Listed was unread.new work.new result }
 {
     let _entries = entries;
     let mut end = count;
@@ -87,12 +90,16 @@ pub fn finish(
     requires places { length work.old ≡ length entries.now }
     requires names { length newly.old ≡ length entries.now }
     requires few { length entries.now ≤ 4000000 }
-    requires begun { (names : List ℕ) × (w : List ℕ) × (was : List Bool) × IsClosedBut entries.now was names × MarksAll names was w 0 unread.old work.old count }
+    requires begun { (names : List ℕ) × (w : List ℕ) × (was : List Bool) × IsClosedBut entries.now was names
+        × MarksAll names was w 0 unread.old work.old count }
     ensures count { result ≤ length entries.now }
     ensures places { length work.new ≡ length work.old }
     ensures names { length newly.new ≡ length newly.old }
-    ensures marks { (names w : List ℕ) (was : List Bool) → IsClosedBut entries.now was names → MarksAll names was w 0 unread.old work.old count → unread.new ≡ after_marking entries.now names was }
-    ensures newly { (names w : List ℕ) (was : List Bool) → IsClosedBut entries.now was names → MarksAll names was w 0 unread.old work.old count → numbers (take result newly.new) ≡ newly_marked entries.now names was }
+    ensures marks { (names w : List ℕ) (was : List Bool) → IsClosedBut entries.now was names
+        → MarksAll names was w 0 unread.old work.old count → unread.new ≡ after_marking entries.now names was }
+    ensures newly { (names w : List ℕ) (was : List Bool) → IsClosedBut entries.now was names
+        → MarksAll names was w 0 unread.old work.old count
+        → numbers (take result newly.new) ≡ newly_marked entries.now names was }
 {
     let end = spread(entries, users, unread, work, count);
     list_newly(work, end, newly);

@@ -5,7 +5,8 @@ ghost use Rattle.std.specs.Prelude.{◌≡◌, ◌+◌, ◌<◌, ◌≤◌, ◌+
 use std::alloc::{AllocError, Global};
 use std::marker::Model;
 
-/// Who reads a property, by places in the store; who reads it twice stands here twice. Contracts see these places and for
+/// Who reads a property, by places in the store; who reads it twice stands here twice. Contracts see these places and
+/// for
 /// how many more there is room.
 #[derive(Drop)]
 pub struct Users {
@@ -18,7 +19,11 @@ impl Model for Users {
 
     ghost Value = { Row };
 
-    ghost view = { λ users. record { items = users.places.items; room = vec_capacity users.places - vec_len users.places } };
+    ghost view = { λ users. record {
+      items = users.places.items;
+      room = vec_capacity users.places - vec_len
+          users.places;
+    } };
 }
 
 impl Users {

@@ -202,7 +202,8 @@ pub fn constraint_value(alloc: Global, name: &str, text: &str) -> Result<Option<
 
 /// One text spells one value of a constraint at most.
 pub fn one_constraint_value()
-    ensures { (name text : List ℕ) (v w : Property) → IsConstraintValue name text v → IsConstraintValue name text w → v ≡ w }
+    ensures { (name text : List ℕ) (v w : Property) → IsConstraintValue name text v → IsConstraintValue name text w
+        → v ≡ w }
 {}
 
 impl ConstraintRow {
@@ -236,7 +237,8 @@ pub fn each_constraint_named()
 {}
 
 fn find_entry(table: &[ConstraintRow], name: &str) -> Option<ConstraintRow>
-    ensures { option_map constraint_entry result ≡ find (λ (e : ConstraintEntry). bytes_eq e.name name.now) (map constraint_entry table.now) }
+    ensures { option_map constraint_entry result
+        ≡ find (λ (e : ConstraintEntry). bytes_eq e.name name.now) (map constraint_entry table.now) }
 {
     find_row(table, name)
 }

@@ -245,15 +245,20 @@ fn find_row(list: &[Property], name: &str) -> Option<usize>
 
 /// The declaration that styles a property names it back, and its values are of the property's kind.
 pub fn styled_back()
-    ensures { (row : PropertyRow) → Contains rows row → (place : ℕ) → styled_by row.name ≡ Some place → (style : StyleRow) × (style_at place ≡ Some style) × (style.property ≡ Some row.name) × (kind_of_form style.form ≡ Some row.kind) }
+    ensures { (row : PropertyRow) → Contains rows row → (place : ℕ) → styled_by row.name ≡ Some place
+        → (style : StyleRow) × (style_at place ≡ Some style) × (style.property ≡ Some row.name)
+        × (kind_of_form style.form ≡ Some row.kind) }
 {}
 
 /// A declaration that styles a property is that property's.
 pub fn each_styled()
-    ensures { (place : ℕ) (style : StyleRow) (property : List ℕ) → style_at place ≡ Some style → style.property ≡ Some property → (row : PropertyRow) × Contains rows row × (row.name ≡ property) × (styled_by row.name ≡ Some place) }
+    ensures { (place : ℕ) (style : StyleRow) (property : List ℕ) → style_at place ≡ Some style
+        → style.property ≡ Some property → (row : PropertyRow) × Contains rows row × (row.name ≡ property)
+        × (styled_by row.name ≡ Some place) }
 {}
 
 /// No two properties of a class share a name.
 pub fn one_property()
-    ensures { (class : ClassName) (i j : ℕ) (p q : ListedProperty) → slice_get (properties_of class) i ≡ Some p → slice_get (properties_of class) j ≡ Some q → p.name ≡ q.name → i ≡ j }
+    ensures { (class : ClassName) (i j : ℕ) (p q : ListedProperty) → slice_get (properties_of class) i ≡ Some p
+        → slice_get (properties_of class) j ≡ Some q → p.name ≡ q.name → i ≡ j }
 {}

@@ -1,7 +1,7 @@
 //! One listener, and what is found among listeners that are sorted by property. `Listeners` keeps one such list.
 ghost use Rattle.std.specs.Prelude.{◌≡◌, ◌==◌, false, ◌&&◌, ◌++◌, ◌<◌, ◌≤◌, drop, filter, length, map, position, slice_range, take, vec_capacity, vec_len, IfNone, IfOk, IfSome, OnErr, OnOk};
 ghost use Rattle.std.specs.List.{list_any};
-ghost use Rattle.fx_listen.specs.Listening.{has_life, is_elsewhere, is_equal, is_live, living_in, numbers_of, placed, pruned, tells, without_first};
+ghost use Rattle.fx_listen.specs.Listening as spec;
 ghost use Rattle.fx_listen.specs.Sorting.{IsByName, IsFirst, is_above, is_below, is_from, is_heard, is_on, is_upto};
 
 use fx_base::Name;
@@ -32,7 +32,7 @@ pub struct Listener {
 
 /// Whether there is no owner, or a living one.
 pub fn has_life(owners: &Owners, owner: Option<Owner>) -> bool
-    ensures { result ≡ has_life owners.now.living owner }
+    ensures { result ≡ spec.has_life owners.now.living owner }
 {
     match owner {
         None => true,
@@ -42,7 +42,7 @@ pub fn has_life(owners: &Owners, owner: Option<Owner>) -> bool
 
 impl Listener {
     fn is_live(&self, owners: &Owners) -> bool
-        ensures { result ≡ is_live owners.now.living self.now }
+        ensures { result ≡ spec.is_live owners.now.living self.now }
     {
         has_life(owners, self.owner)
     }
@@ -54,13 +54,13 @@ impl Listener {
     }
 
     fn tells(&self, name: Name, kind: ListenKind) -> bool
-        ensures { result ≡ tells name.0 kind self.now }
+        ensures { result ≡ spec.tells name.0 kind self.now }
     {
         self.name == name && self.kind == kind
     }
 
     fn is_equal(&self, name: Name, kind: ListenKind, owner: Option<Owner>, tag: u32) -> bool
-        ensures { result ≡ is_equal name.0 kind owner tag self.now }
+        ensures { result ≡ spec.is_equal name.0 kind owner tag self.now }
     {
         self.tells(name, kind) && self.owner == owner && self.tag == tag
     }
@@ -94,7 +94,8 @@ fn places_on(listeners: &[Listener], name: Name) -> (usize, usize)
     ensures before { take result.0 listeners.now ≡ filter (is_below name.0) listeners.now }
     ensures found { slice_range listeners.now result.0 result.1 ≡ filter (is_on name.0) listeners.now }
     ensures behind { drop result.1 listeners.now ≡ filter (is_above name.0) listeners.now }
-    ensures others { take result.0 listeners.now ++ drop result.1 listeners.now ≡ filter (is_elsewhere name.0) listeners.now }
+    ensures others { take result.0 listeners.now ++ drop result.1 listeners.now
+        ≡ filter (spec.is_elsewhere name.0) listeners.now }
 {
     (count_below(listeners, name), count_upto(listeners, name))
 }
@@ -115,7 +116,8 @@ pub fn numbers_heard(
     listeners: &[Listener],
     kind: ListenKind,
 ) -> Result<Vec<u32>, AllocError>
-    ensures { IfOk result (λ numbers. numbers.items ≡ numbers_of (filter (is_heard owners.now.living kind) listeners.now)) }
+    ensures { IfOk result (λ numbers. numbers.items
+        ≡ spec.numbers_of (filter (is_heard owners.now.living kind) listeners.now)) }
 {
     listeners
         .iter()
@@ -151,14 +153,15 @@ pub fn is_any_heard(owners: &Owners, listeners: &[Listener], kind: ListenKind) -
 
 /// Whether the listener of this number is among them and lives.
 pub fn is_listening(owners: &Owners, listeners: &[Listener], number: u32) -> bool
-    ensures { result ≡ list_any (λ listener. (listener.number == number) && is_live owners.now.living listener) listeners.now }
+    ensures { result ≡ list_any (λ listener. (listener.number == number) && spec.is_live owners.now.living listener)
+        listeners.now }
 {
     listeners.iter().any(|listener| listener.number == number && listener.is_live(owners))
 }
 
 /// How many of them live.
 pub fn count_live(owners: &Owners, listeners: &[Listener]) -> usize
-    ensures { result ≡ length (living_in owners.now.living listeners.now) }
+    ensures { result ≡ length (spec.living_in owners.now.living listeners.now) }
 {
     listeners
         .iter()
@@ -174,7 +177,7 @@ fn place_among(
     owner: Option<Owner>,
     tag: u32,
 ) -> Option<usize>
-    ensures { result ≡ position (is_equal name.0 kind owner tag) listeners.now }
+    ensures { result ≡ position (spec.is_equal name.0 kind owner tag) listeners.now }
 {
     listeners
         .iter()
@@ -190,8 +193,8 @@ pub fn place_of(
     tag: u32,
 ) -> Option<usize>
     requires { IsByName listeners.now }
-    ensures first { IfSome result (IsFirst (is_equal name.0 kind owner tag) listeners.now) }
-    ensures none { IfNone result (list_any (is_equal name.0 kind owner tag) listeners.now ≡ false) }
+    ensures first { IfSome result (IsFirst (spec.is_equal name.0 kind owner tag) listeners.now) }
+    ensures none { IfNone result (list_any (spec.is_equal name.0 kind owner tag) listeners.now ≡ false) }
 {
     let (first, next) = places_on(listeners, name);
     let place = place_among(&listeners[first..next], name, kind, owner, tag)?;
@@ -200,8 +203,8 @@ pub fn place_of(
 
 /// Takes the dead out where they are more than half.
 fn prune(listeners: &mut Vec<Listener>, owners: &Owners, live: usize)
-    requires { live ≡ length (living_in owners.now.living listeners.old.items) }
-    ensures pruned { listeners.new.items ≡ pruned owners.now.living listeners.old.items }
+    requires { live ≡ length (spec.living_in owners.now.living listeners.old.items) }
+    ensures spec.pruned { listeners.new.items ≡ spec.pruned owners.now.living listeners.old.items }
     ensures room { vec_capacity listeners.new ≡ vec_capacity listeners.old }
     ensures fewer { vec_len listeners.new ≤ vec_len listeners.old }
 {
@@ -214,7 +217,7 @@ fn prune(listeners: &mut Vec<Listener>, owners: &Owners, live: usize)
 fn insert(listeners: &mut Vec<Listener>, listener: Listener)
     requires sorted { IsByName listeners.old.items }
     requires room { vec_len listeners.old < vec_capacity listeners.old }
-    ensures { listeners.new.items ≡ placed listener listeners.old.items }
+    ensures { listeners.new.items ≡ spec.placed listener listeners.old.items }
 {
     let place = count_upto(listeners.as_slice(), listener.name);
     match listeners.insert(place, listener) {
@@ -231,8 +234,9 @@ pub fn add(
     listener: Listener,
 ) -> Result<(), AllocError>
     requires sorted { IsByName listeners.old.items }
-    requires counted { live ≡ length (living_in owners.now.living listeners.old.items) }
-    ensures ok { OnOk result (listeners.new.items ≡ placed listener (pruned owners.now.living listeners.old.items)) }
+    requires counted { live ≡ length (spec.living_in owners.now.living listeners.old.items) }
+    ensures ok { OnOk result (listeners.new.items
+        ≡ spec.placed listener (spec.pruned owners.now.living listeners.old.items)) }
     ensures err { OnErr result (listeners.new.items ≡ listeners.old.items) }
 {
     listeners.reserve(1)?;
@@ -250,8 +254,9 @@ pub fn remove_first(
     tag: u32,
 ) -> bool
     requires { IsByName listeners.old.items }
-    ensures found { result ≡ list_any (is_equal name.0 kind owner tag) listeners.old.items }
-    ensures removed { listeners.new.items ≡ without_first (is_equal name.0 kind owner tag) listeners.old.items }
+    ensures found { result ≡ list_any (spec.is_equal name.0 kind owner tag) listeners.old.items }
+    ensures removed { listeners.new.items
+        ≡ spec.without_first (spec.is_equal name.0 kind owner tag) listeners.old.items }
 {
     match place_of(listeners.as_slice(), name, kind, owner, tag) {
         None => false,
@@ -265,7 +270,7 @@ pub fn remove_first(
 /// Takes out all on the property.
 pub fn forget(listeners: &mut Vec<Listener>, name: Name)
     requires { IsByName listeners.old.items }
-    ensures { listeners.new.items ≡ filter (is_elsewhere name.0) listeners.old.items }
+    ensures { listeners.new.items ≡ filter (spec.is_elsewhere name.0) listeners.old.items }
 {
     let (first, next) = places_on(listeners.as_slice(), name);
     listeners.drain(first..next);

@@ -7,7 +7,7 @@ mod laws;
 
 ghost use Rattle.fx_listen.specs.declared.ListenError.TheVariants.{Memory};
 ghost use Rattle.fx_base.specs.Answers.{IsAnswer};
-ghost use Rattle.fx_listen.specs.Listening.{IsSound, add_refusal, after_add, after_forget, after_remove, is_equal, is_live, nobody, numbers_of, same_kind, tells};
+ghost use Rattle.fx_listen.specs.Listening as spec;
 ghost use Rattle.std.specs.List.{list_any};
 ghost use Rattle.std.specs.Prelude.{◌≡◌, ◌==◌, ◌&&◌, ◌+◌, filter, IfOk, OnErr, OnOk};
 
@@ -70,13 +70,13 @@ impl Model for Listeners {
 
     ghost view = { λ l. record { entries = l.entries.items; given = l.given } };
 
-    ghost invariant = { λ l. IsSound (record { entries = l.entries.items; given = l.given }) };
+    ghost invariant = { λ l. spec.IsSound (record { entries = l.entries.items; given = l.given }) };
 }
 
 impl Listeners {
     /// Nobody listens.
     pub fn new(alloc: Global) -> Listeners
-        ensures { result ≡ nobody }
+        ensures { result ≡ spec.nobody }
     {
         Listeners {
             entries: Vec::new(alloc),
@@ -94,9 +94,11 @@ impl Listeners {
         owner: Option<Owner>,
         tag: u32,
     ) -> Result<u32, ListenError>
-        ensures answer { IsAnswer ListenError.Memory (add_refusal owners.now.living owner self.old) result }
+        ensures answer { IsAnswer ListenError.Memory (spec.add_refusal owners.now.living owner self.old) result }
         ensures number { IfOk result (λ number. number ≡ self.old.given + 1) }
-        ensures ok { OnOk result (self.new ≡ after_add owners.now.living (record { number = self.old.given + 1; name = name; kind = kind; owner = owner; tag = tag }) self.old) }
+        ensures ok { OnOk result (self.new
+            ≡ spec.after_add owners.now.living
+            (record { number = self.old.given + 1; name = name; kind = kind; owner = owner; tag = tag }) self.old) }
         ensures err { OnErr result (self.new ≡ self.old) }
     {
         if !has_life(owners, owner) {
@@ -121,7 +123,7 @@ impl Listeners {
 
     /// Why a listener with this owner may not be added, if it may not.
     pub fn refuses_add(&self, owners: &Owners, owner: Option<Owner>) -> Option<ListenError>
-        ensures { result ≡ add_refusal owners.now.living owner self.now }
+        ensures { result ≡ spec.add_refusal owners.now.living owner self.now }
     {
         if !has_life(owners, owner) {
             return Some(ListenError::StaleOwner);
@@ -141,15 +143,15 @@ impl Listeners {
         owner: Option<Owner>,
         tag: u32,
     ) -> bool
-        ensures found { result ≡ list_any (is_equal name.0 kind owner tag) self.old.entries }
-        ensures removed { self.new ≡ after_remove (is_equal name.0 kind owner tag) self.old }
+        ensures found { result ≡ list_any (spec.is_equal name.0 kind owner tag) self.old.entries }
+        ensures removed { self.new ≡ spec.after_remove (spec.is_equal name.0 kind owner tag) self.old }
     {
         entries::remove_first(&mut self.entries, name, kind, owner, tag)
     }
 
     /// Removes all listeners of the property.
     pub fn forget(&mut self, name: Name)
-        ensures { self.new ≡ after_forget name.0 self.old }
+        ensures { self.new ≡ spec.after_forget name.0 self.old }
     {
         entries::forget(&mut self.entries, name);
     }
@@ -162,7 +164,9 @@ impl Listeners {
         name: Name,
         kind: ListenKind,
     ) -> Result<Vec<u32>, AllocError>
-        ensures { IfOk result (λ numbers. numbers.items ≡ numbers_of (filter (λ listener. tells name.0 kind listener && is_live owners.now.living listener) self.now.entries)) }
+        ensures { IfOk result (λ numbers. numbers.items
+            ≡ spec.numbers_of (filter (λ listener. spec.tells name.0 kind listener && spec.is_live owners.now.living listener)
+            self.now.entries)) }
     {
         let found = listeners_on(self.entries.as_slice(), name);
         numbers_heard(alloc, owners, found, kind)
@@ -175,14 +179,17 @@ impl Listeners {
         owners: &Owners,
         kind: ListenKind,
     ) -> Result<Vec<Listener>, AllocError>
-        ensures { IfOk result (λ listeners. listeners.items ≡ filter (λ listener. same_kind listener.kind kind && is_live owners.now.living listener) self.now.entries) }
+        ensures { IfOk result (λ listeners. listeners.items
+            ≡ filter (λ listener. spec.same_kind listener.kind kind && spec.is_live owners.now.living listener)
+            self.now.entries) }
     {
         heard(alloc, owners, self.entries.as_slice(), kind)
     }
 
     /// Whether the property has a live change listener.
     pub fn has_change(&self, owners: &Owners, name: Name) -> bool
-        ensures { result ≡ list_any (λ listener. tells name.0 ListenKind.Change listener && is_live owners.now.living listener) self.now.entries }
+        ensures { result ≡ list_any (λ listener. spec.tells name.0 ListenKind.Change listener
+            && spec.is_live owners.now.living listener) self.now.entries }
     {
         let found = listeners_on(self.entries.as_slice(), name);
         is_any_heard(owners, found, ListenKind::Change)
@@ -190,14 +197,15 @@ impl Listeners {
 
     /// Whether the listener of this number is there and live.
     pub fn is_listening(&self, owners: &Owners, number: u32) -> bool
-        ensures { result ≡ list_any (λ listener. (listener.number == number) && is_live owners.now.living listener) self.now.entries }
+        ensures { result ≡ list_any (λ listener. (listener.number == number) && spec.is_live owners.now.living listener)
+            self.now.entries }
     {
         entries::is_listening(owners, self.entries.as_slice(), number)
     }
 
     /// What is true of the table at all times.
     pub fn laws(&self)
-        ensures { IsSound self.now }
+        ensures { spec.IsSound self.now }
     {
         let _ = &self.entries;
     }

@@ -1,5 +1,5 @@
 -- Scenes: the nodes that a document means, where it is a pane with regions.
-use Rattle.std.specs.Prelude.{ℕ, Bool, true, ◌&&◌, ◌||◌, ◌+◌, ◌*◌, ◌-◌, List, [], ◌∷◌, ◌++◌, Option, Some, None, codes, drop, length, nat_eq, nat_le, not, is_some, if◌then◌else◌}
+use Rattle.std.specs.Prelude.{ℕ, Bool, true, ◌&&◌, ◌||◌, ◌+◌, ◌*◌, List, [], ◌∷◌, ◌++◌, Option, Some, None, codes, drop, length, nat_eq, nat_le, not, is_some, if◌then◌else◌}
 use Rattle.std.specs.List.{filter_map, find, list_all, list_any, starts_with}
 use Rattle.std.specs.Option.{option_and_then, option_map, unwrap_or}
 use Rattle.fx_text.specs.Classes.{hex_value, is_identifier}

@@ -4,7 +4,7 @@ ghost use Rattle.std.specs.List.{find, list_all, list_any};
 ghost use Rattle.std.specs.Option.{option_and_then, option_map, option_map_or};
 ghost use Rattle.fx_doc.specs.Views.{attr_view, nodes_of, onto, onto_element, reading};
 ghost use Rattle.fx_doc_grammar.specs.Grammar.{Nothing};
-ghost use Rattle.fx_load.specs.Scene.{all_differ, checked, color_of_digits, color_of_style, has_both_sizes, has_name, hex_pair, is_good_id, is_good_place, is_good_size, is_good_style, is_pane, is_pane_attribute, is_region, is_region_attribute, names_of, node_of, number_at, pane_of, pane_with_regions, region_named, region_of, regions_of, scene_of, value_at};
+ghost use Rattle.fx_load.specs.Scene as spec;
 ghost use Rattle.fx_text.specs.Classes.{hex_value};
 ghost use Rattle.std.specs.Str.{bytes_eq};
 ghost use Rattle.fx_script.specs.Script.{small_number};
@@ -21,7 +21,7 @@ use std::alloc::{AllocError, Global};
 /// The nodes in document order, the pane first, if the document is a pane with regions.
 #[tactic(auto, unfolding(crate::specs::Scene::scene_of))]
 pub fn scene_nodes(alloc: Global, document: &Document) -> Result<Option<Vec<Node>>, AllocError>
-    ensures { IfOk result (λ nodes. option_map (λ v. v.items) nodes ≡ scene_of (reading document.now)) }
+    ensures { IfOk result (λ nodes. option_map (λ v. v.items) nodes ≡ spec.scene_of (reading document.now)) }
 {
     if !imports_layout(document.imports.as_slice()) {
         return Ok(None);
@@ -39,7 +39,7 @@ fn imports_layout(imports: &[Text]) -> bool
 
 fn pane_with_regions(alloc: Global, root: &Element) -> Result<Option<Vec<Node>>, AllocError>
     ensures { IfOk result (λ nodes. option_map (λ v. v.items) nodes ≡
-        pane_with_regions (onto_element root.now Nothing)) }
+        spec.pane_with_regions (onto_element root.now Nothing)) }
 {
     if root.name.as_str() != "Pane" {
         return Ok(None);
@@ -62,7 +62,7 @@ fn push_regions(
     nodes: &mut Vec<Node>,
 ) -> Result<bool, AllocError>
     ensures { IfOk result (λ all.
-        RegionsPushed all (regions_of (nodes_of content.now)) nodes.old.items nodes.new.items) }
+        RegionsPushed all (spec.regions_of (nodes_of content.now)) nodes.old.items nodes.new.items) }
 {
     for part in content {
         match region_of_part(alloc, part)? {
@@ -97,7 +97,7 @@ fn region_named(
     name: &str,
     attributes: &[Attribute],
 ) -> Result<Option<Node>, AllocError>
-    ensures { IfOk result (λ region. region ≡ region_named name.now (map attr_view attributes.now) Nothing) }
+    ensures { IfOk result (λ region. region ≡ spec.region_named name.now (map attr_view attributes.now) Nothing) }
 {
     if name == "Region" {
         region_of(alloc, attributes)
@@ -107,7 +107,7 @@ fn region_named(
 }
 
 fn region_of(alloc: Global, attributes: &[Attribute]) -> Result<Option<Node>, AllocError>
-    ensures { IfOk result (λ region. region ≡ region_of (map attr_view attributes.now)) }
+    ensures { IfOk result (λ region. region ≡ spec.region_of (map attr_view attributes.now)) }
 {
     if is_region(attributes) {
         Ok(Some(node_of(alloc, attributes)?))
@@ -117,7 +117,7 @@ fn region_of(alloc: Global, attributes: &[Attribute]) -> Result<Option<Node>, Al
 }
 
 fn pane_of(alloc: Global, attributes: &[Attribute]) -> Result<Option<Node>, AllocError>
-    ensures { IfOk result (λ pane. pane ≡ pane_of (map attr_view attributes.now)) }
+    ensures { IfOk result (λ pane. pane ≡ spec.pane_of (map attr_view attributes.now)) }
 {
     if is_pane(attributes) {
         Ok(Some(node_of(alloc, attributes)?))
@@ -127,44 +127,44 @@ fn pane_of(alloc: Global, attributes: &[Attribute]) -> Result<Option<Node>, Allo
 }
 
 fn is_region(attributes: &[Attribute]) -> bool
-    ensures { result ≡ is_region (map attr_view attributes.now) }
+    ensures { result ≡ spec.is_region (map attr_view attributes.now) }
 {
     is_region_attribute_each(attributes)
 }
 
 fn is_region_attribute_each(attributes: &[Attribute]) -> bool
-    ensures { result ≡ list_all (λ a. is_region_attribute (attr_view a)) attributes.now }
+    ensures { result ≡ list_all (λ a. spec.is_region_attribute (attr_view a)) attributes.now }
 {
     attributes.iter().all(|a| is_region_attribute(a))
 }
 
 fn is_pane(attributes: &[Attribute]) -> bool
-    ensures { result ≡ is_pane (map attr_view attributes.now) }
+    ensures { result ≡ spec.is_pane (map attr_view attributes.now) }
 {
     are_pane_attributes(attributes) && has_both_sizes(attributes)
 }
 
 fn has_both_sizes(attributes: &[Attribute]) -> bool
-    ensures { result ≡ has_both_sizes (map attr_view attributes.now) }
+    ensures { result ≡ spec.has_both_sizes (map attr_view attributes.now) }
 {
     number_at(attributes, "prefWidth").is_some() && number_at(attributes, "prefHeight").is_some()
 }
 
 fn are_pane_attributes(attributes: &[Attribute]) -> bool
-    ensures { result ≡ list_all is_pane_attribute (map attr_view attributes.now) }
+    ensures { result ≡ list_all spec.is_pane_attribute (map attr_view attributes.now) }
 {
     is_pane_attribute_each(attributes)
 }
 
 fn is_pane_attribute_each(attributes: &[Attribute]) -> bool
-    ensures { result ≡ list_all (λ a. is_pane_attribute (attr_view a)) attributes.now }
+    ensures { result ≡ list_all (λ a. spec.is_pane_attribute (attr_view a)) attributes.now }
 {
     attributes.iter().all(|a| is_pane_attribute(a))
 }
 
 #[tactic(auto, unfolding(crate::specs::Scene::node_of))]
 fn node_of(alloc: Global, attributes: &[Attribute]) -> Result<Node, AllocError>
-    ensures { IfOk result (λ node. node ≡ node_of (map attr_view attributes.now)) }
+    ensures { IfOk result (λ node. node ≡ spec.node_of (map attr_view attributes.now)) }
 {
     Ok(Node {
         name: text_at(alloc, attributes, "fx:id")?,
@@ -178,19 +178,19 @@ fn node_of(alloc: Global, attributes: &[Attribute]) -> Result<Node, AllocError>
 
 /// The attribute of this name.
 fn attribute_at<'a>(attributes: &'a [Attribute], name: &str) -> Option<&'a Attribute>
-    ensures { option_map (λ a. attr_view a.now) result ≡ find (has_name name.now) (map attr_view attributes.now) }
+    ensures { option_map (λ a. attr_view a.now) result ≡ find (spec.has_name name.now) (map attr_view attributes.now) }
 {
     first_named(attributes, name)
 }
 
 fn first_named<'a>(attributes: &'a [Attribute], name: &str) -> Option<&'a Attribute>
-    ensures { option_map (λ a. a.now) result ≡ find (λ a. has_name name.now (attr_view a)) attributes.now }
+    ensures { option_map (λ a. a.now) result ≡ find (λ a. spec.has_name name.now (attr_view a)) attributes.now }
 {
     attributes.iter().find(|a| has_name(a, name))
 }
 
 fn text_at(alloc: Global, attributes: &[Attribute], name: &str) -> Result<Option<Text>, AllocError>
-    ensures { IfOk result (λ text. text ≡ value_at (map attr_view attributes.now) name.now) }
+    ensures { IfOk result (λ text. text ≡ spec.value_at (map attr_view attributes.now) name.now) }
 {
     match attribute_at(attributes, name) {
         Some(attribute) => Ok(Some(attribute.value.copy(alloc)?)),
@@ -199,7 +199,7 @@ fn text_at(alloc: Global, attributes: &[Attribute], name: &str) -> Result<Option
 }
 
 fn number_at(attributes: &[Attribute], name: &str) -> Option<u32>
-    ensures { result ≡ number_at (map attr_view attributes.now) name.now }
+    ensures { result ≡ spec.number_at (map attr_view attributes.now) name.now }
 {
     match attribute_at(attributes, name) {
         Some(attribute) => small_number(attribute.value.as_str().as_bytes()),
@@ -208,7 +208,7 @@ fn number_at(attributes: &[Attribute], name: &str) -> Option<u32>
 }
 
 fn color_at(attributes: &[Attribute], name: &str) -> Option<Color>
-    ensures { result ≡ option_and_then color_of_style (value_at (map attr_view attributes.now) name.now) }
+    ensures { result ≡ option_and_then spec.color_of_style (spec.value_at (map attr_view attributes.now) name.now) }
 {
     match attribute_at(attributes, name) {
         Some(attribute) => color_of_style(attribute.value.as_str().as_bytes()),
@@ -218,20 +218,20 @@ fn color_at(attributes: &[Attribute], name: &str) -> Option<Color>
 
 #[tactic(auto, unfolding(crate::specs::Scene::is_region_attribute))]
 fn is_region_attribute(a: &Attribute) -> bool
-    ensures { result ≡ is_region_attribute (attr_view a.now) }
+    ensures { result ≡ spec.is_region_attribute (attr_view a.now) }
 {
     (is_good_id(a) || is_good_size(a)) || (is_good_place(a) || is_good_style(a))
 }
 
 #[tactic(auto, unfolding(crate::specs::Scene::is_pane_attribute))]
 fn is_pane_attribute(a: &Attribute) -> bool
-    ensures { result ≡ is_pane_attribute (attr_view a.now) }
+    ensures { result ≡ spec.is_pane_attribute (attr_view a.now) }
 {
     is_good_id(a) || is_good_size(a)
 }
 
 fn has_name(a: &Attribute, name: &str) -> bool
-    ensures { result ≡ has_name name.now (attr_view a.now) }
+    ensures { result ≡ spec.has_name name.now (attr_view a.now) }
 {
     a.name.as_str() == name
 }
@@ -243,25 +243,25 @@ fn is_small_number(a: &Attribute) -> bool
 }
 
 fn is_good_id(a: &Attribute) -> bool
-    ensures { result ≡ is_good_id (attr_view a.now) }
+    ensures { result ≡ spec.is_good_id (attr_view a.now) }
 {
     has_name(a, "fx:id") && is_identifier(a.value.as_str())
 }
 
 fn is_good_size(a: &Attribute) -> bool
-    ensures { result ≡ is_good_size (attr_view a.now) }
+    ensures { result ≡ spec.is_good_size (attr_view a.now) }
 {
     (has_name(a, "prefWidth") || has_name(a, "prefHeight")) && is_small_number(a)
 }
 
 fn is_good_place(a: &Attribute) -> bool
-    ensures { result ≡ is_good_place (attr_view a.now) }
+    ensures { result ≡ spec.is_good_place (attr_view a.now) }
 {
     (has_name(a, "layoutX") || has_name(a, "layoutY")) && is_small_number(a)
 }
 
 fn is_good_style(a: &Attribute) -> bool
-    ensures { result ≡ is_good_style (attr_view a.now) }
+    ensures { result ≡ spec.is_good_style (attr_view a.now) }
 {
     has_name(a, "style") && color_of_style(a.value.as_str().as_bytes()).is_some()
 }
@@ -269,7 +269,7 @@ fn is_good_style(a: &Attribute) -> bool
 /// `-fx-background-color:#rrggbb`.
 #[tactic(auto, unfolding(crate::specs::Scene::color_of_style))]
 fn color_of_style(style: &[u8]) -> Option<Color>
-    ensures { result ≡ color_of_style style.now }
+    ensures { result ≡ spec.color_of_style style.now }
 {
     if style.starts_with(b"-fx-background-color:#") {
         color_of_digits(style.split_at(22).1)
@@ -280,7 +280,7 @@ fn color_of_style(style: &[u8]) -> Option<Color>
 
 #[tactic(auto, unfolding(crate::specs::Scene::color_of_digits))]
 fn color_of_digits(digits: &[u8]) -> Option<Color>
-    ensures { result ≡ color_of_digits digits.now }
+    ensures { result ≡ spec.color_of_digits digits.now }
 {
     match digits {
         [a, b, c, d, e, f] => Some(Color {
@@ -295,7 +295,7 @@ fn color_of_digits(digits: &[u8]) -> Option<Color>
 
 /// At most 4,000 regions beside the pane, and no two nodes of one name. Compares each name with those behind it.
 fn checked(nodes: Vec<Node>) -> Option<Vec<Node>>
-    ensures { option_map (λ v. v.items) result ≡ checked nodes.items }
+    ensures { option_map (λ v. v.items) result ≡ spec.checked nodes.items }
 {
     if nodes.len() <= 4001 && all_differ(nodes.as_slice()) {
         Some(nodes)
@@ -305,7 +305,7 @@ fn checked(nodes: Vec<Node>) -> Option<Vec<Node>>
 }
 
 fn all_differ(nodes: &[Node]) -> bool
-    ensures { result ≡ all_differ (names_of nodes.now) }
+    ensures { result ≡ spec.all_differ (spec.names_of nodes.now) }
 {
     for i in 0..nodes.len() {
         if !differs(&nodes[i], nodes.split_at(i + 1).1) {

@@ -1,5 +1,4 @@
 pub mod ColorLemmas
-pub use Rattle.fx_text.proofs.FrontLemmas
 pub mod InsetLemmas
 pub mod DecimalLemmas
 pub mod NumberLemmas

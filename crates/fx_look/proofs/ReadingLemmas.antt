@@ -19,7 +19,6 @@ use Rattle.fx_look.specs.Insets.{sides_at}
 use Rattle.fx_look.specs.Readings.{IsTruth, IsValue, truth_at, place_of, text_at, value_at}
 use Rattle.fx_look.proofs.NumberLemmas.{number_sound, number_complete}
 use Rattle.fx_look.proofs.ColorLemmas.{letters_decide, color_sound, color_complete}
-pub use Rattle.fx_look.proofs.TableLemmas.{position-map}
 use Rattle.fx_look.proofs.TableLemmas.{all_first, first_of_name}
 use Rattle.fx_look.proofs.InsetLemmas.{sides_sound, sides_complete, numbers_read}
 

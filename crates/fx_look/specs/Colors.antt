@@ -9,7 +9,7 @@ use Rattle.fx_text.specs.Characters.{comma, number_sign, right_parenthesis}
 use Rattle.fx_text.specs.Classes.{hex_value}
 use Rattle.fx_text.specs.Digits.{number_of_digits}
 use Rattle.fx_text.specs.Fronts.{behind}
-pub use Rattle.fx_text.specs.Classes.{is_white}
+use Rattle.fx_text.specs.Classes.{is_white}
 use Rattle.fx_look.specs.Decimals.{Decimal, IsDecimal, decimal_at}
 use Rattle.fx_look.specs.ColorNames.{names}
 

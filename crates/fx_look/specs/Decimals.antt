@@ -6,7 +6,7 @@ use Rattle.std.specs.Char.{is_ascii_digit}
 use Rattle.std.specs.Option.{option_and_then, option_map}
 use Rattle.fx_text.specs.Characters.{hyphen, plus_sign, full_stop}
 use Rattle.fx_text.specs.Digits.{IsDigits}
-pub use Rattle.fx_text.specs.Fronts.{front, behind}
+use Rattle.fx_text.specs.Fronts.{front, behind}
 
 pub record Decimal : Type 0 where
   pub negative : Bool

@@ -3,7 +3,7 @@
 ghost use Rattle.std.specs.Prelude.{◌≡◌, ◌+◌, ◌*◌, ◌/◌, ◌<◌, ◌≤◌, ◌^◌, List, ℕ, IfSome, IfNone};
 ghost use Rattle.std.specs.Option.{option_map};
 ghost use Rattle.fx_base.specs.declared.color.Color.{Color as Paint};
-ghost use Rattle.fx_look.specs.Colors.{IsColor, strip, pair_value, twice_value, hex_at, before_mark, argument_at, channel_value, opacity_value, channel_at, opacity_at, ended, rgb_at, rgba_at, three, word_at, color_at, solid};
+ghost use Rattle.fx_look.specs.Colors as spec;
 ghost use Rattle.fx_look.specs.Written.{written, decimal_and_rest, value_and_rest};
 
 use crate::color_names::named;
@@ -18,20 +18,20 @@ use fx_text::{behind_white, hex_pair, hex_value};
 /// with an `a` of at most nine decimals, clamped to 0 to 1; `transparent`; or a name in any case of letters (JavaFX
 /// CSS Reference Guide, "color", of whose names 53 are read).
 pub fn read_color(s: &str) -> Option<Color>
-    ensures found { IfSome result (IsColor s.now) }
-    ensures none { IfNone result ((c : Paint) → IsColor s.now c → ⊥) }
+    ensures found { IfSome result (spec.IsColor s.now) }
+    ensures none { IfNone result ((c : Paint) → spec.IsColor s.now c → ⊥) }
 {
     color_at(s.as_bytes())
 }
 
 /// A text spells one colour at most.
 pub fn one_color()
-    ensures { (text : List ℕ) (c d : Paint) → IsColor text c → IsColor text d → c ≡ d }
+    ensures { (text : List ℕ) (c d : Paint) → spec.IsColor text c → spec.IsColor text d → c ≡ d }
 {}
 
 /// The colour that the bytes spell, as `read_color` reads them.
 pub fn color_at(text: &[u8]) -> Option<Color>
-    ensures { result ≡ color_at text.now }
+    ensures { result ≡ spec.color_at text.now }
 {
     if let Some(digits) = strip(b"#", text) {
         return hex_at(digits);
@@ -46,7 +46,7 @@ pub fn color_at(text: &[u8]) -> Option<Color>
 }
 
 fn word_at(text: &[u8]) -> Option<Color>
-    ensures { result ≡ word_at text.now }
+    ensures { result ≡ spec.word_at text.now }
 {
     if text == b"transparent".as_slice() {
         return Some(Color {
@@ -61,7 +61,7 @@ fn word_at(text: &[u8]) -> Option<Color>
 
 /// The opaque colour of a pixel 0x00RRGGBB.
 fn solid(pixel: u32) -> Color
-    ensures { result ≡ solid pixel }
+    ensures { result ≡ spec.solid pixel }
 {
     Color {
         r: (pixel / 65536 % 256) as u8,
@@ -73,13 +73,13 @@ fn solid(pixel: u32) -> Color
 
 /// What is behind this front, if the text begins with it.
 fn strip<'a>(front: &[u8], text: &'a [u8]) -> Option<&'a [u8]>
-    ensures { option_map (λ rest. rest.now) result ≡ strip front.now text.now }
+    ensures { option_map (λ rest. rest.now) result ≡ spec.strip front.now text.now }
 {
     text.strip_prefix(front)
 }
 
 fn hex_at(digits: &[u8]) -> Option<Color>
-    ensures { result ≡ hex_at digits.now }
+    ensures { result ≡ spec.hex_at digits.now }
 {
     match digits {
         [r, g, b] => three(twice(*r), twice(*g), twice(*b), 255),
@@ -95,7 +95,7 @@ fn hex_at(digits: &[u8]) -> Option<Color>
 /// The colour of these channels, if each is one.
 #[tactic(auto, unfolding(crate::specs::Colors::three))]
 fn three(r: Option<u8>, g: Option<u8>, b: Option<u8>, a: u8) -> Option<Color>
-    ensures { result ≡ three r g b a }
+    ensures { result ≡ spec.three r g b a }
 {
     Some(Color {
         r: r?,
@@ -108,20 +108,20 @@ fn three(r: Option<u8>, g: Option<u8>, b: Option<u8>, a: u8) -> Option<Color>
 /// A digit that counts twice.
 #[tactic(auto, unfolding(crate::specs::Colors::twice_value))]
 fn twice(digit: u8) -> Option<u8>
-    ensures { result ≡ twice_value digit }
+    ensures { result ≡ spec.twice_value digit }
 {
     Some(17 * hex_value(digit)?)
 }
 
 #[tactic(auto, unfolding(crate::specs::Colors::pair_value))]
 fn pair(high: u8, low: u8) -> Option<u8>
-    ensures { result ≡ pair_value high low }
+    ensures { result ≡ spec.pair_value high low }
 {
     hex_pair(high, low)
 }
 
 fn rgb_at(text: &[u8]) -> Option<Color>
-    ensures { result ≡ rgb_at text.now }
+    ensures { result ≡ spec.rgb_at text.now }
 {
     let (r, text) = channel_at(b',', text)?;
     let (g, text) = channel_at(b',', text)?;
@@ -130,7 +130,7 @@ fn rgb_at(text: &[u8]) -> Option<Color>
 }
 
 fn rgba_at(text: &[u8]) -> Option<Color>
-    ensures { result ≡ rgba_at text.now }
+    ensures { result ≡ spec.rgba_at text.now }
 {
     let (r, text) = channel_at(b',', text)?;
     let (g, text) = channel_at(b',', text)?;
@@ -141,7 +141,7 @@ fn rgba_at(text: &[u8]) -> Option<Color>
 
 /// The colour, if nothing is left of the text.
 fn ended(color: Color, text: &[u8]) -> Option<Color>
-    ensures { result ≡ ended color text.now }
+    ensures { result ≡ spec.ended color text.now }
 {
     match text {
         [] => Some(color),
@@ -151,7 +151,7 @@ fn ended(color: Color, text: &[u8]) -> Option<Color>
 
 /// A whole number in front of the mark, clamped to 0 to 255, and what is behind the mark.
 fn channel_at(mark: u8, text: &[u8]) -> Option<(u8, &[u8])>
-    ensures { option_map value_and_rest result ≡ channel_at mark text.now }
+    ensures { option_map value_and_rest result ≡ spec.channel_at mark text.now }
 {
     let (number, rest) = argument_at(mark, text)?;
     let channel = channel_value(&number)?;
@@ -160,7 +160,7 @@ fn channel_at(mark: u8, text: &[u8]) -> Option<(u8, &[u8])>
 
 /// A share from 0 to 1 in front of the mark, as 0 to 255, and what is behind the mark.
 fn opacity_at(mark: u8, text: &[u8]) -> Option<(u8, &[u8])>
-    ensures { option_map value_and_rest result ≡ opacity_at mark text.now }
+    ensures { option_map value_and_rest result ≡ spec.opacity_at mark text.now }
 {
     let (number, rest) = argument_at(mark, text)?;
     let opacity = opacity_value(&number)?;
@@ -168,7 +168,7 @@ fn opacity_at(mark: u8, text: &[u8]) -> Option<(u8, &[u8])>
 }
 
 fn channel_value(number: &Decimal<'_>) -> Option<u8>
-    ensures { result ≡ channel_value (written number.now) }
+    ensures { result ≡ spec.channel_value (written number.now) }
 {
     if number.fraction.len() > 0 {
         return None;
@@ -181,7 +181,7 @@ fn channel_value(number: &Decimal<'_>) -> Option<u8>
 
 /// The share of opacity, of 255, rounded half up.
 fn opacity_value(number: &Decimal<'_>) -> Option<u8>
-    ensures { result ≡ opacity_value (written number.now) }
+    ensures { result ≡ spec.opacity_value (written number.now) }
 {
     let places = number.fraction.len();
     if places > 9 {
@@ -217,14 +217,14 @@ fn rounded_share(above: u64, below: u64) -> u8
 
 /// A decimal with white around it in front of the mark, and what is behind the mark.
 fn argument_at(mark: u8, text: &[u8]) -> Option<(Decimal<'_>, &[u8])>
-    ensures { option_map decimal_and_rest result ≡ argument_at mark text.now }
+    ensures { option_map decimal_and_rest result ≡ spec.argument_at mark text.now }
 {
     let (number, rest) = decimal_at(behind_white(text))?;
     before_mark(mark, number, behind_white(rest))
 }
 
 fn before_mark<'a>(mark: u8, number: Decimal<'a>, text: &'a [u8]) -> Option<(Decimal<'a>, &'a [u8])>
-    ensures { option_map decimal_and_rest result ≡ before_mark mark (written number.entry) text.now }
+    ensures { option_map decimal_and_rest result ≡ spec.before_mark mark (written number.entry) text.now }
 {
     match text {
         [first, rest @ ..] if *first == mark => Some((number, rest)),

@@ -13,7 +13,6 @@ mod readings;
 mod styles;
 
 pub use colors::{color_at, one_color, read_color};
-pub use fx_text::is_white;
 pub use insets::{one_sides, read_sides, sizes_at};
 pub use looks::Look;
 pub use numbers::{one_number, one_size, read_number, read_size, size_at};

@@ -1,6 +1,6 @@
 //! Playing script lines: what each writes, and what it makes of the nodes.
 ghost use Rattle.std.specs.Prelude.{◌≡◌, ◌≤◌, ◌<◌, ◌+◌, ◌-◌, ◌^◌, IfOk, IfSome, OnOk, length, slice_get, vec_len};
-ghost use Rattle.fx_world.specs.World.{first_world, clamped, window_for, node_named, nodes_after_set, nodes_with, number_of, place_of, size_value, window_of, with_number, world_after};
+ghost use Rattle.fx_world.specs.World as spec;
 ghost use Rattle.fx_plain.specs.Playing.{refusal_word, refused_line, frame_of, read_text, set_text, value_line, written_by, written_by_all};
 ghost use Rattle.fx_script.specs.Script.{number_name};
 ghost use Rattle.fx_play.specs.Worlds.{world_of};
@@ -47,7 +47,7 @@ pub fn put_lines<O: Sink>(
 impl Player {
     /// Before the first line.
     pub fn new(nodes: Vec<Node>) -> Player
-        ensures world { world_of result ≡ first_world nodes.items }
+        ensures world { world_of result ≡ spec.first_world nodes.items }
         ensures fresh { result.frames ≡ 0 }
     {
         Player {
@@ -70,7 +70,7 @@ impl Player {
         ensures cause { HasCause Failed (O.faults out.old) (O.faults out.new) result }
         ensures writes { Writes (O.written out.old) (O.written out.new) result
             (written_by (world_of self.old) number line.now) }
-        ensures world { OnOk result (world_of self.new ≡ world_after (world_of self.old) line.now) }
+        ensures world { OnOk result (world_of self.new ≡ spec.world_after (world_of self.old) line.now) }
         ensures frames { self.new.frames ≤ self.old.frames + 1 }
     {
         match line {
@@ -92,9 +92,9 @@ impl Player {
     ) -> Result<(), PutError>
         ensures cause { HasCause Failed (O.faults out.old) (O.faults out.new) result }
         ensures writes { Writes (O.written out.old) (O.written out.new) result
-            (set_text number (place_of self.old.nodes.items target.now.node)) }
+            (set_text number (spec.place_of self.old.nodes.items target.now.node)) }
         ensures nodes { OnOk result (self.new.nodes.items ≡
-            nodes_after_set self.old.nodes.items target.now value (place_of self.old.nodes.items target.now.node)) }
+            spec.nodes_after_set self.old.nodes.items target.now value (spec.place_of self.old.nodes.items target.now.node)) }
         ensures window { self.new.window ≡ self.old.window }
         ensures frames { self.new.frames ≡ self.old.frames }
     {
@@ -116,7 +116,7 @@ impl Player {
     ) -> Result<(), PutError>
         ensures cause { HasCause Failed (O.faults out.old) (O.faults out.new) result }
         ensures writes { Writes (O.written out.old) (O.written out.new) result
-            (read_text number target.now (node_named self.now.nodes.items target.now.node)) }
+            (read_text number target.now (spec.node_named self.now.nodes.items target.now.node)) }
     {
         match place_of(self.nodes.as_slice(), target.node.as_str()) {
             Some(place) => put_value(alloc, target, &self.nodes[place], out),
@@ -129,7 +129,7 @@ impl Player {
         requires { self.old.frames < 2 ^ 64 - 1 }
         ensures cause { HasCause Failed (O.faults out.old) (O.faults out.new) result }
         ensures writes { Writes (O.written out.old) (O.written out.new) result (frame_of (world_of self.old)) }
-        ensures world { OnOk result (world_of self.new ≡ world_after (world_of self.old) Line.Pulse) }
+        ensures world { OnOk result (world_of self.new ≡ spec.world_after (world_of self.old) Line.Pulse) }
         ensures frames { self.new.frames ≤ self.old.frames + 1 }
     {
         let size = self.window_of();
@@ -140,7 +140,7 @@ impl Player {
     }
 
     fn window_of(&self) -> Size
-        ensures { result ≡ window_of (world_of self.now) }
+        ensures { result ≡ spec.window_of (world_of self.now) }
     {
         match self.window {
             Some(size) => size,
@@ -151,7 +151,7 @@ impl Player {
 
 /// The window that the root, the first of the nodes, would have.
 fn window_for(nodes: &[Node]) -> Size
-    ensures { result ≡ window_for nodes.now }
+    ensures { result ≡ spec.window_for nodes.now }
 {
     match nodes {
         [root, ..] => Size {
@@ -166,14 +166,14 @@ fn window_for(nodes: &[Node]) -> Size
 }
 
 fn clamped(length: u32) -> u32
-    ensures { result ≡ clamped length }
+    ensures { result ≡ spec.clamped length }
 {
     length.max(1).min(2048)
 }
 
 /// Where the node of this name stands.
 fn place_of(nodes: &[Node], name: &str) -> Option<usize>
-    ensures place { result ≡ place_of nodes.now name.now }
+    ensures place { result ≡ spec.place_of nodes.now name.now }
     ensures within { IfSome result (λ place. place < length nodes.now) }
 {
     nodes.iter().position(|node| node.is_named(name))
@@ -181,13 +181,13 @@ fn place_of(nodes: &[Node], name: &str) -> Option<usize>
 
 fn set_number_at(nodes: &mut Vec<Node>, place: usize, number: Number, value: u32)
     requires { place < vec_len nodes.old }
-    ensures { nodes.new.items ≡ nodes_with nodes.old.items number value (slice_get nodes.old.items place) place }
+    ensures { nodes.new.items ≡ spec.nodes_with nodes.old.items number value (slice_get nodes.old.items place) place }
 {
     set_number(&mut nodes[place], number, value);
 }
 
 fn set_number(node: &mut Node, number: Number, value: u32)
-    ensures { node.new ≡ with_number node.old number value }
+    ensures { node.new ≡ spec.with_number node.old number value }
 {
     match number {
         Number::LayoutX => node.layout_x = value,
@@ -198,7 +198,7 @@ fn set_number(node: &mut Node, number: Number, value: u32)
 }
 
 fn number_of(node: &Node, number: Number) -> i64
-    ensures { result ≡ number_of node.now number }
+    ensures { result ≡ spec.number_of node.now number }
 {
     match number {
         Number::LayoutX => i64::from(node.layout_x),
@@ -210,7 +210,7 @@ fn number_of(node: &Node, number: Number) -> i64
 
 /// A size that was never given reads as -1.
 fn size_value(size: Option<u32>) -> i64
-    ensures { result ≡ size_value size }
+    ensures { result ≡ spec.size_value size }
 {
     match size {
         Some(size) => i64::from(size),
@@ -226,7 +226,7 @@ fn put_value<O: Sink>(
 ) -> Result<(), PutError>
     ensures cause { HasCause Failed (O.faults out.old) (O.faults out.new) result }
     ensures writes { Writes (O.written out.old) (O.written out.new) result
-        (value_line target.now (number_of node.now target.now.number)) }
+        (value_line target.now (spec.number_of node.now target.now.number)) }
 {
     let text = value_text(alloc, target, number_of(node, target.number))?;
     out.put(text.as_slice())

@@ -2,7 +2,7 @@
 ghost use Rattle.std.specs.Prelude.{◌≡◌, ◌≤◌, ◌||◌, ◌==◌, IfOk, IsTrue, length, codes, nat_eq, not};
 ghost use Rattle.std.specs.Char.{is_ascii_digit};
 ghost use Rattle.std.specs.List.{list_all, prefix_len, starts_with};
-ghost use Rattle.fx_script.specs.Script.{line_of, command_of, word_in, behind_word, is_space, in_word, before_dot, got, setting, target_of, target_from, number_named, number_name, number_behind, number_behind_dot, are_few_digits, small_number};
+ghost use Rattle.fx_script.specs.Script as spec;
 ghost use Rattle.fx_text.specs.Fronts.{behind};
 ghost use Rattle.fx_text.specs.Classes.{is_blank};
 ghost use Rattle.fx_text.specs.Digits.{number_of_digits};
@@ -15,7 +15,7 @@ use std::alloc::{AllocError, Global};
 /// What one line asks for.
 #[tactic(auto, unfolding(crate::specs::Script::line_of))]
 pub fn read_line(alloc: Global, text: &[u8]) -> Result<Line, AllocError>
-    ensures { IfOk result (λ line. line ≡ line_of text.now) }
+    ensures { IfOk result (λ line. line ≡ spec.line_of text.now) }
 {
     if is_skipped(text) {
         return Ok(Line::Skip);
@@ -37,7 +37,7 @@ fn is_blank(text: &[u8]) -> bool
 
 #[tactic(auto, unfolding(crate::specs::Script::command_of))]
 fn read_command(alloc: Global, word: &[u8], rest: &[u8]) -> Result<Line, AllocError>
-    ensures { IfOk result (λ line. line ≡ command_of word.now rest.now) }
+    ensures { IfOk result (λ line. line ≡ spec.command_of word.now rest.now) }
 {
     if word == b"pulse".as_slice() {
         return Ok(if all_spaces(rest) {
@@ -58,7 +58,7 @@ fn read_command(alloc: Global, word: &[u8], rest: &[u8]) -> Result<Line, AllocEr
 }
 
 fn got(target: Option<Target>, alone: bool) -> Line
-    ensures { result ≡ got target alone }
+    ensures { result ≡ spec.got target alone }
 {
     match target {
         Some(target) if alone => Line::Get(target),
@@ -67,7 +67,7 @@ fn got(target: Option<Target>, alone: bool) -> Line
 }
 
 fn setting(target: Option<Target>, value: Option<u32>) -> Line
-    ensures { result ≡ setting target value }
+    ensures { result ≡ spec.setting target value }
 {
     match (target, value) {
         (Some(target), Some(value)) => Line::Set(target, value),
@@ -78,7 +78,7 @@ fn setting(target: Option<Target>, value: Option<u32>) -> Line
 /// `ID.P`, a node's name and one of its numbers.
 #[tactic(auto, unfolding(crate::specs::Script::target_of))]
 fn read_target(alloc: Global, word: &[u8]) -> Result<Option<Target>, AllocError>
-    ensures { IfOk result (λ target. target ≡ target_of word.now) }
+    ensures { IfOk result (λ target. target ≡ spec.target_of word.now) }
 {
     if word.len() > 4096 {
         return Ok(None);
@@ -92,7 +92,7 @@ fn read_target(alloc: Global, word: &[u8]) -> Result<Option<Target>, AllocError>
 
 fn target_from(alloc: Global, node: &[u8], number: Number) -> Result<Option<Target>, AllocError>
     requires { length node.now ≤ 4096 }
-    ensures { IfOk result (λ target. target ≡ target_from node.now (Some number)) }
+    ensures { IfOk result (λ target. target ≡ spec.target_from node.now (Some number)) }
 {
     let Ok(name) = str::from_utf8(node) else {
         return Ok(None);
@@ -108,7 +108,7 @@ fn target_from(alloc: Global, node: &[u8], number: Number) -> Result<Option<Targ
 }
 
 fn number_behind_dot(text: &[u8]) -> Option<Number>
-    ensures { result ≡ number_behind_dot text.now }
+    ensures { result ≡ spec.number_behind_dot text.now }
 {
     match text {
         [_, name @ ..] => number_named(name),
@@ -118,7 +118,7 @@ fn number_behind_dot(text: &[u8]) -> Option<Number>
 
 #[tactic(auto, unfolding(crate::specs::Script::number_named))]
 fn number_named(name: &[u8]) -> Option<Number>
-    ensures { result ≡ number_named name.now }
+    ensures { result ≡ spec.number_named name.now }
 {
     if name == b"layoutX".as_slice() {
         Some(Number::LayoutX)
@@ -135,7 +135,7 @@ fn number_named(name: &[u8]) -> Option<Number>
 
 #[tactic(auto, unfolding(crate::specs::Script::number_behind))]
 fn number_behind(text: &[u8]) -> Option<u32>
-    ensures { result ≡ number_behind text.now }
+    ensures { result ≡ spec.number_behind text.now }
 {
     match text {
         [b' ', digits @ ..] => small_number(digits),
@@ -146,7 +146,7 @@ fn number_behind(text: &[u8]) -> Option<u32>
 /// One to six digits, of a number of at most 100,000.
 #[tactic(auto, unfolding(crate::specs::Script::small_number))]
 pub fn small_number(text: &[u8]) -> Option<u32>
-    ensures { result ≡ small_number text.now }
+    ensures { result ≡ spec.small_number text.now }
 {
     if !are_few_digits(text) {
         return None;
@@ -160,7 +160,7 @@ pub fn small_number(text: &[u8]) -> Option<u32>
 }
 
 fn are_few_digits(text: &[u8]) -> bool
-    ensures { result ≡ are_few_digits text.now }
+    ensures { result ≡ spec.are_few_digits text.now }
 {
     0 < text.len() && text.len() <= 6 && are_digits(text)
 }
@@ -172,7 +172,7 @@ fn are_digits(text: &[u8]) -> bool
 }
 
 fn number_of_digits(digits: &[u8]) -> u32
-    requires { IsTrue (are_few_digits digits.now) }
+    requires { IsTrue (spec.are_few_digits digits.now) }
     ensures { result ≡ number_of_digits digits.now }
 {
     let mut number = 0;
@@ -184,7 +184,7 @@ fn number_of_digits(digits: &[u8]) -> u32
 
 /// The name of a number of nodes.
 pub fn number_name(number: Number) -> &'static str
-    ensures { result.now ≡ number_name number }
+    ensures { result.now ≡ spec.number_name number }
 {
     match number {
         Number::LayoutX => "layoutX",
@@ -195,14 +195,14 @@ pub fn number_name(number: Number) -> &'static str
 }
 
 fn all_spaces(text: &[u8]) -> bool
-    ensures { result ≡ list_all is_space text.now }
+    ensures { result ≡ list_all spec.is_space text.now }
 {
     text.iter().all(|c| *c == b' ')
 }
 
 /// The first word of a text.
 fn word_in(text: &[u8]) -> &[u8]
-    ensures { result.now ≡ word_in text.now }
+    ensures { result.now ≡ spec.word_in text.now }
 {
     let word = behind_spaces(text);
     word.split_at(word_len(word)).0
@@ -210,34 +210,34 @@ fn word_in(text: &[u8]) -> &[u8]
 
 /// What follows the first word.
 fn behind_word(text: &[u8]) -> &[u8]
-    ensures { result.now ≡ behind_word text.now }
+    ensures { result.now ≡ spec.behind_word text.now }
 {
     let word = behind_spaces(text);
     word.split_at(word_len(word)).1
 }
 
 fn behind_spaces(text: &[u8]) -> &[u8]
-    ensures { result.now ≡ behind is_space text.now }
+    ensures { result.now ≡ behind spec.is_space text.now }
 {
     text.split_at(spaces_in(text)).1
 }
 
 fn spaces_in(text: &[u8]) -> usize
-    ensures len { result ≡ prefix_len is_space text.now }
+    ensures len { result ≡ prefix_len spec.is_space text.now }
     ensures within { result ≤ length text.now }
 {
     text.iter().take_while(|c| **c == b' ').count()
 }
 
 fn word_len(text: &[u8]) -> usize
-    ensures len { result ≡ prefix_len in_word text.now }
+    ensures len { result ≡ prefix_len spec.in_word text.now }
     ensures within { result ≤ length text.now }
 {
     text.iter().take_while(|c| **c != b' ').count()
 }
 
 fn dot_in(word: &[u8]) -> usize
-    ensures len { result ≡ prefix_len before_dot word.now }
+    ensures len { result ≡ prefix_len spec.before_dot word.now }
     ensures within { result ≤ length word.now }
 {
     word.iter().take_while(|c| **c != b'.').count()

@@ -1,4 +1,5 @@
-//! Changes that make no property unread: the end of a binding, of a pair or of a name, and listeners that come and go. Each is
+//! Changes that make no property unread: the end of a binding, of a pair or of a name, and listeners that come and go.
+//! Each is
 //! made in one step; then every watched property is read, where an earlier want of memory left one unread.
 ghost use Rattle.std.specs.Prelude.{◌≡◌, ◌≢◌, ◌≤◌, ◌+◌, [], ◌∷◌, false, filter, not, Err, IfErr, IfOk, None, OnErr, OnOk};
 ghost use Rattle.fx_handles.specs.Living.{IsSound};
@@ -111,7 +112,8 @@ impl Store {
         other: Name,
         work: &mut Work<L>,
     ) -> Result<Notices, StoreError>
-        ensures applied { Applied (change.Unpair one other) self.old self.new result work.old.evaluated work.new.evaluated }
+        ensures applied { Applied (change.Unpair one other) self.old self.new result work.old.evaluated
+            work.new.evaluated }
         ensures others { work.new ≡ record work.old { evaluated = work.new.evaluated } }
     {
         if let Some(refusal) = of_unpair(&self.graph, one, other) {
@@ -131,10 +133,13 @@ impl Store {
         owner: Option<Owner>,
         tag: u32,
     ) -> Result<u32, StoreError>
-        requires allowed { listen_refusal name owner self.old.entries self.old.owners.living self.old.listeners self.old.given ≡ None }
+        requires allowed { listen_refusal name owner self.old.entries self.old.owners.living self.old.listeners
+            self.old.given ≡ None }
         requires read { marked self.old.unread name.0 ≡ false }
         ensures number { IfOk result (λ number. number ≡ self.old.given + 1) }
-        ensures ok { OnOk result (self.new ≡ with_listeners (placed (new_listener (self.old.given + 1) name kind owner tag) self.old.listeners) (self.old.given + 1) self.old) }
+        ensures ok { OnOk result (self.new
+            ≡ with_listeners (placed (new_listener (self.old.given + 1) name kind owner tag) self.old.listeners)
+            (self.old.given + 1) self.old) }
         ensures err { OnErr result (self.new ≡ self.old) }
         ensures memory { IfErr result (λ error. error ≡ StoreError.Memory) }
     {
@@ -154,7 +159,8 @@ impl Store {
         tag: u32,
         work: &mut Work<L>,
     ) -> Result<Notices, StoreError>
-        ensures applied { Applied (change.Listen name kind owner tag) self.old self.new result work.old.evaluated work.new.evaluated }
+        ensures applied { Applied (change.Listen name kind owner tag) self.old self.new result work.old.evaluated
+            work.new.evaluated }
         ensures others { work.new ≡ record work.old { evaluated = work.new.evaluated } }
     {
         if let Some(refusal) = of_listen(&self.graph, &self.listeners, &self.owners, name, owner) {
@@ -182,7 +188,8 @@ impl Store {
         tag: u32,
         work: &mut Work<L>,
     ) -> Result<Notices, StoreError>
-        ensures applied { Applied (change.Unlisten name kind owner tag) self.old self.new result work.old.evaluated work.new.evaluated }
+        ensures applied { Applied (change.Unlisten name kind owner tag) self.old self.new result work.old.evaluated
+            work.new.evaluated }
         ensures others { work.new ≡ record work.old { evaluated = work.new.evaluated } }
     {
         if let Some(refusal) = of_unlisten(&self.graph, &self.owners, name, owner) {
@@ -231,7 +238,11 @@ fn know_births(owners: &Owners)
 
 /// Removes all listeners of these properties.
 fn forget_listeners(listeners: &mut Listeners, names: &[Name])
-    ensures { listeners.new ≡ record { entries = filter (λ (listener : Heard). not (is_among (numbers names.now) listener.name.0)) listeners.old.entries; given = listeners.old.given } }
+    ensures { listeners.new ≡ record {
+      entries = filter
+          (λ (listener : Heard). not (is_among (numbers names.now) listener.name.0)) listeners.old.entries;
+      given = listeners.old.given;
+    } }
 {
     for name in names {
         listeners.forget(*name);

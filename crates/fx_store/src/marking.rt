@@ -1,4 +1,5 @@
-//! Changes that make properties unread. Each looks at what it may tell of, makes the change in one call of the graph, and
+//! Changes that make properties unread. Each looks at what it may tell of, makes the change in one call of the graph,
+//! and
 //! tells.
 ghost use Rattle.std.specs.Prelude.{ℕ, List, ◌≡◌, ◌≢◌, ◌≤◌, ◌+◌, ◌++◌, ◌∷◌, ◌==◌, [], false, true, not, cond, filter, AllPairs, IfErr, IfOk, None, OnErr, OnOk, Some, length, map};
 ghost use Rattle.fx_base.specs.declared.keys.Name.{Name as Named};
@@ -61,7 +62,8 @@ fn push_unless(
     other: Name,
     value: &Value,
 ) -> Result<(), AllocError>
-    ensures { OnOk result (pairs.new.items ≡ cond (name.0 == other.0) pairs.old.items (pairs.old.items ++ (name, value.now) ∷ [])) }
+    ensures { OnOk result (pairs.new.items
+        ≡ cond (name.0 == other.0) pairs.old.items (pairs.old.items ++ (name, value.now) ∷ [])) }
 {
     if name.0 == other.0 {
         return Ok(());
@@ -77,7 +79,8 @@ fn with_value_but(
     other: Name,
     value: &Value,
 ) -> Result<Vec<(Name, Value)>, AllocError>
-    ensures { IfOk result (λ pairs. pairs.items ≡ map (λ (name : Named). (name, value.now)) (filter (λ (name : Named). not (name.0 == other.0)) names.now)) }
+    ensures { IfOk result (λ pairs. pairs.items
+        ≡ map (λ (name : Named). (name, value.now)) (filter (λ (name : Named). not (name.0 == other.0)) names.now)) }
 {
     let mut pairs = Vec::with_capacity(alloc, names.len())?;
     for name in names {
@@ -93,7 +96,8 @@ fn group_values(
     name: Name,
     value: &Value,
 ) -> Result<Vec<(Name, Value)>, AllocError>
-    ensures { IfOk result (λ values. (names : List Named) × AreJoinedWith pairs.now name.0 names × (values.items ≡ map (λ (other : Named). (other, value.now)) names)) }
+    ensures { IfOk result (λ values. (names : List Named) × AreJoinedWith pairs.now name.0 names
+        × (values.items ≡ map (λ (other : Named). (other, value.now)) names)) }
 {
     let group = pairs.group(alloc, name)?;
     with_value(alloc, group.as_slice(), value)
@@ -109,7 +113,9 @@ fn other_values(
 ) -> Result<Vec<(Name, Value)>, AllocError>
     requires known { unknown_in graph.now.entries other.0 ≡ false }
     requires free { bound_in graph.now.entries other.0 ≡ false }
-    ensures { IfOk result (λ values. (names : List Named) × AreJoinedWith pairs.now one.0 names × (values.items ≡ map (λ (name : Named). (name, eager graph.now.entries other.0)) (filter (λ (name : Named). not (name.0 == other.0)) names))) }
+    ensures { IfOk result (λ values. (names : List Named) × AreJoinedWith pairs.now one.0 names
+        × (values.items ≡ map (λ (name : Named). (name, eager graph.now.entries other.0))
+        (filter (λ (name : Named). not (name.0 == other.0)) names))) }
 {
     let value = graph.own_value(alloc, other)?;
     let group = pairs.group(alloc, one)?;
@@ -152,9 +158,16 @@ fn finish<L: Ledgers>(
     work: &mut Work<L>,
 ) -> Result<Notices, StoreError>
     requires known { AreKnown graph.old.entries watch.now.names.items }
-    requires watch { (entries : List Entry) × (pairs : List (ℕ × ℕ)) × IsWatch entries pairs (living_in owners.now.living listeners.now.entries) watch.now.heard.items watch.now.names.items watch.now.before.items }
-    ensures kept { (pairs : List (ℕ × ℕ)) → IsKept graph.old pairs listeners.now owners.now true → numbers watch.now.names.items ≡ watch_list pairs (living_in owners.now.living listeners.now.entries) → IsKept graph.new pairs listeners.now owners.now behind.new }
-    ensures told { (change : Changing) → (before : Stored) → (pairs : List (ℕ × ℕ)) → (began : ℕ) → IsUnderWay change before graph.old pairs listeners.now owners.now (numbers watch.now.names.items) watch.now.heard.items watch.now.before.items began work.old.evaluated → Applied change before (stored_of graph.new pairs listeners.now owners.now) result began work.new.evaluated }
+    requires watch { (entries : List Entry) × (pairs : List (ℕ × ℕ))
+        × IsWatch entries pairs (living_in owners.now.living listeners.now.entries) watch.now.heard.items
+        watch.now.names.items watch.now.before.items }
+    ensures kept { (pairs : List (ℕ × ℕ)) → IsKept graph.old pairs listeners.now owners.now true
+        → numbers watch.now.names.items ≡ watch_list pairs (living_in owners.now.living listeners.now.entries)
+        → IsKept graph.new pairs listeners.now owners.now behind.new }
+    ensures told { (change : Changing) → (before : Stored) → (pairs : List (ℕ × ℕ)) → (began : ℕ)
+        → IsUnderWay change before graph.old pairs listeners.now owners.now (numbers watch.now.names.items)
+        watch.now.heard.items watch.now.before.items began work.old.evaluated
+        → Applied change before (stored_of graph.new pairs listeners.now owners.now) result began work.new.evaluated }
     ensures others { work.new ≡ record work.old { evaluated = work.new.evaluated } }
 {
     *behind = true;
@@ -187,7 +200,8 @@ impl Store {
     /// Looks at what a change may tell of; nothing is read.
     fn look<L: Ledgers>(&mut self, alloc: Global, work: &mut Work<L>) -> Result<Watched, AllocError>
         ensures same { self.new ≡ self.old }
-        ensures watch { IfOk result (λ watch. IsWatch self.old.entries self.old.pairs self.old.listeners watch.heard.items watch.names.items watch.before.items) }
+        ensures watch { IfOk result (λ watch. IsWatch self.old.entries self.old.pairs self.old.listeners
+            watch.heard.items watch.names.items watch.before.items) }
         ensures cost { work.new.evaluated ≤ work.old.evaluated + due self.old }
         ensures others { work.new ≡ record work.old { evaluated = work.new.evaluated } }
     {
@@ -208,7 +222,8 @@ impl Store {
         value: Value,
         work: &mut Work<L>,
     ) -> Result<Notices, StoreError>
-        ensures applied { Applied (change.Set name value) self.old self.new result work.old.evaluated work.new.evaluated }
+        ensures applied { Applied (change.Set name value) self.old self.new result work.old.evaluated
+            work.new.evaluated }
         ensures others { work.new ≡ record work.old { evaluated = work.new.evaluated } }
     {
         let given = [(name, value)];
@@ -236,7 +251,8 @@ impl Store {
         work: &mut Work<L>,
     ) -> Result<Notices, StoreError>
         requires { IsFit (change.Publish pairs) self.old }
-        ensures applied { Applied (change.Publish pairs) self.old self.new result work.old.evaluated work.new.evaluated }
+        ensures applied { Applied (change.Publish pairs) self.old self.new result work.old.evaluated
+            work.new.evaluated }
         ensures others { work.new ≡ record work.old { evaluated = work.new.evaluated } }
     {
         let given = pairs.as_slice();
@@ -265,7 +281,8 @@ impl Store {
         work: &mut Work<L>,
     ) -> Result<Notices, StoreError>
         requires { is_within (tree expr) (length operands.items) ≡ true }
-        ensures applied { Applied (change.Bind name expr operands) self.old self.new result work.old.evaluated work.new.evaluated }
+        ensures applied { Applied (change.Bind name expr operands) self.old self.new result work.old.evaluated
+            work.new.evaluated }
         ensures others { work.new ≡ record work.old { evaluated = work.new.evaluated } }
     {
         let refusal = self.refuses_bind(alloc, name, &expr, operands.as_slice())?;
@@ -296,7 +313,8 @@ impl Store {
     ) -> Result<Option<StoreError>, AllocError>
         requires { is_within (tree expr.now) (length operands.now) ≡ true }
         ensures same { self.new ≡ self.old }
-        ensures refusal { IfOk result (λ refusal. refusal ≡ bind_refusal name expr.now operands.now self.old.entries self.old.pairs) }
+        ensures refusal { IfOk result (λ refusal. refusal
+            ≡ bind_refusal name expr.now operands.now self.old.entries self.old.pairs) }
     {
         if self.pairs.is_paired(name) {
             let unfit = self.graph.refuses_operands(alloc, name, expr, operands)?;
@@ -313,7 +331,8 @@ impl Store {
         other: Name,
         work: &mut Work<L>,
     ) -> Result<Notices, StoreError>
-        ensures applied { Applied (change.Pair one other) self.old self.new result work.old.evaluated work.new.evaluated }
+        ensures applied { Applied (change.Pair one other) self.old self.new result work.old.evaluated
+            work.new.evaluated }
         ensures others { work.new ≡ record work.old { evaluated = work.new.evaluated } }
     {
         if let Some(refusal) = of_pair(&self.graph, &self.pairs, one, other) {

@@ -74,7 +74,8 @@ pub fn of_listen(
     name: Name,
     owner: Option<Owner>,
 ) -> Option<StoreError>
-    ensures { result ≡ listen_refusal name owner graph.now.entries owners.now.living (living_in owners.now.living listeners.now.entries) listeners.now.given }
+    ensures { result ≡ listen_refusal name owner graph.now.entries owners.now.living
+        (living_in owners.now.living listeners.now.entries) listeners.now.given }
 {
     if graph.is_unknown(name) {
         return Some(StoreError::Unknown(name));

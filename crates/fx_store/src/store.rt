@@ -27,7 +27,8 @@ use fx_store_pairs::Pairs;
 use std::alloc::Global;
 use std::marker::Model;
 
-/// Properties, the pairs of those that change together, listeners and their owners. Contracts see the definitions, which
+/// Properties, the pairs of those that change together, listeners and their owners. Contracts see the definitions,
+/// which
 /// properties are unread, the pairs, and the living listeners.
 #[derive(Drop)]
 pub struct Store {
@@ -87,7 +88,8 @@ impl Store {
         Ok(name)
     }
 
-    /// Makes one change and tells of it. Where memory is wanting, it is made wholly or not at all, but some properties may
+    /// Makes one change and tells of it. Where memory is wanting, it is made wholly or not at all, but some properties
+    /// may
     /// have been read, and what it told is lost.
     pub fn apply<L: Ledgers>(
         &mut self,
@@ -125,7 +127,8 @@ impl Store {
     ) -> Result<Value, StoreError>
         ensures answer { IsAnswer StoreError.Memory (unknown_of (name ∷ []) self.old.entries) result }
         ensures value { IfOk result (λ value. value ≡ eager self.old.entries name.0) }
-        ensures ok { OnOk result (self.new ≡ with_unread (after_reading self.old.entries name.0 self.old.unread) self.old) }
+        ensures ok { OnOk result (self.new
+            ≡ with_unread (after_reading self.old.entries name.0 self.old.unread) self.old) }
         ensures memory { result ≡ Err StoreError.Memory → IsReadSome self.old self.new }
         ensures refused { IfErr result (λ error. error ≢ StoreError.Memory → self.new ≡ self.old) }
         ensures cost { work.new.evaluated ≤ work.old.evaluated + evaluations self.old.entries name.0 self.old.unread }
@@ -140,7 +143,8 @@ impl Store {
         ensures birth { IfOk result (λ owner. owner.birth ≡ self.old.owners.born + 1) }
         ensures made { IfOk result (λ owner. self.new ≡ with_owners (after_make self.old.owners owner) self.old) }
         ensures answer { IsAnswer StoreError.Memory (owner_refusal self.old.owners) result }
-        ensures full { (result ≡ Err StoreError.Full) ↔ ((length self.old.owners.living ≡ 10000) ⊎ (self.old.owners.born ≡ u32.MAX)) }
+        ensures full { (result ≡ Err StoreError.Full)
+            ↔ ((length self.old.owners.living ≡ 10000) ⊎ (self.old.owners.born ≡ u32.MAX)) }
         ensures err { OnErr result (self.new ≡ self.old) }
     {
         let owner = self.owners.make(alloc)?;

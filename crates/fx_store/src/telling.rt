@@ -40,7 +40,8 @@ fn tell_invalid(
     owners: &Owners,
     names: &[Name],
 ) -> Result<Vec<(Name, u32)>, AllocError>
-    ensures { IfOk result (λ notices. notices.items ≡ invalid_notices (numbers names.now) (living_in owners.now.living listeners.now.entries)) }
+    ensures { IfOk result (λ notices. notices.items
+        ≡ invalid_notices (numbers names.now) (living_in owners.now.living listeners.now.entries)) }
 {
     let mut notices = Vec::new(alloc);
     for name in names {
@@ -58,7 +59,9 @@ fn push_changed(
     before: &Value,
     after: &Value,
 ) -> Result<(), AllocError>
-    ensures { OnOk result (notices.new.items ≡ cond (same_value before.now after.now) notices.old.items (notices.old.items ++ (listener.name, listener.number, before.now, after.now) ∷ [])) }
+    ensures { OnOk result (notices.new.items
+        ≡ cond (same_value before.now after.now) notices.old.items
+        (notices.old.items ++ (listener.name, listener.number, before.now, after.now) ∷ [])) }
 {
     if are_same(before, after) {
         return Ok(());
@@ -69,7 +72,8 @@ fn push_changed(
     Ok(())
 }
 
-/// What the change listeners are told, where these are the values of their properties before, and after with others behind.
+/// What the change listeners are told, where these are the values of their properties before, and after with others
+/// behind.
 fn tell_changed(
     alloc: Global,
     heard: &[Listener],
@@ -78,7 +82,9 @@ fn tell_changed(
 ) -> Result<Vec<(Name, u32, Value, Value)>, AllocError>
     requires before { length before.now ≡ length heard.now }
     requires after { length heard.now ≤ length after.now }
-    ensures { IfOk result (λ notices. (was is : List Entry) → before.now ≡ values_of was heard.now → take (length heard.now) after.now ≡ values_of is heard.now → notices.items ≡ flat_map (changed_notice was is) heard.now) }
+    ensures { IfOk result (λ notices. (was is : List Entry) → before.now ≡ values_of was heard.now
+        → take (length heard.now) after.now ≡ values_of is heard.now
+        → notices.items ≡ flat_map (changed_notice was is) heard.now) }
 {
     let mut notices = Vec::new(alloc);
     for (place, listener) in heard.iter().enumerate() {
@@ -93,7 +99,8 @@ fn tell_changed(
     Ok(notices)
 }
 
-/// Tells the invalidation listeners of what became unread, then reads every watched name, and tells the change listeners
+/// Tells the invalidation listeners of what became unread, then reads every watched name, and tells the change
+/// listeners
 /// of what has another value.
 pub fn tell<L: Ledgers>(
     alloc: Global,
@@ -104,13 +111,20 @@ pub fn tell<L: Ledgers>(
     work: &mut Work<L>,
 ) -> Result<Notices, AllocError>
     requires known { AreKnown graph.old.entries watch.now.names.items }
-    requires watch { (entries : List Entry) × (pairs : List (ℕ × ℕ)) × IsWatch entries pairs (living_in owners.now.living listeners.now.entries) watch.now.heard.items watch.now.names.items watch.now.before.items }
+    requires watch { (entries : List Entry) × (pairs : List (ℕ × ℕ))
+        × IsWatch entries pairs (living_in owners.now.living listeners.now.entries) watch.now.heard.items
+        watch.now.names.items watch.now.before.items }
     ensures ok { OnOk result (graph.new ≡ after_read_all (numbers watch.now.names.items) graph.old) }
     ensures part { IsSomeRead graph.old graph.new }
     ensures added { IfOk result (λ notices. notices.added ≡ None) }
-    ensures invalid { IfOk result (λ notices. notices.invalid.items ≡ invalid_notices graph.old.newly (living_in owners.now.living listeners.now.entries)) }
-    ensures changed { IfOk result (λ notices. (before : List Entry) → watch.now.before.items ≡ values_of before watch.now.heard.items → notices.changed.items ≡ changed_notices before graph.old.entries (living_in owners.now.living listeners.now.entries)) }
-    ensures cost { work.new.evaluated ≤ work.old.evaluated + evaluations_of graph.old.entries (numbers watch.now.names.items) graph.old.unread }
+    ensures invalid { IfOk result (λ notices. notices.invalid.items
+        ≡ invalid_notices graph.old.newly (living_in owners.now.living listeners.now.entries)) }
+    ensures changed { IfOk result (λ notices. (before : List Entry)
+        → watch.now.before.items ≡ values_of before watch.now.heard.items
+        → notices.changed.items ≡ changed_notices before graph.old.entries
+        (living_in owners.now.living listeners.now.entries)) }
+    ensures cost { work.new.evaluated ≤ work.old.evaluated
+        + evaluations_of graph.old.entries (numbers watch.now.names.items) graph.old.unread }
     ensures others { work.new ≡ record work.old { evaluated = work.new.evaluated } }
 {
     let invalid = tell_invalid(alloc, listeners, owners, graph.newly())?;

@@ -82,10 +82,14 @@ pub fn watch<L: Ledgers>(
     owners: &Owners,
     work: &mut Work<L>,
 ) -> Result<Watched, AllocError>
-    requires known { All (λ (name : ℕ). unknown_in graph.old.entries name ≡ false) (watch_list (pairs_of pairs.now) (living_in owners.now.living listeners.now.entries)) }
+    requires known { All (λ (name : ℕ). unknown_in graph.old.entries name ≡ false)
+        (watch_list (pairs_of pairs.now) (living_in owners.now.living listeners.now.entries)) }
     ensures same { graph.new ≡ graph.old }
-    ensures watch { IfOk result (λ watch. IsWatch graph.old.entries (pairs_of pairs.now) (living_in owners.now.living listeners.now.entries) watch.heard.items watch.names.items watch.before.items) }
-    ensures cost { work.new.evaluated ≤ work.old.evaluated + evaluations_of graph.old.entries (watch_list (pairs_of pairs.now) (living_in owners.now.living listeners.now.entries)) graph.old.unread }
+    ensures watch { IfOk result (λ watch. IsWatch graph.old.entries (pairs_of pairs.now)
+        (living_in owners.now.living listeners.now.entries) watch.heard.items watch.names.items watch.before.items) }
+    ensures cost { work.new.evaluated ≤ work.old.evaluated
+        + evaluations_of graph.old.entries
+        (watch_list (pairs_of pairs.now) (living_in owners.now.living listeners.now.entries)) graph.old.unread }
     ensures others { work.new ≡ record work.old { evaluated = work.new.evaluated } }
 {
     let heard = change_listeners(alloc, listeners, owners)?;
@@ -108,10 +112,14 @@ pub fn read_watched<L: Ledgers>(
     owners: &Owners,
     work: &mut Work<L>,
 ) -> Result<(), AllocError>
-    requires known { All (λ (name : ℕ). unknown_in graph.old.entries name ≡ false) (watch_list (pairs_of pairs.now) (living_in owners.now.living listeners.now.entries)) }
-    ensures ok { OnOk result (graph.new ≡ after_read_all (watch_list (pairs_of pairs.now) (living_in owners.now.living listeners.now.entries)) graph.old) }
+    requires known { All (λ (name : ℕ). unknown_in graph.old.entries name ≡ false)
+        (watch_list (pairs_of pairs.now) (living_in owners.now.living listeners.now.entries)) }
+    ensures ok { OnOk result (graph.new ≡ after_read_all
+        (watch_list (pairs_of pairs.now) (living_in owners.now.living listeners.now.entries)) graph.old) }
     ensures part { IsSomeRead graph.old graph.new }
-    ensures cost { work.new.evaluated ≤ work.old.evaluated + evaluations_of graph.old.entries (watch_list (pairs_of pairs.now) (living_in owners.now.living listeners.now.entries)) graph.old.unread }
+    ensures cost { work.new.evaluated ≤ work.old.evaluated
+        + evaluations_of graph.old.entries
+        (watch_list (pairs_of pairs.now) (living_in owners.now.living listeners.now.entries)) graph.old.unread }
     ensures others { work.new ≡ record work.old { evaluated = work.new.evaluated } }
 {
     let heard = change_listeners(alloc, listeners, owners)?;

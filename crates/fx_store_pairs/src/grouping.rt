@@ -20,7 +20,8 @@ fn add_missing(names: &mut Vec<Name>, name: Name) -> Result<(), AllocError>
 }
 
 fn add_partner(names: &mut Vec<Name>, name: Name, pair: (Name, Name)) -> Result<(), AllocError>
-    ensures { OnOk result (numbers names.new.items ≡ with_partner name.0 (pair.0.0, pair.1.0) (numbers names.old.items)) }
+    ensures { OnOk result (numbers names.new.items
+        ≡ with_partner name.0 (pair.0.0, pair.1.0) (numbers names.old.items)) }
 {
     if pair.0.0 == name.0 {
         return add_missing(names, pair.1);
@@ -33,7 +34,8 @@ fn add_partner(names: &mut Vec<Name>, name: Name, pair: (Name, Name)) -> Result<
 
 /// Adds the names that stand in a pair with this one, where they are missing.
 fn add_partners(names: &mut Vec<Name>, name: Name, pairs: &[(Name, Name)]) -> Result<(), AllocError>
-    ensures { OnOk result (numbers names.new.items ≡ with_partners name.0 (pairs_of pairs.now) (numbers names.old.items)) }
+    ensures { OnOk result (numbers names.new.items
+        ≡ with_partners name.0 (pairs_of pairs.now) (numbers names.old.items)) }
 {
     for pair in pairs {
         add_partner(names, name, *pair)?;
@@ -47,7 +49,8 @@ pub fn joined_names(
     pairs: &[(Name, Name)],
     name: Name,
 ) -> Result<Vec<Name>, AllocError>
-    ensures members { IfOk result (λ names. (other : ℕ) → Contains (numbers names.items) other ↔ joined (pairs_of pairs.now) name.0 other ≡ true) }
+    ensures members { IfOk result (λ names. (other : ℕ) → Contains (numbers names.items) other
+        ↔ joined (pairs_of pairs.now) name.0 other ≡ true) }
     ensures distinct { IfOk result (λ names. AllPairs (λ (one other : Named). one.0 ≢ other.0) names.items) }
 {
     let mut names = vec![in alloc; name]?;

@@ -91,7 +91,8 @@ impl Pairs {
 
     /// The name and all that are joined with it, each once.
     pub fn group(&self, alloc: Global, name: Name) -> Result<Vec<Name>, AllocError>
-        ensures members { IfOk result (λ names. (other : ℕ) → Contains (numbers names.items) other ↔ joined self.now name.0 other ≡ true) }
+        ensures members { IfOk result (λ names. (other : ℕ) → Contains (numbers names.items) other
+            ↔ joined self.now name.0 other ≡ true) }
         ensures distinct { IfOk result (λ names. AllPairs (λ (one other : Named). one.0 ≢ other.0) names.items) }
     {
         joined_names(alloc, self.pairs.as_slice(), name)

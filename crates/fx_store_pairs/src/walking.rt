@@ -56,7 +56,8 @@ fn touches(names: &[Name], pair: &(Name, Name)) -> bool
 
 /// Leaves the pairs of which neither name is one of these.
 pub fn drop_touched(pairs: &mut Vec<(Name, Name)>, names: &[Name])
-    ensures { pairs_of pairs.new.items ≡ filter (λ (pair : ℕ × ℕ). not (is_touched (numbers names.now) pair)) (pairs_of pairs.old.items) }
+    ensures { pairs_of pairs.new.items ≡ filter (λ (pair : ℕ × ℕ). not (is_touched (numbers names.now) pair))
+        (pairs_of pairs.old.items) }
 {
     pairs.retain(|pair| !touches(names, pair));
 }

@@ -1,4 +1,5 @@
--- Classes of characters and bytes. All of their members are ASCII but those of `is_continuation`, so in UTF-8 no byte of
+-- Classes of characters and bytes. All of their members are ASCII but those of `is_continuation`, so in UTF-8 no byte
+-- of
 -- a longer character is one of them.
 use Rattle.std.specs.Prelude.{ℕ, Bool, false, List, [], ◌∷◌, ◌&&◌, ◌||◌, ◌==◌, ◌-◌, nat_le, Option, Some, None, if◌then◌else◌}
 use Rattle.std.specs.List.{list_all}
@@ -17,7 +18,8 @@ is_quote c = (c == quotation_mark) || (c == apostrophe)
 
 -- an ASCII letter or `_`
 abbrev pub is_letter : ℕ → Bool
-is_letter c = ((nat_le capital_a c && nat_le c capital_z) || (nat_le small_a c && nat_le c small_z)) || (c == underscore)
+is_letter c = ((nat_le capital_a c && nat_le c capital_z) || (nat_le small_a c && nat_le c small_z))
+    || (c == underscore)
 
 abbrev pub is_letter_or_digit : ℕ → Bool
 is_letter_or_digit c = is_letter c || (nat_le digit_zero c && nat_le c digit_nine)

@@ -7,7 +7,7 @@ mod nodes;
 ghost use Rattle.std.specs.Prelude.{◌≡◌, ◌↔◌, ◌⊎◌, ◌+◌, ◌++◌, [], Some, length, reverse, is_some, IfOk, OnOk, OnErr};
 ghost use Rattle.fx_tree.specs.History.{DeadStayDead, EachBirthOnce, PathsMeetOnce, SubtreesMeetOnce};
 ghost use Rattle.fx_tree.specs.Refusals.{IsAnswer, IsFirmAnswer, attach_refusal, detach_refusal, drop_refusal, root_refusal, stale};
-ghost use Rattle.fx_tree.specs.Scene.{IsSound, after_attach, after_detach, after_drop, after_make, after_set_root, children_of, nothing, parent_of, path, subtree};
+ghost use Rattle.fx_tree.specs.Scene as spec;
 ghost use Rattle.fx_tree.specs.declared.TreeError.TheVariants.{Memory};
 ghost use Rattle.std.specs.Option.{option_copied};
 
@@ -91,7 +91,7 @@ impl Model for Tree {
 impl Tree {
     /// Nothing is alive.
     pub fn new(alloc: Global) -> Tree
-        ensures { result ≡ nothing }
+        ensures { result ≡ spec.nothing }
     {
         Tree {
             nodes: Slab::new(alloc),
@@ -103,7 +103,7 @@ impl Tree {
     /// A further node, without parent and children, born after all others.
     pub fn make(&mut self, alloc: Global) -> Result<NodeKey, TreeError>
         ensures birth { IfOk result (λ key. key.birth ≡ self.old.born + 1) }
-        ensures made { IfOk result (λ key. self.new ≡ after_make self.old key) }
+        ensures made { IfOk result (λ key. self.new ≡ spec.after_make self.old key) }
         ensures full { (result ≡ Err TreeError.Full)
             ↔ ((length self.old.nodes ≡ 4096) ⊎ (self.old.born ≡ 4294967295)) }
         ensures refused { OnErr result ((result ≡ Err TreeError.Full) ⊎ (result ≡ Err TreeError.Memory)) }
@@ -127,7 +127,7 @@ impl Tree {
     /// Makes a node without parent the root, where there is none.
     pub fn set_root(&mut self, _alloc: Global, key: NodeKey) -> Result<(), TreeError>
         ensures answer { IsFirmAnswer (root_refusal self.old key) result }
-        ensures ok { OnOk result (self.new ≡ after_set_root self.old key) }
+        ensures ok { OnOk result (self.new ≡ spec.after_set_root self.old key) }
         ensures err { OnErr result (self.new ≡ self.old) }
     {
         if !nodes::is_live(&self.nodes, key) {
@@ -152,7 +152,7 @@ impl Tree {
         place: usize,
     ) -> Result<(), TreeError>
         ensures answer { IsAnswer (attach_refusal self.old parent child place) result }
-        ensures ok { OnOk result (self.new ≡ after_attach self.old parent child place) }
+        ensures ok { OnOk result (self.new ≡ spec.after_attach self.old parent child place) }
         ensures err { OnErr result (self.new ≡ self.old) }
     {
         if let Some(refusal) = nodes::attach_refusal(&self.nodes, self.root, parent, child, place) {
@@ -165,7 +165,7 @@ impl Tree {
     /// Takes the child, and all that stand below it, out of its parent's list.
     pub fn detach(&mut self, _alloc: Global, child: NodeKey) -> Result<(), TreeError>
         ensures answer { IsFirmAnswer (detach_refusal self.old child) result }
-        ensures ok { OnOk result (self.new ≡ after_detach self.old child) }
+        ensures ok { OnOk result (self.new ≡ spec.after_detach self.old child) }
         ensures err { OnErr result (self.new ≡ self.old) }
     {
         if !nodes::is_live(&self.nodes, child) {
@@ -182,7 +182,7 @@ impl Tree {
     /// needs their keys reads them by `subtree` before.
     pub fn drop_tree(&mut self, key: NodeKey) -> Result<(), TreeError>
         ensures answer { IsFirmAnswer (drop_refusal self.old key) result }
-        ensures ok { OnOk result (self.new ≡ after_drop self.old key) }
+        ensures ok { OnOk result (self.new ≡ spec.after_drop self.old key) }
         ensures err { OnErr result (self.new ≡ self.old) }
     {
         if !nodes::is_live(&self.nodes, key) {
@@ -201,14 +201,14 @@ impl Tree {
     /// The root, if there is one.
     pub fn root(&self) -> Option<NodeKey>
         ensures root { result ≡ self.now.root }
-        ensures sound { IsSound self.now }
+        ensures sound { spec.IsSound self.now }
     {
         self.root
     }
 
     /// The children of a living node in their order.
     pub fn children(&self, key: NodeKey) -> Option<&[NodeKey]>
-        ensures { option_copied result ≡ children_of self.now.nodes key }
+        ensures { option_copied result ≡ spec.children_of self.now.nodes key }
     {
         match nodes::find_node(&self.nodes, key) {
             None => None,
@@ -218,7 +218,7 @@ impl Tree {
 
     /// The parent of a living node, if it has one.
     pub fn parent(&self, key: NodeKey) -> Option<NodeKey>
-        ensures { result ≡ parent_of self.now.nodes key }
+        ensures { result ≡ spec.parent_of self.now.nodes key }
     {
         nodes::parent_in(&self.nodes, key)
     }
@@ -226,7 +226,7 @@ impl Tree {
     /// The nodes from the topmost ancestor to this one.
     pub fn path(&self, alloc: Global, key: NodeKey) -> Result<Vec<NodeKey>, TreeError>
         ensures answer { IsAnswer (stale self.now key) result }
-        ensures ok { IfOk result (λ keys. keys.items ≡ path self.now.nodes key) }
+        ensures ok { IfOk result (λ keys. keys.items ≡ spec.path self.now.nodes key) }
     {
         if !nodes::is_live(&self.nodes, key) {
             return Err(TreeError::StaleKey);
@@ -240,7 +240,7 @@ impl Tree {
     /// A node and all that stand below it, in pre-order.
     pub fn subtree(&self, alloc: Global, key: NodeKey) -> Result<Vec<NodeKey>, TreeError>
         ensures answer { IsAnswer (stale self.now key) result }
-        ensures ok { IfOk result (λ keys. keys.items ≡ subtree self.now.nodes key) }
+        ensures ok { IfOk result (λ keys. keys.items ≡ spec.subtree self.now.nodes key) }
     {
         if !nodes::is_live(&self.nodes, key) {
             return Err(TreeError::StaleKey);

@@ -6,7 +6,7 @@ ghost use Rattle.fx_base.specs.declared.keys.NodeKey.{NodeKey};
 ghost use Rattle.slab.specs.Slab.{slab_len, get};
 ghost use Rattle.fx_tree.specs.Scene.{has, is_once, is_same, line_in, subtree_in, without};
 ghost use Rattle.fx_tree.specs.Refusals.{is_held};
-ghost use Rattle.fx_tree.specs.Slots.{IsForest, IsFreed, IsLinked, IsPruned, IsUnlinked, alive_at, attach_refused, below_at, fits_in, line_at, node_at, seen_at, up_at};
+ghost use Rattle.fx_tree.specs.Slots as spec;
 
 use crate::TreeError;
 use fx_base::NodeKey;
@@ -98,7 +98,7 @@ pub fn same_key(one: NodeKey, other: NodeKey) -> bool
 
 /// What is kept of this node, if it is alive.
 pub fn find_node(nodes: &Slab<Stored>, key: NodeKey) -> Option<&Stored>
-    ensures { option_copied result ≡ node_at nodes.now.slots key }
+    ensures { option_copied result ≡ spec.node_at nodes.now.slots key }
 {
     match nodes.get(key.slot) {
         None => None,
@@ -114,7 +114,7 @@ pub fn find_node(nodes: &Slab<Stored>, key: NodeKey) -> Option<&Stored>
 
 /// The parent of a living node, if it has one.
 pub fn parent_in(nodes: &Slab<Stored>, key: NodeKey) -> Option<NodeKey>
-    ensures { result ≡ up_at nodes.now.slots key }
+    ensures { result ≡ spec.up_at nodes.now.slots key }
 {
     match find_node(nodes, key) {
         None => None,
@@ -124,7 +124,7 @@ pub fn parent_in(nodes: &Slab<Stored>, key: NodeKey) -> Option<NodeKey>
 
 /// The children of a living node, none of another.
 pub fn children_in(nodes: &Slab<Stored>, key: NodeKey) -> &[NodeKey]
-    ensures { result.now ≡ below_at nodes.now.slots key }
+    ensures { result.now ≡ spec.below_at nodes.now.slots key }
 {
     match find_node(nodes, key) {
         None => &[],
@@ -135,14 +135,14 @@ pub fn children_in(nodes: &Slab<Stored>, key: NodeKey) -> &[NodeKey]
 /// Whether the node is alive.
 #[tactic(auto, unfolding(crate::specs::Slots::alive_at))]
 pub fn is_live(nodes: &Slab<Stored>, key: NodeKey) -> bool
-    ensures { result ≡ alive_at nodes.now.slots key }
+    ensures { result ≡ spec.alive_at nodes.now.slots key }
 {
     find_node(nodes, key).is_some()
 }
 
 /// Whether `upper` is this node or an ancestor of it.
 fn stands_within(nodes: &Slab<Stored>, key: NodeKey, upper: NodeKey) -> bool
-    ensures { result ≡ has (line_at nodes.now.slots key) upper }
+    ensures { result ≡ has (spec.line_at nodes.now.slots key) upper }
 {
     let mut at = Some(key);
     for _step in 0..MOST_DEEP {
@@ -160,7 +160,7 @@ fn stands_within(nodes: &Slab<Stored>, key: NodeKey, upper: NodeKey) -> bool
 
 /// How many nodes a node and its ancestors are.
 fn depth_of(nodes: &Slab<Stored>, key: NodeKey) -> usize
-    ensures counted { result ≡ length (line_at nodes.now.slots key) }
+    ensures counted { result ≡ length (spec.line_at nodes.now.slots key) }
     ensures most { result ≤ 64 }
 {
     let mut at = Some(key);
@@ -176,7 +176,7 @@ fn depth_of(nodes: &Slab<Stored>, key: NodeKey) -> usize
 
 /// Whether the subtree has at most so many levels.
 fn fits(nodes: &Slab<Stored>, levels: usize, key: NodeKey) -> bool
-    ensures { result ≡ fits_in levels (below_at nodes.now.slots) key }
+    ensures { result ≡ spec.fits_in levels (spec.below_at nodes.now.slots) key }
 {
     if levels == 0 {
         return false;
@@ -196,7 +196,7 @@ pub fn push_subtree(
     key: NodeKey,
     keys: &mut Vec<NodeKey>,
 ) -> Result<(), AllocError>
-    ensures { OnOk result (keys.new.items ≡ keys.old.items ++ subtree_in levels (below_at nodes.now.slots) key) }
+    ensures { OnOk result (keys.new.items ≡ keys.old.items ++ subtree_in levels (spec.below_at nodes.now.slots) key) }
 {
     if levels == 0 {
         return Ok(());
@@ -214,7 +214,7 @@ pub fn push_line(
     key: NodeKey,
     keys: &mut Vec<NodeKey>,
 ) -> Result<(), AllocError>
-    ensures { OnOk result (keys.new.items ≡ keys.old.items ++ line_at nodes.now.slots key) }
+    ensures { OnOk result (keys.new.items ≡ keys.old.items ++ spec.line_at nodes.now.slots key) }
 {
     let mut at = Some(key);
     for _step in 0..MOST_DEEP {
@@ -230,21 +230,22 @@ pub fn push_line(
 
 /// Whether the node has a parent.
 pub fn has_parent(nodes: &Slab<Stored>, key: NodeKey) -> bool
-    ensures { result ≡ is_some (up_at nodes.now.slots key) }
+    ensures { result ≡ is_some (spec.up_at nodes.now.slots key) }
 {
     parent_in(nodes, key).is_some()
 }
 
 /// Whether the place is past the end of the children.
 fn is_past_end(nodes: &Slab<Stored>, key: NodeKey, place: usize) -> bool
-    ensures { result ≡ nat_lt (length (below_at nodes.now.slots key)) place }
+    ensures { result ≡ nat_lt (length (spec.below_at nodes.now.slots key)) place }
 {
     children_in(nodes, key).len() < place
 }
 
 /// Whether a way through the parent into the child's subtree would have too many nodes.
 fn is_too_deep(nodes: &Slab<Stored>, parent: NodeKey, child: NodeKey) -> bool
-    ensures { result ≡ not (fits_in (64 - length (line_at nodes.now.slots parent)) (below_at nodes.now.slots) child) }
+    ensures { result ≡ not (spec.fits_in (64 - length (spec.line_at nodes.now.slots parent))
+        (spec.below_at nodes.now.slots) child) }
 {
     !fits(nodes, MOST_DEEP - depth_of(nodes, parent), child)
 }
@@ -257,7 +258,7 @@ pub fn attach_refusal(
     child: NodeKey,
     place: usize,
 ) -> Option<TreeError>
-    ensures { result ≡ attach_refused nodes.now.slots root parent child place }
+    ensures { result ≡ spec.attach_refused nodes.now.slots root parent child place }
 {
     if !is_live(nodes, parent) {
         return Some(TreeError::StaleKey);
@@ -295,7 +296,9 @@ pub fn is_key(held: Option<NodeKey>, key: NodeKey) -> bool
 
 /// Gives a living node this parent, or none.
 fn set_parent(nodes: &mut Slab<Stored>, key: NodeKey, parent: Option<NodeKey>)
-    ensures changed { get nodes.new key.slot ≡ option_map (λ stored. record { birth = stored.birth; parent = parent; children = stored.children }) (get nodes.old key.slot) }
+    ensures changed { get nodes.new key.slot
+        ≡ option_map (λ stored. record { birth = stored.birth; parent = parent; children = stored.children })
+        (get nodes.old key.slot) }
     ensures others { (other : ℕ) → other ≢ key.slot → get nodes.new other ≡ get nodes.old other }
     ensures len { slab_len nodes.new ≡ slab_len nodes.old }
 {
@@ -312,8 +315,14 @@ fn insert_child(
     place: usize,
 ) -> Result<(), AllocError>
     requires alive { IsSome (get nodes.old parent.slot) }
-    requires place { place ≤ length (below_at nodes.old.slots parent) }
-    ensures changed { OnOk result (get nodes.new parent.slot ≡ option_map (λ stored. record { birth = stored.birth; parent = stored.parent; children = insert stored.children place child }) (get nodes.old parent.slot)) }
+    requires place { place ≤ length (spec.below_at nodes.old.slots parent) }
+    ensures changed { OnOk result (get nodes.new parent.slot
+        ≡ option_map (λ stored. record {
+          birth = stored.birth;
+          parent = stored.parent;
+          children = insert
+              stored.children place child;
+        }) (get nodes.old parent.slot)) }
     ensures others { OnOk result ((other : ℕ) → other ≢ parent.slot → get nodes.new other ≡ get nodes.old other) }
     ensures len { OnOk result (slab_len nodes.new ≡ slab_len nodes.old) }
     ensures err { OnErr result (nodes.new ≡ nodes.old) }
@@ -327,7 +336,13 @@ fn insert_child(
 /// Takes the child out of the parent's list.
 fn remove_child(nodes: &mut Slab<Stored>, parent: NodeKey, child: NodeKey)
     requires { IfSome (get nodes.old parent.slot) (λ stored. is_once stored.children ≡ true) }
-    ensures changed { get nodes.new parent.slot ≡ option_map (λ stored. record { birth = stored.birth; parent = stored.parent; children = without child stored.children }) (get nodes.old parent.slot) }
+    ensures changed { get nodes.new parent.slot
+        ≡ option_map (λ stored. record {
+          birth = stored.birth;
+          parent = stored.parent;
+          children = without child
+              stored.children;
+        }) (get nodes.old parent.slot) }
     ensures others { (other : ℕ) → other ≢ parent.slot → get nodes.new other ≡ get nodes.old other }
     ensures len { slab_len nodes.new ≡ slab_len nodes.old }
 {
@@ -343,10 +358,10 @@ pub fn link(
     child: NodeKey,
     place: usize,
 ) -> Result<(), AllocError>
-    requires parent_alive { alive_at nodes.old.slots parent ≡ true }
-    requires child_alive { alive_at nodes.old.slots child ≡ true }
-    requires place { place ≤ length (below_at nodes.old.slots parent) }
-    ensures ok { OnOk result (IsLinked nodes.old.slots nodes.new.slots parent child place) }
+    requires parent_alive { spec.alive_at nodes.old.slots parent ≡ true }
+    requires child_alive { spec.alive_at nodes.old.slots child ≡ true }
+    requires place { place ≤ length (spec.below_at nodes.old.slots parent) }
+    ensures ok { OnOk result (spec.IsLinked nodes.old.slots nodes.new.slots parent child place) }
     ensures len { OnOk result (slab_len nodes.new ≡ slab_len nodes.old) }
     ensures err { OnErr result (nodes.new ≡ nodes.old) }
 {
@@ -357,8 +372,8 @@ pub fn link(
 
 /// Takes a node out of its parent's list, if it has a parent.
 pub fn unlink(nodes: &mut Slab<Stored>, child: NodeKey)
-    requires { IsForest nodes.old.slots }
-    ensures unlinked { IsUnlinked nodes.old.slots nodes.new.slots child }
+    requires { spec.IsForest nodes.old.slots }
+    ensures unlinked { spec.IsUnlinked nodes.old.slots nodes.new.slots child }
     ensures len { slab_len nodes.new ≡ slab_len nodes.old }
 {
     let parent = match parent_in(nodes, child) {
@@ -371,8 +386,8 @@ pub fn unlink(nodes: &mut Slab<Stored>, child: NodeKey)
 
 /// Frees the slot of a living node.
 fn free(nodes: &mut Slab<Stored>, key: NodeKey)
-    requires { alive_at nodes.old.slots key ≡ true }
-    ensures freed { IsFreed nodes.old.slots nodes.new.slots key }
+    requires { spec.alive_at nodes.old.slots key ≡ true }
+    ensures freed { spec.IsFreed nodes.old.slots nodes.new.slots key }
     ensures len { slab_len nodes.new + 1 ≡ slab_len nodes.old }
 {
     nodes.try_remove(key.slot);
@@ -380,11 +395,11 @@ fn free(nodes: &mut Slab<Stored>, key: NodeKey)
 
 /// A node without children that is this one or stands below it.
 fn last_leaf(nodes: &Slab<Stored>, key: NodeKey) -> NodeKey
-    requires forest { IsForest nodes.now.slots }
-    requires alive { alive_at nodes.now.slots key ≡ true }
-    ensures alive { alive_at nodes.now.slots result ≡ true }
-    ensures within { has (line_at nodes.now.slots result) key ≡ true }
-    ensures leaf { below_at nodes.now.slots result ≡ [] }
+    requires forest { spec.IsForest nodes.now.slots }
+    requires alive { spec.alive_at nodes.now.slots key ≡ true }
+    ensures alive { spec.alive_at nodes.now.slots result ≡ true }
+    ensures within { has (spec.line_at nodes.now.slots result) key ≡ true }
+    ensures leaf { spec.below_at nodes.now.slots result ≡ [] }
 {
     let mut at = key;
     for _step in 0..MOST_DEEP {
@@ -398,16 +413,16 @@ fn last_leaf(nodes: &Slab<Stored>, key: NodeKey) -> NodeKey
 
 /// The parent of a node, or the node where it has none.
 fn parent_or_itself(nodes: &Slab<Stored>, key: NodeKey) -> NodeKey
-    ensures { result ≡ unwrap_or (up_at nodes.now.slots key) key }
+    ensures { result ≡ unwrap_or (spec.up_at nodes.now.slots key) key }
 {
     parent_in(nodes, key).unwrap_or(key)
 }
 
 /// Frees a topmost node and all that stand below it, the leaves first. Each way down begins where the last leaf stood.
 pub fn prune(nodes: &mut Slab<Stored>, top: NodeKey)
-    requires forest { IsForest nodes.old.slots }
-    requires topmost { up_at nodes.old.slots top ≡ None }
-    ensures { IsPruned nodes.old.slots nodes.new.slots top }
+    requires forest { spec.IsForest nodes.old.slots }
+    requires topmost { spec.up_at nodes.old.slots top ≡ None }
+    ensures { spec.IsPruned nodes.old.slots nodes.new.slots top }
 {
     let mut at = top;
     while is_live(nodes, top) {

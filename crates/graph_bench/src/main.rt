@@ -1,4 +1,5 @@
-//! Builds properties that are bound in a chain or to one name, and changes, reads and binds them, so many times each; it
+//! Builds properties that are bound in a chain or to one name, and changes, reads and binds them, so many times each;
+//! it
 //! prints a checksum. A script counts its instructions; no other crate stands on this one.
 #![tactic(auto)]
 

@@ -1,5 +1,7 @@
-//! Carries out commands on a property graph, a line each, and prints what each answered, the names that became unread in
-//! the last change, and a flag for each name that says whether it is unread. Its input and output are a test of the graph.
+//! Carries out commands on a property graph, a line each, and prints what each answered, the names that became unread
+//! in
+//! the last change, and a flag for each name that says whether it is unread. Its input and output are a test of the
+//! graph.
 #![tactic(auto)]
 
 mod answers;

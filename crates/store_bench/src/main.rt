@@ -1,5 +1,7 @@
-//! Sets the first property of a chain of diamonds, with one change listener at its end, and makes owners that listen and
-//! are released, so many times each; it prints how many notices came. A script counts its instructions; no other crate stands on
+//! Sets the first property of a chain of diamonds, with one change listener at its end, and makes owners that listen
+//! and
+//! are released, so many times each; it prints how many notices came. A script counts its instructions; no other crate
+//! stands on
 //! this one.
 #![tactic(auto)]
 

@@ -23,7 +23,6 @@ loop-step-preserved c =
     let tail = line_in (64 - (c.loop-step._step + 1)) up (up c.in-Some.here) in
     let joined : (nodes ++ c.in-Some.here ∷ []) ++ tail ≡ nodes ++ c.in-Some.here ∷ tail = rw append_assoc refl in
     ap (λ (l : List NodeKey). l ++ line_in (64 - (c.loop-step._step + 1)) up c.parent-at.result) c.in_ok-push.ensures.ok
-    ∙ ap (λ (k : NodeKey). (nodes ++ k ∷ []) ++ line_in (64 - (c.loop-step._step + 1)) up c.parent-at.result) c.new.ensures
     ∙ ap (λ (o : Option NodeKey). (nodes ++ c.in-Some.here ∷ []) ++ line_in (64 - (c.loop-step._step + 1)) up o) c.parent-at.ensures
     ∙ joined
     ∙ sym (ap (λ (l : List NodeKey). nodes ++ l) (walk_some up c.loop-step._step c.loop-step.at c.in-Some.here c.in-Some.is c.loop-step-test.true))

@@ -1,4 +1,4 @@
-use Rattle.std.proofs.Common.{◌≡◌, ◌↔◌, ◌∙◌, List, [], ◌∷◌, None, Some, cond, is_some, Err, IsTrue, ap, sym, subst}
+use Rattle.std.proofs.Common.{refl, ◌≡◌, ◌↔◌, ◌∙◌, List, [], ◌∷◌, None, Some, cond, is_some, Err, IsTrue, ap, sym, subst}
 use Rattle.std.specs.FinMap.{from_entries, insert}
 use Rattle.std.specs.Map.{lookup, set_value}
 use Rattle.std.proofs.lemmas.Map.Steps.{set_value_same}
@@ -13,7 +13,7 @@ use Rattle.fx_events.proofs.Handlers.add.Goals as goal
 
 there : (c : goal.After-self-in-Some-1) → registrations_of c.args.self.now c.args.key ≡ c.in-Some.node.now
 there c =
-    listed c.self.inside.nodes.entries c.args.self.now c.self.view_is c.new.result c.args.key c.new.ensures
+    listed c.self.inside.nodes.entries c.args.self.now c.self.view_is c.args.key c.args.key refl
     (Some c.in-Some.node.now) c.in-Some.ensures.value
 
 pub returns-in-Some-clause-added : goal.returns-in-Some-clause-added
@@ -25,7 +25,7 @@ returns-in-Some-clause-added c =
     let changed = (c.get_mut.follows.holds w).3 (sym (ap is_some c.in-Some.ensures.value)) in
     let put : from_entries {R = key_cmp} (c.get_mut.follows.lender w).entries ≡ insert c.args.self.now key w =
     inserted entries (c.get_mut.follows.lender w).entries key w
-    (λ q. changed.0 q ∙ ap (λ (k : NodeKey). cond (same_key k q) (Some w) (lookup (same_key q) entries)) c.new.ensures)
+    (λ q. changed.0 q ∙ ap (λ (k : NodeKey). cond (same_key k q) (Some w) (lookup (same_key q) entries)) refl)
     ∙ ap (λ (m : HandlerMap). insert m key w) c.self.view_is in
     on_ok_weaker {P = w ≡ with_registration new c.in-Some.node.now} c.add.result
     (λ is. put ∙ ap (insert c.args.self.now key) (is ∙ ap (with_registration new) (sym (there c))))
@@ -45,22 +45,22 @@ returns-in-Some-clause-err c =
     (λ is.
     ap (from_entries {R = key_cmp})
     ((c.get_mut.follows.holds w).0
-    ∙ ap (set_value (same_key c.new.result) entries) is
-    ∙ set_value_same (same_key c.new.result) entries node (sym c.in-Some.ensures.value))
+    ∙ ap (set_value (same_key c.args.key) entries) is
+    ∙ set_value_same (same_key c.args.key) entries node (sym c.in-Some.ensures.value))
     ∙ c.self.view_is)
     c.add.ensures.err
 
 pub returns-in_err-node-clause-full : goal.returns-in_err-node-clause-full
 returns-in_err-node-clause-full c =
     let new : Registration = record { on = c.args.on; phase = c.args.phase; action = c.args.action } in
-    let none = listed c.self.inside.nodes.entries c.args.self.now c.self.view_is c.new.result c.args.key c.new.ensures None c.in_default.ensures.value in
+    let none = listed c.self.inside.nodes.entries c.args.self.now c.self.view_is c.args.key c.args.key refl None c.in_default.ensures.value in
     let p = err_from_is_err_and c.from_residual.result c.from_residual.ensures.1 in
     never_full new (registrations_of c.args.self.now c.args.key) none c.from_residual.result (memory_is_another c.from_residual.result (p.1 ∙ ap Err p.2))
 
 pub returns-in_err-insert-clause-full : goal.returns-in_err-insert-clause-full
 returns-in_err-insert-clause-full c =
     let new : Registration = record { on = c.args.on; phase = c.args.phase; action = c.args.action } in
-    let none = listed c.self.inside.nodes.entries c.args.self.now c.self.view_is c.new.result c.args.key c.new.ensures None c.in_default.ensures.value in
+    let none = listed c.self.inside.nodes.entries c.args.self.now c.self.view_is c.args.key c.args.key refl None c.in_default.ensures.value in
     let p = err_from_is_err_and c.from_residual-in_err-insert.result c.from_residual-in_err-insert.ensures.1 in
     never_full new (registrations_of c.args.self.now c.args.key) none c.from_residual-in_err-insert.result
     (memory_is_another c.from_residual-in_err-insert.result (p.1 ∙ ap Err p.2))
@@ -70,13 +70,13 @@ returns-clause-added c =
     let entries = c.self.inside.nodes.entries in
     let key = c.args.key in
     let new : Registration = record { on = c.args.on; phase = c.args.phase; action = c.args.action } in
-    let none = listed entries c.args.self.now c.self.view_is c.new.result key c.new.ensures None c.in_default.ensures.value in
+    let none = listed entries c.args.self.now c.self.view_is c.args.key key refl None c.in_default.ensures.value in
     let alone : List Registration = new ∷ [] in
     inserted entries c.insert.new.self.entries key alone
     (λ q.
     c.in_ok-insert.ensures.updates.0 q
     ∙ (λ i.
-    cond (same_key (c.new-2.ensures i) q) (Some (c.in_ok-node.ensures i))
+    cond (same_key key q) (Some (c.in_ok-node.ensures i))
     (lookup (same_key q) (c.get_mut.follows.holds-at-none i).entries)))
     ∙ ap (λ (m : HandlerMap). insert m key alone) c.self.view_is
     ∙ ap (insert c.args.self.now key) (sym (ap (with_registration new) none ∙ first_alone new))
@@ -84,5 +84,5 @@ returns-clause-added c =
 pub returns-clause-full : goal.returns-clause-full
 returns-clause-full c =
     let new : Registration = record { on = c.args.on; phase = c.args.phase; action = c.args.action } in
-    let none = listed c.self.inside.nodes.entries c.args.self.now c.self.view_is c.new.result c.args.key c.new.ensures None c.in_default.ensures.value in
+    let none = listed c.self.inside.nodes.entries c.args.self.now c.self.view_is c.args.key c.args.key refl None c.in_default.ensures.value in
     never_full new (registrations_of c.args.self.now c.args.key) none _ success_is_another

@@ -98,7 +98,7 @@ store_roomier es users users' unread before newly n cache fresh work operands wo
       sound = s.sound;
       settled = s.settled;
       mirrors = m;
-      before_length = s.before_length;
+      spare_unset = s.spare_unset;
       newly_length = s.newly_length;
       newly_few = s.newly_few;
       fresh_length = s.fresh_length;
@@ -127,7 +127,7 @@ store_bound es users users' unread before newly n cache fresh work total name ex
       sound = sound_bound es s.sound name expr operands b.known b.writable b.kind places b.operands_known;
       settled = settled_bound es after.0 name entry after.1 unread cache s.settled;
       mirrors = m;
-      before_length = s.before_length ∙ sym long;
+      spare_unset = s.spare_unset ∙ ap (λ n. replicate n false) (sym long);
       newly_length = l ∙ sym long;
       newly_few = omega (arith, h, long);
       fresh_length = s.fresh_length ∙ sym long;

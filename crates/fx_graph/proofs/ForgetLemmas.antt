@@ -1,5 +1,6 @@
 -- What is asked before names are forgotten, and what forgetting leaves of what the graph keeps.
-use Rattle.std.proofs.Common.{◌≡◌, ◌<◌, ◌≤◌, ◌+◌, ℕ, Bool, true, false, cond, List, [], ◌∷◌, length, get_or, set, take, Contains, Some, None, sym, ap, subst, ◌∙◌, inl, inr, arith}
+use Rattle.std.proofs.Common.{refl, zero, suc, ◌⊎◌, ◌≡◌, ◌<◌, ◌≤◌, ◌+◌, ℕ, Bool, true, false, cond, List, [], ◌∷◌, length, get_or, set, take, Contains, Some, None, sym, ap, subst, ◌∙◌, inl, inr, arith, replicate}
+use Rattle.std.proofs.lemmas.Bool.{both_ways}
 use Rattle.std.proofs.lemmas.List.Elements.{Contains-push_cases}
 use Rattle.fx_base.specs.declared.keys.Name.{Name}
 use Rattle.fx_base.specs.declared.values.Value.{Value}
@@ -18,7 +19,9 @@ use Rattle.fx_graph_model.proofs.Forgetting.{reset_all, reset-none, reset-more, 
 use Rattle.fx_graph_model.proofs.Members.{map_contains}
 use Rattle.fx_graph_model.proofs.Refusing.{refused_none}
 use Rattle.fx_graph_model.proofs.SoundLemmas.{sound_forget}
-use Rattle.fx_graph.specs.Forgotten.{IsSomeOutside, reset}
+use Rattle.fx_graph_model.specs.Unread.{marked}
+use Rattle.fx_graph_model.specs.Marking.{MarksAll}
+use Rattle.fx_graph.specs.Forgotten.{AreFlagged, IsSomeOutside, reset}
 use Rattle.fx_graph.specs.Store.{IsStore}
 use Rattle.fx_graph_edges.proofs.RowLemmas.{numbers_more}
 
@@ -77,7 +80,7 @@ store_forgotten es users unread before newly n cache fresh work operands names u
       settled = subst (IsSettled (forget_all names es) (clear_all names unread)) (sym (reset_is names cache))
           (settled_forget names es s.ranks.0 s.ranks.1 free unread cache s.settled);
       mirrors = m;
-      before_length = s.before_length ∙ sym long;
+      spare_unset = s.spare_unset ∙ ap (λ n. replicate n false) (sym long);
       newly_length = s.newly_length ∙ sym long;
       newly_few = omega (arith, s.newly_few);
       fresh_length = s.fresh_length ∙ sym long;
@@ -86,3 +89,25 @@ store_forgotten es users unread before newly n cache fresh work operands names u
       counted = counted;
       operands_few = omega (arith, s.operands_few);
     }
+
+blank : (n name : ℕ) → marked (replicate n false) name ≡ false
+blank zero name = refl
+blank (suc n) zero = refl
+blank (suc n) (suc name) = blank n name
+
+-- names that were marked in flags of which none was set are the flagged ones
+pub flagged : (n : ℕ) (names : List ℕ) (work : List ℕ) (now : List Bool) (after : List ℕ) (end : ℕ)
+    → MarksAll names (replicate n false) work 0 now after end → AreFlagged names now
+flagged n names work now after end m =
+    record {
+      set = m.each;
+      only = λ name on. only name (m.only name on);
+    }
+  where
+    only : (name : ℕ) → (marked (replicate n false) name ≡ true) ⊎ Contains names name → Contains names name
+    only name (inl before) = absurd (both_ways _ (blank n name) before)
+    only name (inr among) = among
+
+-- forgetting some of the names that are left gives a list of one length with the first
+pub length-forgotten : (all left : List ℕ) (es now : List Entry) → forget_all left now ≡ forget_all all es → length now ≡ length es
+length-forgotten all left es now same = sym (length-forget left now) ∙ ap length same ∙ length-forget all es

@@ -1,5 +1,6 @@
 pub mod AllowedLemmas
 pub mod BindLemmas
+pub mod FinishLemmas
 pub mod ForgetLemmas
 pub mod GivenLemmas
 pub mod LookLemmas

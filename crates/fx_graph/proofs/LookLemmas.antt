@@ -4,9 +4,10 @@ use Rattle.std.specs.List.{Contains}
 use Rattle.std.proofs.lemmas.Bool.{and_parts, both_ways}
 use Rattle.std.proofs.lemmas.List.{map-append, take-append-drop}
 use Rattle.std.proofs.lemmas.List.Elements.{All-contains, Contains-append_left}
-use Rattle.fx_graph_model.specs.Changes.{AreKnown, IsSomeRead}
-use Rattle.fx_graph_model.specs.Uses.{unknown_in}
+use Rattle.fx_graph_model.specs.Changes.{State, AreKnown, IsReadInPart, IsSomeRead, after_read, after_read_all}
+use Rattle.fx_graph_model.specs.Uses.{unknown_in, uses}
 use Rattle.fx_graph_model.proofs.Changed.{known_within}
+use Rattle.fx_graph_model.proofs.Flags.{length-by}
 use Rattle.fx_graph_model.proofs.Members.{map_contains}
 use Rattle.fx_base.specs.declared.keys.Name.{Name}
 use Rattle.fx_base.specs.declared.values.Value.{Value}
@@ -15,11 +16,17 @@ use Rattle.fx_base.specs.Names.{numbers}
 use Rattle.fx_graph_model.specs.Eager.{eager}
 use Rattle.fx_graph_model.specs.Unread.{marked, after_reading, after_reads, bound_unread, evaluations, evaluations_of, is_reached, IsClosed}
 use Rattle.fx_graph_model.specs.Sound.{IsSettled}
+use Rattle.fx_graph.specs.declared.lists.Lists.{Lists}
+use Rattle.fx_graph.specs.Store.{Holds, IsStore, shown}
+use Rattle.fx_graph.proofs.StoreLemmas.{store_flags}
 use Rattle.fx_graph_model.proofs.ManyReads.{evaluations_more, evaluations_push, marked-reads, reads_again, reads_none, reads_push, reads_spent}
 
 not_marked : (before now : Bool) → (now ≡ true → before ≡ true) → before ≡ false → now ≡ false
 not_marked before true fewer off = absurd (both_ways before off (fewer refl))
 not_marked before false fewer off = refl
+
+reads_long : (es : List Entry) (names : List ℕ) (before now : List Bool) → now ≡ after_reads es names before → length now ≡ length before
+reads_long es names before now same = ap length same ∙ length-by _ (length before)
 
 -- these names were read, and their values stand in a list
 pub record Reads (entries : List Entry) (names : List ℕ) (before now : List Bool) (cache values : List Value) (cost cost' : ℕ) : Type 0 where
@@ -96,3 +103,94 @@ pub some_read : (es : List Entry) (newly : List ℕ) (before now : List Bool) �
     → ((n : ℕ) → marked now n ≡ true → marked before n ≡ true)
     → IsSomeRead (record { entries = es; unread = before; newly = newly }) (record { entries = es; unread = now; newly = newly })
 some_read es newly before now long fewer = record { entries = refl; flags = long; fewer = fewer; newly = refl }
+
+-- the lists after these names were read one after another, with their values
+pub record Looks (first now : Lists) (names : List ℕ) (values : List Value) (cost cost' : ℕ) : Type 0 where
+  pub holds : Holds now
+  pub state : shown now ≡ after_read_all names (shown first)
+  pub listed : values ≡ map (eager first.entries.items) names
+  pub steps : cost' + bound_unread first.entries.items now.unread.items ≡ cost + bound_unread first.entries.items first.unread.items
+
+pub looks_entries : (first now : Lists) (names : List ℕ) (values : List Value) (cost cost' : ℕ) → Looks first now names values cost cost'
+    → now.entries.items ≡ first.entries.items
+looks_entries first now names values cost cost' k = ap (λ (s : State). s.entries) k.state
+
+pub looks_reads : (first now : Lists) (names : List ℕ) (values : List Value) (cost cost' : ℕ) → Looks first now names values cost cost'
+    → Reads first.entries.items names first.unread.items now.unread.items now.cache.items values cost cost'
+looks_reads first now names values cost cost' k =
+    record {
+      settled = rw (looks_entries first now names values cost cost' k) at k.holds.settled;
+      flags = ap (λ (s : State). s.unread) k.state;
+      listed = k.listed;
+      steps = k.steps;
+    }
+
+pub looks_start : (first : Lists) (cost : ℕ) → Holds first → Looks first first [] [] cost cost
+looks_start first cost h =
+    record {
+      holds = h;
+      state = ap (λ (f : List Bool). record (shown first) { unread = f }) (sym (reads_none first.entries.items first.unread.items));
+      listed = refl;
+      steps = refl;
+    }
+
+pub looks_more : (first now next : Lists) (names : List ℕ) (name : ℕ) (values : List Value) (value : Value) (cost cost' cost'' : ℕ)
+    → Looks first now names values cost cost' → Holds next → shown next ≡ after_read name (shown now) → value ≡ eager now.entries.items name
+    → cost'' + bound_unread now.entries.items next.unread.items ≡ cost' + bound_unread now.entries.items now.unread.items
+    → Looks first next (names ++ name ∷ []) (values ++ value ∷ []) cost cost''
+looks_more first now next names name values value cost cost' cost'' k h state here spent =
+    let es = first.entries.items in
+    let entries = looks_entries first now names values cost cost' k in
+    let after : next.entries.items ≡ es = ap (λ (s : State). s.entries) state ∙ entries in
+    let read : next.unread.items ≡ after_reading es name now.unread.items = rw entries at (ap (λ (s : State). s.unread) state) in
+    let newly = ap (λ (s : State). s.newly) state ∙ ap (λ (s : State). s.newly) k.state in
+    let m : Reads es (names ++ name ∷ []) first.unread.items next.unread.items next.cache.items (values ++ value ∷ []) cost cost'' =
+    reads_more es names name first.unread.items now.unread.items next.unread.items now.cache.items next.cache.items values value cost cost' cost''
+    (looks_reads first now names values cost cost' k) (rw after at h.settled) read (rw entries at here) (rw entries at spent) in
+    record {
+      holds = h;
+      state = rw (after, m.flags, newly) refl;
+      listed = m.listed;
+      steps = m.steps;
+    }
+
+-- one name more was read in part
+pub looks_part : (first now next : Lists) (names : List ℕ) (name : ℕ) (values : List Value) (cost cost' : ℕ)
+    → Looks first now names values cost cost' → IsReadInPart name (shown now) (shown next) → IsSomeRead (shown first) (shown next)
+looks_part first now next names name values cost cost' k p =
+    let r = looks_reads first now names values cost cost' k in
+    record {
+      entries = p.entries ∙ looks_entries first now names values cost cost' k;
+      flags = p.unread.flags ∙ reads_long _ _ _ _ r.flags;
+      fewer = λ n on. reads_fewer _ _ _ _ _ _ _ _ r n (p.unread.fewer n on);
+      newly = p.newly ∙ ap (λ (s : State). s.newly) k.state;
+    }
+
+pub looks_some : (first now : Lists) (names : List ℕ) (values : List Value) (cost cost' : ℕ) → Looks first now names values cost cost'
+    → IsSomeRead (shown first) (shown now)
+looks_some first now names values cost cost' k =
+    let r = looks_reads first now names values cost cost' k in
+    record {
+      entries = looks_entries first now names values cost cost' k;
+      flags = reads_long _ _ _ _ r.flags;
+      fewer = reads_fewer _ _ _ _ _ _ _ _ r;
+      newly = ap (λ (s : State). s.newly) k.state;
+    }
+
+-- the flags are put back after some names were read
+pub looked_back : (first now : Lists) (flags : List Bool) → Holds first → Holds now → IsSomeRead (shown first) (shown now)
+    → flags ≡ first.unread.items
+    → IsStore now.entries.items now.users.items flags now.spare.items now.newly.items now.newly_count now.cache.items now.fresh.items
+    now.work.items now.operand_count
+looked_back first now flags h k r same =
+    let entries : now.entries.items ≡ first.entries.items = r.entries in
+    let old : IsSettled first.entries.items first.unread.items first.cache.items = h.settled in
+    let settled : IsSettled now.entries.items first.unread.items now.cache.items =
+    record {
+      flags = old.flags ∙ ap length (sym entries);
+      values = k.settled.values;
+      closed = λ user name i on. old.closed user name (subst (λ (es : List Entry). Contains (uses es user) name) entries i) on;
+      kept = λ name within off. k.settled.kept name within (not_marked (marked first.unread.items name) (marked now.unread.items name) (r.fewer name) off);
+    } in
+    store_flags now.entries.items now.users.items now.unread.items now.spare.items now.newly.items now.newly_count now.cache.items now.fresh.items
+    now.work.items now.operand_count flags k (subst (λ (f : List Bool). IsSettled now.entries.items f now.cache.items) (sym same) settled)

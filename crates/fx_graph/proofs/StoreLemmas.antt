@@ -1,5 +1,5 @@
 -- What the graph keeps, at each of its calls.
-use Rattle.std.proofs.Common.{◌≡◌, ◌<◌, ◌≤◌, ◌+◌, ℕ, Bool, false, List, [], ◌∷◌, ◌++◌, length, ◌≢◌, AllPairs, Contains, refl, sym, ap, subst, ◌∙◌, arith}
+use Rattle.std.proofs.Common.{zero, suc, ◌≡◌, ◌<◌, ◌≤◌, ◌+◌, ℕ, Bool, false, List, [], ◌∷◌, ◌++◌, length, ◌≢◌, AllPairs, Contains, refl, sym, ap, subst, ◌∙◌, arith, replicate}
 use Rattle.std.proofs.lemmas.List.{length_push}
 use Rattle.std.proofs.lemmas.List.Elements.{All-contains}
 use Rattle.fx_base.specs.Printing.{kind_of}
@@ -24,6 +24,11 @@ use Rattle.fx_graph.specs.Given.{IsBase, AreBase}
 use Rattle.fx_graph.specs.Store.{IsStore}
 use Rattle.fx_graph.proofs.AllowedLemmas.{count_given}
 
+-- one flag more that isn't set
+blank_more : (n : ℕ) → replicate n false ++ false ∷ [] ≡ replicate (suc n) false
+blank_more zero = refl
+blank_more (suc n) = ap (λ (l : List Bool). false ∷ l) (blank_more n)
+
 pub store_empty : IsStore [] [] [] [] [] 0 [] [] [] 0
 unfolding operand_count
 store_empty =
@@ -32,7 +37,7 @@ store_empty =
       sound = sound_empty;
       settled = record { flags = refl; values = refl; closed = λ user name c. absurd (none_in_nil name c); kept = λ name h. absurd (omega arith) };
       mirrors = record { rows = refl; listed = λ user name c. absurd (none_in_nil name c); using = λ user name c. absurd (none_in_nil user c) };
-      before_length = refl;
+      spare_unset = refl;
       newly_length = refl;
       newly_few = omega arith;
       fresh_length = refl;
@@ -50,13 +55,14 @@ store_declared es users unread before newly n cache fresh work operands entry ro
     let none : operands_in entry.definition ≡ [] = ap operands_in base in
     let after = ranked_declared es s.ranks.0 s.ranks.1 entry none in
     let long : length (es ++ entry ∷ []) ≡ length es + 1 = length_push es entry in
+    let more : suc (length es) ≡ length (es ++ entry ∷ []) = omega (arith, long) in
     record {
       ranks = after;
       sound = sound_declared es s.ranks.0 s.ranks.1 s.sound entry value base kind;
       settled = subst (λ (v : Value). IsSettled (es ++ entry ∷ []) (unread ++ false ∷ []) (cache ++ v ∷ [])) (sym same)
           (settled_declared es s.ranks.0 after.0 s.ranks.1 entry value after.1 base unread cache s.settled);
       mirrors = mirrors_declared es users entry row s.mirrors none empty s.ranks.1.within;
-      before_length = omega (arith, length_push before false, s.before_length);
+      spare_unset = ap (λ (l : List Bool). l ++ false ∷ []) s.spare_unset ∙ blank_more (length es) ∙ ap (λ n. replicate n false) more;
       newly_length = omega (arith, length_push newly name, s.newly_length);
       newly_few = omega (arith, s.newly_few);
       fresh_length = omega (arith, length_push fresh spare, s.fresh_length);
@@ -69,7 +75,7 @@ store_declared es users unread before newly n cache fresh work operands entry ro
 -- the lists that no contract sees may hold anything
 pub store_kept : (es : List Entry) (users : List Row) (unread before : List Bool) (newly : List Name) (n : ℕ) (cache fresh : List Value) (work : List ℕ) (operands : ℕ)
     (before' : List Bool) (fresh' : List Value) (work' : List ℕ) → IsStore es users unread before newly n cache fresh work operands
-    → length before' ≡ length es → length fresh' ≡ length es → length work' ≡ length es
+    → before' ≡ replicate (length es) false → length fresh' ≡ length es → length work' ≡ length es
     → IsStore es users unread before' newly n cache fresh' work' operands
 store_kept es users unread before newly n cache fresh work operands before' fresh' work' s b f w =
     record {
@@ -77,7 +83,7 @@ store_kept es users unread before newly n cache fresh work operands before' fres
       sound = s.sound;
       settled = s.settled;
       mirrors = s.mirrors;
-      before_length = b;
+      spare_unset = b;
       newly_length = s.newly_length;
       newly_few = s.newly_few;
       fresh_length = f;
@@ -87,22 +93,21 @@ store_kept es users unread before newly n cache fresh work operands before' fres
       operands_few = s.operands_few;
     }
 
--- some names were read
-pub store_read : (es : List Entry) (users : List Row) (unread before : List Bool) (newly : List Name) (n : ℕ) (cache fresh : List Value) (work : List ℕ) (operands : ℕ)
-    (unread' : List Bool) (cache' : List Value) (work' : List ℕ) → IsStore es users unread before newly n cache fresh work operands
-    → IsSettled es unread' cache' → length work' ≡ length es
-    → IsStore es users unread' before newly n cache' fresh work' operands
-store_read es users unread before newly n cache fresh work operands unread' cache' work' s t w =
+-- other flags, for which the kept values are right as well
+pub store_flags : (es : List Entry) (users : List Row) (unread before : List Bool) (newly : List Name) (n : ℕ) (cache fresh : List Value) (work : List ℕ) (operands : ℕ)
+    (unread' : List Bool) → IsStore es users unread before newly n cache fresh work operands → IsSettled es unread' cache
+    → IsStore es users unread' before newly n cache fresh work operands
+store_flags es users unread before newly n cache fresh work operands unread' s t =
     record {
       ranks = s.ranks;
       sound = s.sound;
       settled = t;
       mirrors = s.mirrors;
-      before_length = s.before_length;
+      spare_unset = s.spare_unset;
       newly_length = s.newly_length;
       newly_few = s.newly_few;
       fresh_length = s.fresh_length;
-      work_length = w;
+      work_length = s.work_length;
       few = s.few;
       counted = s.counted;
       operands_few = s.operands_few;
@@ -123,7 +128,7 @@ store_given es users unread before newly n cache fresh work operands sets pairs 
       sound = sound_given sets pairs es s.sound distinct (λ p c. ((base p c).0, (base p c).2));
       settled = settled_given sets pairs es s.ranks.0 s.ranks.1 distinct (λ p c. ((base p c).0, (base p c).1)) unread cache s.settled;
       mirrors = mirrors_given sets pairs es users s.mirrors (λ p c. (base p c).1);
-      before_length = s.before_length ∙ sym long;
+      spare_unset = s.spare_unset ∙ ap (λ n. replicate n false) (sym long);
       newly_length = w ∙ sym long;
       newly_few = omega arith;
       fresh_length = f ∙ sym long;

@@ -1,5 +1,5 @@
 -- What the end of a binding leaves of what the graph keeps.
-use Rattle.std.proofs.Common.{◌≡◌, ◌<◌, ◌+◌, ℕ, Bool, true, List, length, set, Contains, refl, sym, ap, subst, ◌∙◌, inl, inr, arith}
+use Rattle.std.proofs.Common.{◌≡◌, ◌<◌, ◌+◌, ℕ, Bool, true, List, length, set, Contains, refl, sym, ap, subst, ◌∙◌, inl, inr, arith, replicate, false}
 use Rattle.std.proofs.lemmas.Bool.{cases_lt}
 use Rattle.std.proofs.lemmas.List.{length-set, get_or_past}
 use Rattle.fx_base.specs.declared.keys.Name.{Name}
@@ -43,7 +43,7 @@ store_unbound es users unread before newly n cache fresh work operands name user
       sound = sound_unbound es s.ranks.0 s.ranks.1 s.sound name known;
       settled = t;
       mirrors = m;
-      before_length = s.before_length ∙ sym long;
+      spare_unset = s.spare_unset ∙ ap (λ n. replicate n false) (sym long);
       newly_length = s.newly_length ∙ sym long;
       newly_few = omega (arith, s.newly_few);
       fresh_length = s.fresh_length ∙ sym long;

@@ -1,22 +1,25 @@
 //! Bindings (JavaFX `bind`): tested first, then room is made for all edges, and then nothing can fail.
-ghost use Rattle.std.specs.Prelude.{ℕ, ◌≡◌, ◌≤◌, ◌<◌, [], ◌∷◌, true, false, Contains, length, map, replicate, take, nat_lt, IfOk, OnOk, OnErr};
+ghost use Rattle.std.specs.Prelude.{ℕ, ◌≡◌, ◌≤◌, ◌<◌, [], ◌∷◌, true, false, Contains, length, map, nat_lt, None, IfOk, OnOk, OnErr};
 ghost use Rattle.fx_base.specs.declared.keys.Name.{Name as Named};
 ghost use Rattle.fx_expr.specs.declared.tree.Expr.{Expr as Expression};
 ghost use Rattle.fx_expr.specs.Tree.{tree, is_within};
 ghost use Rattle.fx_graph_model.specs.declared.errors.GraphError.TheVariants as error;
 ghost use Rattle.fx_base.specs.Names.{numbers};
 ghost use Rattle.fx_graph_model.specs.Uses.{Ranked, uses, leads};
-ghost use Rattle.fx_graph_model.specs.Unread.{marked, after_marking, newly_marked, IsClosed};
-ghost use Rattle.fx_graph_model.specs.Changes.{with_binding};
+ghost use Rattle.fx_graph_model.specs.Unread.{marked, IsClosed};
+ghost use Rattle.fx_graph_model.specs.Changes.{with_binding, after_bind};
 ghost use Rattle.fx_base.specs.Answers.{refused_first};
 ghost use Rattle.fx_graph_model.specs.Refusals.{kind_at, fits, operand_count, fit_refusal, link_refusal, bind_refusal};
 ghost use Rattle.fx_graph_model.specs.Users.{Mirrors};
+ghost use Rattle.fx_graph.specs.Store.{Holds, IsMarked, IsRoomy, shown};
 
 use crate::asking::{is_marked, is_read_only, is_unknown, unknown_among};
+use crate::lists::Lists;
+use crate::marking::finish;
 use crate::refusals::{is_same_kind, kind_of};
 use fx_base::{Kind, Name};
 use fx_expr::{Expr, KindError, type_of};
-use fx_graph_edges::{Users, finish, mark_one, operands_at, relink, spread};
+use fx_graph_edges::{mark_one, operands_at, relink, spread, take_back};
 use fx_graph_model::{Definition, Entry, GraphError, Operands, Origin};
 use std::alloc::{AllocError, Global};
 
@@ -62,50 +65,34 @@ fn marked_operand(operands: &[Name], flags: &[bool]) -> Option<GraphError>
     None
 }
 
-/// The first operand that is the name or reads it, as the refusal. It is found by marks from the name upwards, in flags
-/// of which none is set.
-fn cycle_among(
-    entries: &[Entry],
-    users: &[Users],
-    flags: &mut [bool],
-    work: &mut [usize],
-    name: usize,
-    operands: &[Name],
-) -> Option<GraphError>
-    requires ranks { (rank : ℕ → ℕ) × Ranked entries.now rank }
-    requires mirrors { Mirrors entries.now users.now }
-    requires known { name < length entries.now }
-    requires operands { (operand : ℕ) → Contains (numbers operands.now) operand → operand < length entries.now }
-    requires flags { flags.old ≡ replicate (length entries.now) false }
-    requires places { length work.old ≡ length entries.now }
-    ensures places { length work.new ≡ length work.old }
-    ensures refusal { result ≡ refused_first error.Cycle (λ (operand : Named). leads entries.now operand.0 name)
-        operands.now }
+/// The first operand that is the name or reads it, as the refusal. It is found by marks from the name upwards, in the
+/// spare flags.
+fn cycle(lists: &mut Lists, name: usize, operands: &[Name]) -> Option<GraphError>
+    requires holds { Holds lists.old }
+    requires known { name < length lists.old.entries.items }
+    requires operands { (operand : ℕ) → Contains (numbers operands.now) operand
+        → operand < length lists.old.entries.items }
+    ensures holds { Holds lists.new }
+    ensures same { shown lists.new ≡ shown lists.old }
+    ensures refusal { result ≡ refused_first error.Cycle
+        (λ (operand : Named). leads lists.old.entries.items operand.0 name) operands.now }
 {
-    let count = mark_one(flags, work, 0, name);
-    spread(entries, users, flags, work, count);
-    marked_operand(operands, flags)
-}
-
-fn cycle(
-    alloc: Global,
-    entries: &[Entry],
-    users: &[Users],
-    work: &mut [usize],
-    name: usize,
-    operands: &[Name],
-) -> Result<Option<GraphError>, AllocError>
-    requires ranks { (rank : ℕ → ℕ) × Ranked entries.now rank }
-    requires mirrors { Mirrors entries.now users.now }
-    requires known { name < length entries.now }
-    requires operands { (operand : ℕ) → Contains (numbers operands.now) operand → operand < length entries.now }
-    requires places { length work.old ≡ length entries.now }
-    ensures places { length work.new ≡ length work.old }
-    ensures refusal { IfOk result (λ refusal. refusal
-        ≡ refused_first error.Cycle (λ (operand : Named). leads entries.now operand.0 name) operands.now) }
-{
-    let mut flags = vec![in alloc; false; entries.len()]?;
-    Ok(cycle_among(entries, users, flags.as_mut_slice(), work, name, operands))
+    let count = mark_one(
+        lists.spare.as_mut_slice(),
+        lists.work.as_mut_slice(),
+        0,
+        name,
+    );
+    let end = spread(
+        lists.entries.as_slice(),
+        lists.users.as_slice(),
+        lists.spare.as_mut_slice(),
+        lists.work.as_mut_slice(),
+        count,
+    );
+    let refusal = marked_operand(operands, lists.spare.as_slice());
+    take_back(lists.spare.as_mut_slice(), lists.work.as_slice(), end);
+    refusal
 }
 
 /// Whether all bindings together would have too many operands with these for the name.
@@ -150,64 +137,53 @@ pub fn unfit(
 
 /// Why the edges from the operands to the name may not be made, if they may not.
 #[tactic(auto, unfolding(fx_graph_model::specs::Refusals::link_refusal))]
-fn unlinkable(
-    alloc: Global,
-    entries: &[Entry],
-    users: &[Users],
-    work: &mut [usize],
-    total: usize,
-    name: Name,
-    operands: &[Name],
-) -> Result<Option<GraphError>, AllocError>
-    requires ranks { (rank : ℕ → ℕ) × Ranked entries.now rank }
-    requires mirrors { Mirrors entries.now users.now }
-    requires known { name.0 < length entries.now }
-    requires operands { (operand : ℕ) → Contains (numbers operands.now) operand → operand < length entries.now }
-    requires places { length work.old ≡ length entries.now }
-    requires counted { total ≡ operand_count entries.now }
-    requires few { total ≤ 1000000 }
-    ensures places { length work.new ≡ length work.old }
-    ensures refusal { IfOk result (λ refusal. (expr : Expression)
-        → refusal ≡ link_refusal name expr operands.now entries.now) }
+fn unlinkable(lists: &mut Lists, name: Name, operands: &[Name]) -> Option<GraphError>
+    requires holds { Holds lists.old }
+    requires known { name.0 < length lists.old.entries.items }
+    requires operands { (operand : ℕ) → Contains (numbers operands.now) operand
+        → operand < length lists.old.entries.items }
+    ensures holds { Holds lists.new }
+    ensures same { shown lists.new ≡ shown lists.old }
+    ensures refusal { (expr : Expression)
+        → result ≡ link_refusal name expr operands.now lists.old.entries.items }
 {
     let place = name.0 as usize;
-    let cycle = cycle(alloc, entries, users, work, place, operands)?;
-    if let Some(cycle) = cycle {
-        return Ok(Some(cycle));
+    if let Some(cycle) = cycle(lists, place, operands) {
+        return Some(cycle);
     }
-    if is_full(entries, total, place, operands) {
-        return Ok(Some(GraphError::Full));
+    if is_full(
+        lists.entries.as_slice(),
+        lists.operand_count,
+        place,
+        operands,
+    ) {
+        return Some(GraphError::Full);
     }
-    Ok(None)
+    None
 }
 
 /// Why the name may not be bound so, if it may not.
 #[tactic(auto, unfolding(fx_graph_model::specs::Refusals::bind_refusal))]
 pub fn refusal(
     alloc: Global,
-    entries: &[Entry],
-    users: &[Users],
-    work: &mut [usize],
-    total: usize,
+    lists: &mut Lists,
     name: Name,
     expr: &Expr,
     operands: &[Name],
 ) -> Result<Option<GraphError>, AllocError>
-    requires ranks { (rank : ℕ → ℕ) × Ranked entries.now rank }
-    requires mirrors { Mirrors entries.now users.now }
-    requires places { length work.old ≡ length entries.now }
+    requires holds { Holds lists.old }
     requires within { is_within (tree expr.now) (length operands.now) ≡ true }
-    requires counted { total ≡ operand_count entries.now }
-    requires few { total ≤ 1000000 }
-    ensures places { length work.new ≡ length work.old }
-    ensures refusal { IfOk result (λ refusal. refusal ≡ bind_refusal name expr.now operands.now entries.now) }
+    ensures holds { Holds lists.new }
+    ensures same { shown lists.new ≡ shown lists.old }
+    ensures refusal { IfOk result (λ refusal. refusal
+        ≡ bind_refusal name expr.now operands.now lists.old.entries.items) }
 {
-    let unfit = unfit(alloc, entries, name, expr, operands)?;
+    let unfit = unfit(alloc, lists.entries.as_slice(), name, expr, operands)?;
     match unfit {
         Some(unfit) => return Ok(Some(unfit)),
         None => {}
     }
-    unlinkable(alloc, entries, users, work, total, name, operands)
+    Ok(unlinkable(lists, name, operands))
 }
 
 fn write_binding(entries: &mut [Entry], name: usize, expr: Expr, operands: Vec<Name>)
@@ -225,73 +201,62 @@ fn write_binding(entries: &mut [Entry], name: usize, expr: Expr, operands: Vec<N
     };
 }
 
-/// Writes the binding and marks the name, and counts the names that became unread. The edges are made already.
-fn bind_linked(
-    entries: &mut [Entry],
-    users: &[Users],
-    unread: &mut [bool],
-    work: &mut [usize],
-    newly: &mut [Name],
-    name: usize,
-    expr: Expr,
-    operands: Vec<Name>,
-) -> usize
-    requires ranks { (rank : ℕ → ℕ) × Ranked (with_binding name expr (numbers operands.items) entries.old) rank }
-    requires mirrors { Mirrors (with_binding name expr (numbers operands.items) entries.old) users.now }
-    requires closed { IsClosed entries.old unread.old }
-    requires known { name < length entries.old }
-    requires flags { length unread.old ≡ length entries.old }
-    requires work { length work.old ≡ length entries.old }
-    requires newly { length newly.old ≡ length entries.old }
-    requires few { length entries.old ≤ 4000000 }
-    ensures work { length work.new ≡ length entries.old }
-    ensures newly { length newly.new ≡ length entries.old }
-    ensures count { result ≤ length entries.old }
-    ensures entries { entries.new ≡ with_binding name expr (numbers operands.items) entries.old }
-    ensures unread { unread.new ≡ after_marking (with_binding name expr (numbers operands.items) entries.old)
-        (name ∷ []) unread.old }
-    ensures names { numbers (take result newly.new)
-        ≡ newly_marked (with_binding name expr (numbers operands.items) entries.old) (name ∷ []) unread.old }
+/// Writes the binding and marks the name. The edges are made already.
+fn bind_linked(lists: &mut Lists, name: usize, expr: Expr, operands: Vec<Name>)
+    requires ranks { (rank : ℕ → ℕ)
+        × Ranked (with_binding name expr (numbers operands.items) lists.old.entries.items) rank }
+    requires mirrors { Mirrors (with_binding name expr (numbers operands.items) lists.old.entries.items)
+        lists.old.users.items }
+    requires closed { IsClosed lists.old.entries.items lists.old.unread.items }
+    requires known { name < length lists.old.entries.items }
+    requires roomy { IsRoomy lists.old }
+    ensures kept { lists.new ≡ record lists.old {
+      entries = lists.new.entries;
+      unread = lists.new.unread;
+      work = lists.new.work;
+      newly = lists.new.newly;
+      newly_count = lists.new.newly_count;
+    } }
+    ensures entries { lists.new.entries.items
+        ≡ with_binding name expr (numbers operands.items) lists.old.entries.items }
+    ensures roomy { IsRoomy lists.new }
+    ensures few { lists.new.newly_count ≤ length lists.old.entries.items }
+    ensures marked { IsMarked (name ∷ []) lists.old.unread.items lists.new }
 {
-    write_binding(entries, name, expr, operands);
-    let count = mark_one(unread, work, 0, name);
-    finish(entries, users, unread, work, newly, count)
+    write_binding(lists.entries.as_mut_slice(), name, expr, operands);
+    let count = mark_one(
+        lists.unread.as_mut_slice(),
+        lists.work.as_mut_slice(),
+        0,
+        name,
+    );
+    finish(lists, count);
 }
 
-/// Binds the name and marks it, and counts the names that became unread.
+/// Binds the name where nothing speaks against it, marks it, and lists the names that became unread.
 pub fn bind_name(
-    entries: &mut [Entry],
-    users: &mut [Users],
-    unread: &mut [bool],
-    work: &mut [usize],
-    newly: &mut [Name],
-    name: usize,
+    lists: &mut Lists,
+    name: Name,
     expr: Expr,
     operands: Vec<Name>,
-) -> Result<usize, AllocError>
-    requires ranks { (rank : ℕ → ℕ) × Ranked (with_binding name expr (numbers operands.items) entries.old) rank }
-    requires mirrors { Mirrors entries.old users.old }
-    requires closed { IsClosed entries.old unread.old }
-    requires known { name < length entries.old }
-    requires operands { (operand : ℕ) → Contains (numbers operands.items) operand → operand < length entries.old }
-    requires used { (operand : ℕ) → Contains (uses entries.old name) operand → operand < length entries.old }
-    requires flags { length unread.old ≡ length entries.old }
-    requires work { length work.old ≡ length entries.old }
-    requires newly { length newly.old ≡ length entries.old }
-    requires few { length entries.old ≤ 4000000 }
-    ensures work { length work.new ≡ length entries.old }
-    ensures newly { length newly.new ≡ length entries.old }
-    ensures count { IfOk result (λ count. count ≤ length entries.old) }
-    ensures mirrors { Mirrors entries.new users.new }
-    ensures entries { OnOk result (entries.new ≡ with_binding name expr (numbers operands.items) entries.old) }
-    ensures unread { OnOk result (unread.new
-        ≡ after_marking (with_binding name expr (numbers operands.items) entries.old) (name ∷ []) unread.old) }
-    ensures names { IfOk result (λ count. numbers (take count newly.new)
-        ≡ newly_marked (with_binding name expr (numbers operands.items) entries.old) (name ∷ []) unread.old) }
-    ensures kept_entries { OnErr result (entries.new ≡ entries.old) }
-    ensures kept_unread { OnErr result (unread.new ≡ unread.old) }
-    ensures kept_newly { OnErr result (newly.new ≡ newly.old) }
+) -> Result<(), AllocError>
+    requires holds { Holds lists.old }
+    requires places { is_within (tree expr) (length operands.items) ≡ true }
+    requires allowed { bind_refusal name expr operands.items lists.old.entries.items ≡ None }
+    ensures holds { Holds lists.new }
+    ensures ok { OnOk result (shown lists.new ≡ after_bind name.0 expr (numbers operands.items) (shown lists.old)) }
+    ensures err { OnErr result (shown lists.new ≡ shown lists.old) }
 {
-    relink(entries, users, operands.as_slice(), name)?;
-    Ok(bind_linked(entries, users, unread, work, newly, name, expr, operands))
+    let place = name.0 as usize;
+    let others = lists.operand_count - operands_at(lists.entries.as_slice(), place);
+    let total = others + operands.len();
+    relink(
+        lists.entries.as_slice(),
+        lists.users.as_mut_slice(),
+        operands.as_slice(),
+        place,
+    )?;
+    lists.operand_count = total;
+    bind_linked(lists, place, expr, operands);
+    Ok(())
 }

@@ -1,67 +1,97 @@
 //! Names that are given back: refused while a property outside is bound to one of them, and then nothing is left of
 //! them but that they were declared.
-ghost use Rattle.std.specs.Prelude.{ℕ, ◌≡◌, ◌≤◌, ◌<◌, false, Contains, length, slice_set, MatchBool, MatchOption, None};
+ghost use Rattle.std.specs.Prelude.{ℕ, List, ◌≡◌, ◌≤◌, ◌<◌, ◌+◌, false, Contains, length, replicate, slice_set, MatchOption, None};
 ghost use Rattle.fx_expr.specs.Meaning.{no_value};
 ghost use Rattle.fx_base.specs.Names.{numbers};
 ghost use Rattle.fx_graph_model.specs.Uses.{entry_of};
-ghost use Rattle.fx_graph_model.specs.Refusals.{IsFree, IsForgetRefusal, unknown_name, operand_count};
-ghost use Rattle.fx_graph_model.specs.Changes.{forgotten, forget_all, clear_all};
-ghost use Rattle.fx_graph_model.specs.Users.{Mirrors};
-ghost use Rattle.fx_graph.specs.Forgotten.{IsOutside, IsSomeOutside, reset};
+ghost use Rattle.fx_graph_model.specs.Unread.{marked, unmarked};
+ghost use Rattle.fx_graph_model.specs.Marking.{MarksAll};
+ghost use Rattle.fx_graph_model.specs.Refusals.{IsFree, IsForgetRefusal, unknown_name};
+ghost use Rattle.fx_graph_model.specs.Changes.{after_forget, forgotten};
+ghost use Rattle.fx_graph.specs.Forgotten.{AreFlagged, IsOutside, IsSomeOutside, Keeps};
+ghost use Rattle.fx_graph.specs.Store.{Holds, shown};
 
 use crate::asking::unknown_among;
+use crate::lists::Lists;
 use fx_base::{Name, Value};
-use fx_graph_edges::{Users, operands_at, release_at};
+use fx_graph_edges::{Users, mark_one, operands_at, release_at, take_back};
 use fx_graph_model::{Definition, Entry, GraphError};
 
-fn is_among(names: &[Name], place: usize) -> bool
-    ensures { MatchBool result (Contains (numbers names.now) place) (Contains (numbers names.now) place → ⊥) }
+/// Marks these names in flags of which none is set, and lists them in the front of the work list: how many there are.
+fn mark_names(names: &[Name], flags: &mut [bool], work: &mut [usize]) -> usize
+    requires known { (name : ℕ) → Contains (numbers names.now) name → name < length flags.old }
+    requires room { length flags.old ≤ length work.old }
+    ensures { MarksAll (numbers names.now) flags.old work.old 0 flags.new work.new result }
 {
+    let mut end = 0;
     for name in names {
-        if name.0 as usize == place {
-            return true;
-        }
+        end = mark_one(flags, work, end, name.0 as usize);
     }
-    false
+    end
 }
 
-/// The first of these users that isn't among the names.
-fn user_outside(row: &[usize], names: &[Name]) -> Option<usize>
-    ensures { IsOutside (numbers names.now) row.now result }
+fn is_set(flags: &[bool], place: usize) -> bool
+    ensures { result ≡ marked flags.now place }
+{
+    match flags.get(place) {
+        None => false,
+        Some(flag) => *flag,
+    }
+}
+
+/// The first of these users that isn't flagged.
+fn user_outside(row: &[usize], flags: &[bool]) -> Option<usize>
+    ensures { (names : List ℕ) → AreFlagged names flags.now → IsOutside names row.now result }
 {
     for user in row {
-        if !is_among(names, *user) {
+        if !is_set(flags, *user) {
             return Some(*user);
         }
     }
     None
 }
 
-/// A property that isn't among the names and is bound to one of them.
-fn bound_outside(users: &[Users], names: &[Name]) -> Option<usize>
-    requires { (name : ℕ) → Contains (numbers names.now) name → name < length users.now }
+/// A property that isn't flagged, as these names are, and is bound to one of them.
+fn bound_outside(users: &[Users], flags: &[bool], names: &[Name]) -> Option<usize>
+    requires known { (name : ℕ) → Contains (numbers names.now) name → name < length users.now }
+    requires flagged { AreFlagged (numbers names.now) flags.now }
     ensures { IsSomeOutside (numbers names.now) users.now result }
 {
     for name in names {
         let row = &users[name.0 as usize];
-        if let Some(user) = user_outside(row.as_slice(), names) {
+        if let Some(user) = user_outside(row.as_slice(), flags) {
             return Some(user);
         }
     }
     None
 }
 
-/// Why the names may not be forgotten, if they may not.
-pub fn refusal(entries: &[Entry], users: &[Users], names: &[Name]) -> Option<GraphError>
-    requires mirrors { Mirrors entries.now users.now }
-    requires few { length entries.now ≤ 4000000 }
-    ensures { MatchOption result ((unknown_name entries.now names.now ≡ None)
-        × IsFree (numbers names.now) entries.now) (IsForgetRefusal names.now entries.now) }
+/// A property that isn't among these known names, and is bound to one of them.
+fn user_of(lists: &mut Lists, names: &[Name]) -> Option<usize>
+    requires holds { Holds lists.old }
+    requires known { (name : ℕ) → Contains (numbers names.now) name → name < length lists.old.entries.items }
+    ensures holds { Holds lists.new }
+    ensures same { shown lists.new ≡ shown lists.old }
+    ensures user { IsSomeOutside (numbers names.now) lists.old.users.items result }
 {
-    if let Some(unknown) = unknown_among(entries, names) {
+    let count = mark_names(names, lists.spare.as_mut_slice(), lists.work.as_mut_slice());
+    let user = bound_outside(lists.users.as_slice(), lists.spare.as_slice(), names);
+    take_back(lists.spare.as_mut_slice(), lists.work.as_slice(), count);
+    user
+}
+
+/// Why the names may not be forgotten, if they may not.
+pub fn refusal(lists: &mut Lists, names: &[Name]) -> Option<GraphError>
+    requires holds { Holds lists.old }
+    ensures holds { Holds lists.new }
+    ensures same { shown lists.new ≡ shown lists.old }
+    ensures refusal { MatchOption result ((unknown_name lists.old.entries.items names.now ≡ None)
+        × IsFree (numbers names.now) lists.old.entries.items) (IsForgetRefusal names.now lists.old.entries.items) }
+{
+    if let Some(unknown) = unknown_among(lists.entries.as_slice(), names) {
         return Some(unknown);
     }
-    match bound_outside(users, names) {
+    match user_of(lists, names) {
         Some(user) => Some(GraphError::InUse(Name(user as u32))),
         None => None,
     }
@@ -83,59 +113,41 @@ fn write_forgotten(entries: &mut [Entry], name: usize)
     };
 }
 
-/// Leaves nothing of the name, and counts the operands that are left of these.
-fn forget_one(
-    entries: &mut [Entry],
-    users: &mut [Users],
-    unread: &mut [bool],
-    cache: &mut [Value],
-    total: usize,
-    name: usize,
-) -> usize
-    requires mirrors { Mirrors entries.old users.old }
-    requires known { name < length entries.old }
-    requires flags { length unread.old ≡ length entries.old }
-    requires values { length cache.old ≡ length entries.old }
-    requires counted { total ≡ operand_count entries.old }
-    ensures mirrors { Mirrors entries.new users.new }
-    ensures entries { entries.new ≡ slice_set entries.old name (forgotten (entry_of entries.old name)) }
-    ensures unread { unread.new ≡ slice_set unread.old name false }
-    ensures cache { cache.new ≡ slice_set cache.old name no_value }
-    ensures counted { result ≡ operand_count entries.new }
-    ensures fewer { result ≤ total }
+/// Leaves nothing of the name.
+fn forget_one(lists: &mut Lists, name: usize)
+    requires keeps { Keeps lists.old }
+    requires known { name < length lists.old.entries.items }
+    ensures keeps { Keeps lists.new }
+    ensures fewer { lists.new.operand_count ≤ lists.old.operand_count }
+    ensures kept { lists.new ≡ record lists.old {
+      entries = lists.new.entries;
+      users = lists.new.users;
+      unread = lists.new.unread;
+      cache = lists.new.cache;
+      operand_count = lists.new.operand_count;
+    } }
+    ensures entries { lists.new.entries.items
+        ≡ slice_set lists.old.entries.items name (forgotten (entry_of lists.old.entries.items name)) }
+    ensures unread { lists.new.unread.items ≡ slice_set lists.old.unread.items name false }
+    ensures cache { lists.new.cache.items ≡ slice_set lists.old.cache.items name no_value }
 {
-    let left = total - operands_at(entries, name);
-    release_at(entries, users, name);
-    write_forgotten(entries, name);
-    unread[name] = false;
-    cache[name] = Value::Bool(false);
-    left
+    let left = lists.operand_count - operands_at(lists.entries.as_slice(), name);
+    release_at(lists.entries.as_slice(), lists.users.as_mut_slice(), name);
+    write_forgotten(lists.entries.as_mut_slice(), name);
+    lists.unread[name] = false;
+    lists.cache[name] = Value::Bool(false);
+    lists.operand_count = left;
 }
 
-/// Leaves nothing of the names, and counts the operands that are left.
-pub fn forget_names(
-    entries: &mut [Entry],
-    users: &mut [Users],
-    unread: &mut [bool],
-    cache: &mut [Value],
-    total: usize,
-    names: &[Name],
-) -> usize
-    requires mirrors { Mirrors entries.old users.old }
-    requires known { (name : ℕ) → Contains (numbers names.now) name → name < length entries.old }
-    requires flags { length unread.old ≡ length entries.old }
-    requires values { length cache.old ≡ length entries.old }
-    requires counted { total ≡ operand_count entries.old }
-    ensures mirrors { Mirrors entries.new users.new }
-    ensures entries { entries.new ≡ forget_all (numbers names.now) entries.old }
-    ensures unread { unread.new ≡ clear_all (numbers names.now) unread.old }
-    ensures cache { cache.new ≡ reset (numbers names.now) cache.old }
-    ensures counted { result ≡ operand_count entries.new }
-    ensures fewer { result ≤ total }
+/// Leaves nothing of known names that no other is bound to.
+pub fn forget_names(lists: &mut Lists, names: &[Name])
+    requires holds { Holds lists.old }
+    requires known { unknown_name lists.old.entries.items names.now ≡ None }
+    requires free { IsFree (numbers names.now) lists.old.entries.items }
+    ensures holds { Holds lists.new }
+    ensures forgotten { shown lists.new ≡ after_forget (numbers names.now) (shown lists.old) }
 {
-    let mut left = total;
     for name in names {
-        left = forget_one(entries, users, unread, cache, left, name.0 as usize);
+        forget_one(lists, name.0 as usize);
     }
-    left
 }

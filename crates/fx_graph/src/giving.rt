@@ -13,11 +13,14 @@ ghost use Rattle.fx_graph_model.specs.Eager.{value_of_definition, eager};
 ghost use Rattle.fx_graph_model.specs.Unread.{unmarked, after_marking, newly_marked, IsClosed};
 ghost use Rattle.fx_graph_model.specs.Marking.{MarksAll};
 ghost use Rattle.fx_graph_model.specs.Users.{Mirrors};
-ghost use Rattle.fx_graph_model.specs.Changes.{given, with_values, changed};
+ghost use Rattle.fx_graph_model.specs.Changes.{given, with_values, changed, after_values};
 ghost use Rattle.fx_graph.specs.Given.{is_plain, ArePlain, AreBase, ArePrepared};
+ghost use Rattle.fx_graph.specs.Store.{Holds, shown};
 
+use crate::lists::Lists;
+use crate::marking::finish;
 use fx_base::{Name, Value};
-use fx_graph_edges::{Users, finish, mark_one};
+use fx_graph_edges::mark_one;
 use fx_graph_model::{Definition, Entry, Origin, are_same};
 use std::alloc::{AllocError, Global};
 use std::mem;
@@ -172,79 +175,46 @@ fn mark_changed(
     end
 }
 
-/// Gives names the values that were prepared and marks what changed, and counts the names that became unread.
-fn apply_values(
-    entries: &mut [Entry],
-    users: &[Users],
-    pairs: &[(Name, Value)],
-    sets: bool,
-    unread: &mut [bool],
-    fresh: &mut [Value],
-    work: &mut [usize],
-    newly: &mut [Name],
-) -> usize
-    requires ranks { (rank : ℕ → ℕ) × Ranked entries.old rank }
-    requires mirrors { Mirrors entries.old users.now }
-    requires closed { IsClosed entries.old unread.old }
-    requires base { AreBase entries.old pairs.now }
+/// Gives names the values that were prepared, marks what changed, and lists the names that became unread.
+fn apply_values(lists: &mut Lists, pairs: &[(Name, Value)], sets: bool)
+    requires holds { Holds lists.old }
+    requires base { AreBase lists.old.entries.items pairs.now }
     requires distinct { AllPairs (λ (one other : Named × Content). one.0 ≢ other.0) pairs.now }
-    requires prepared { ArePrepared 0 (length pairs.now) fresh.old pairs.now }
-    requires flags { length unread.old ≡ length entries.old }
-    requires places { length fresh.old ≡ length entries.old }
-    requires work { length work.old ≡ length entries.old }
-    requires newly { length newly.old ≡ length entries.old }
-    requires few { length entries.old ≤ 4000000 }
-    ensures places { length fresh.new ≡ length entries.old }
-    ensures work { length work.new ≡ length entries.old }
-    ensures newly { length newly.new ≡ length entries.old }
-    ensures count { result ≤ length entries.old }
-    ensures entries { entries.new ≡ with_values sets pairs.now entries.old }
-    ensures unread { unread.new ≡ after_marking (with_values sets pairs.now entries.old)
-        (changed pairs.now entries.old) unread.old }
-    ensures names { numbers (take result newly.new)
-        ≡ newly_marked (with_values sets pairs.now entries.old) (changed pairs.now entries.old) unread.old }
+    requires prepared { ArePrepared 0 (length pairs.now) lists.old.fresh.items pairs.now }
+    ensures holds { Holds lists.new }
+    ensures given { shown lists.new ≡ after_values sets pairs.now (shown lists.old) }
 {
-    let count = mark_changed(entries, pairs, unread, work);
-    give(entries, fresh, pairs, sets);
-    finish(entries, users, unread, work, newly, count)
+    let count = mark_changed(
+        lists.entries.as_slice(),
+        pairs,
+        lists.unread.as_mut_slice(),
+        lists.work.as_mut_slice(),
+    );
+    give(
+        lists.entries.as_mut_slice(),
+        lists.fresh.as_mut_slice(),
+        pairs,
+        sets,
+    );
+    finish(lists, count);
 }
 
-/// Gives names their values and marks what changed, and counts the names that became unread.
+/// Gives names their values, marks what changed, and lists the names that became unread.
 pub fn change_values(
     alloc: Global,
-    entries: &mut [Entry],
-    users: &[Users],
+    lists: &mut Lists,
     pairs: &[(Name, Value)],
     sets: bool,
-    unread: &mut [bool],
-    fresh: &mut [Value],
-    work: &mut [usize],
-    newly: &mut [Name],
-) -> Result<usize, AllocError>
-    requires ranks { (rank : ℕ → ℕ) × Ranked entries.old rank }
-    requires mirrors { Mirrors entries.old users.now }
-    requires closed { IsClosed entries.old unread.old }
-    requires flags { length unread.old ≡ length entries.old }
-    requires base { AreBase entries.old pairs.now }
+) -> Result<(), AllocError>
+    requires holds { Holds lists.old }
+    requires base { AreBase lists.old.entries.items pairs.now }
     requires distinct { AllPairs (λ (one other : Named × Content). one.0 ≢ other.0) pairs.now }
-    requires places { length fresh.old ≡ length entries.old }
-    requires work { length work.old ≡ length entries.old }
-    requires newly { length newly.old ≡ length entries.old }
-    requires few { length entries.old ≤ 4000000 }
-    ensures places { length fresh.new ≡ length entries.old }
-    ensures work { length work.new ≡ length entries.old }
-    ensures newly { length newly.new ≡ length entries.old }
-    ensures count { IfOk result (λ count. count ≤ length entries.old) }
-    ensures entries { OnOk result (entries.new ≡ with_values sets pairs.now entries.old) }
-    ensures unread { OnOk result (unread.new
-        ≡ after_marking (with_values sets pairs.now entries.old) (changed pairs.now entries.old) unread.old) }
-    ensures names { IfOk result (λ count. numbers (take count newly.new)
-        ≡ newly_marked (with_values sets pairs.now entries.old) (changed pairs.now entries.old) unread.old) }
-    ensures kept_entries { OnErr result (entries.new ≡ entries.old) }
-    ensures kept_unread { OnErr result (unread.new ≡ unread.old) }
-    ensures kept_newly { OnErr result (newly.new ≡ newly.old) }
+    ensures holds { Holds lists.new }
+    ensures ok { OnOk result (shown lists.new ≡ after_values sets pairs.now (shown lists.old)) }
+    ensures err { OnErr result (shown lists.new ≡ shown lists.old) }
     ensures firm { ArePlain pairs.now → IsOk result }
 {
-    prepare(alloc, fresh, pairs)?;
-    Ok(apply_values(entries, users, pairs, sets, unread, fresh, work, newly))
+    prepare(alloc, lists.fresh.as_mut_slice(), pairs)?;
+    apply_values(lists, pairs, sets);
+    Ok(())
 }

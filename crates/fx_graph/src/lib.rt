@@ -7,7 +7,9 @@ mod asking;
 mod binding;
 mod forgetting;
 mod giving;
+mod lists;
 mod looking;
+mod marking;
 mod reading;
 mod refusals;
 mod room;
@@ -27,12 +29,13 @@ ghost use Rattle.fx_graph_model.specs.Sound.{AreSound, IsAcyclic};
 ghost use Rattle.fx_graph_model.specs.Changes as changes;
 ghost use Rattle.fx_base.specs.Answers.{IsAnswer, IsFirmAnswer};
 ghost use Rattle.fx_graph_model.specs.Refusals as refusals;
-ghost use Rattle.fx_graph.specs.Given.{ArePlain, AreBase, AreReadOnly};
+ghost use Rattle.fx_graph.specs.Given.{ArePlain, AreReadOnly};
 ghost use Rattle.fx_graph.specs.Store.{origin_in};
 
+use crate::lists::Lists;
 use fx_base::{Kind, Ledgers, Name, Value, Work};
 use fx_expr::Expr;
-use fx_graph_edges::{Users, operands_at};
+use fx_graph_edges::Users;
 use fx_graph_model::{Definition, Entry, GraphError, Origin};
 use std::alloc::{AllocError, Global};
 use std::marker::Model;
@@ -43,22 +46,10 @@ pub const MOST_NAMES: usize = 4_000_000;
 /// Properties under names that are given once, each with its definition, a flag that says whether it is unread, and the
 /// value that it had when it was read. Contracts see the entries, the flags, and the names that became unread in the
 /// last
-/// change. The lists of the fields have a place for each name that was ever declared.
+/// change.
 #[derive(Drop)]
 pub struct Graph {
-    entries: Vec<Entry>,
-    users: Vec<Users>,
-    unread: Vec<bool>,
-    /// Room for the flags while values are looked at.
-    before: Vec<bool>,
-    newly: Vec<Name>,
-    newly_count: usize,
-    cache: Vec<Value>,
-    /// Room for the values of a change, so that they are all there before the first is given.
-    fresh: Vec<Value>,
-    /// Room for places that are still to be looked at.
-    work: Vec<usize>,
-    operand_count: usize,
+    lists: Lists,
 }
 
 impl Model for Graph {
@@ -70,12 +61,11 @@ impl Model for Graph {
 
     ghost coded = { Prim.hlevel (codes, e.the_row.coded) };
 
-    ghost use Rattle.fx_graph.specs.Store.{IsStore, state_of};
+    ghost use Rattle.fx_graph.specs.Store.{Holds, shown};
 
-    ghost view = { λ graph. state_of graph.entries.items graph.unread.items graph.newly.items graph.newly_count };
+    ghost view = { λ graph. shown graph.lists };
 
-    ghost invariant = { λ graph. IsStore graph.entries.items graph.users.items graph.unread.items graph.before.items
-        graph.newly.items graph.newly_count graph.cache.items graph.fresh.items graph.work.items graph.operand_count };
+    ghost invariant = { λ graph. Holds graph.lists };
 }
 
 impl Graph {
@@ -84,16 +74,18 @@ impl Graph {
         ensures { result ≡ changes.empty }
     {
         Graph {
-            entries: Vec::new(alloc),
-            users: Vec::new(alloc),
-            unread: Vec::new(alloc),
-            before: Vec::new(alloc),
-            newly: Vec::new(alloc),
-            newly_count: 0,
-            cache: Vec::new(alloc),
-            fresh: Vec::new(alloc),
-            work: Vec::new(alloc),
-            operand_count: 0,
+            lists: Lists {
+                entries: Vec::new(alloc),
+                users: Vec::new(alloc),
+                unread: Vec::new(alloc),
+                spare: Vec::new(alloc),
+                newly: Vec::new(alloc),
+                newly_count: 0,
+                cache: Vec::new(alloc),
+                fresh: Vec::new(alloc),
+                work: Vec::new(alloc),
+                operand_count: 0,
+            },
         }
     }
 
@@ -111,35 +103,48 @@ impl Graph {
         ensures ok { OnOk result (self.new ≡ changes.after_declare kind read_only value self.old) }
         ensures err { OnErr result (self.new ≡ self.old) }
     {
-        let place = self.entries.len();
+        let place = self.lists.entries.len();
         if place >= MOST_NAMES {
             return Err(GraphError::Full);
         }
         let kept = value.copy(alloc)?;
-        room::reserve_two(&mut self.entries, &mut self.users)?;
-        room::reserve_three(&mut self.unread, &mut self.before, &mut self.newly)?;
-        room::reserve_three(&mut self.cache, &mut self.fresh, &mut self.work)?;
+        room::reserve_two(&mut self.lists.entries, &mut self.lists.users)?;
+        room::reserve_three(
+            &mut self.lists.unread,
+            &mut self.lists.spare,
+            &mut self.lists.newly,
+        )?;
+        room::reserve_three(
+            &mut self.lists.cache,
+            &mut self.lists.fresh,
+            &mut self.lists.work,
+        )?;
         let entry = Entry {
             kind,
             read_only,
             origin: Origin::Initial,
             definition: Definition::Base(value),
         };
-        room::push_two(&mut self.entries, entry, &mut self.users, Users::new(alloc));
+        room::push_two(
+            &mut self.lists.entries,
+            entry,
+            &mut self.lists.users,
+            Users::new(alloc),
+        );
         room::push_three(
-            &mut self.unread,
+            &mut self.lists.unread,
             false,
-            &mut self.before,
+            &mut self.lists.spare,
             false,
-            &mut self.newly,
+            &mut self.lists.newly,
             Name(0),
         );
         room::push_three(
-            &mut self.cache,
+            &mut self.lists.cache,
             kept,
-            &mut self.fresh,
+            &mut self.lists.fresh,
             Value::Bool(false),
-            &mut self.work,
+            &mut self.lists.work,
             0,
         );
         Ok(Name(place as u32))
@@ -155,10 +160,10 @@ impl Graph {
         ensures ok { OnOk result (self.new ≡ changes.after_values true pairs.now self.old) }
         ensures err { OnErr result (self.new ≡ self.old) }
     {
-        if let Some(refusal) = refusals::of_set(self.entries.as_slice(), pairs) {
+        if let Some(refusal) = refusals::of_set(self.lists.entries.as_slice(), pairs) {
             return Err(refusal);
         }
-        self.change(alloc, pairs, true)?;
+        giving::change_values(alloc, &mut self.lists, pairs, true)?;
         Ok(())
     }
 
@@ -166,14 +171,14 @@ impl Graph {
     pub fn refuses_set(&self, pairs: &[(Name, Value)]) -> Option<GraphError>
         ensures { result ≡ refusals.set_refusal pairs.now self.now.entries }
     {
-        refusals::of_set(self.entries.as_slice(), pairs)
+        refusals::of_set(self.lists.entries.as_slice(), pairs)
     }
 
     /// Why these may not be published, if they may not.
     pub fn refuses_publish(&self, pairs: &[(Name, Value)]) -> Option<GraphError>
         ensures { result ≡ refusals.publish_refusal pairs.now self.now.entries }
     {
-        refusals::of_publish(self.entries.as_slice(), pairs)
+        refusals::of_publish(self.lists.entries.as_slice(), pairs)
     }
 
     /// Gives read-only properties values, all or none. Their origins stay.
@@ -185,37 +190,10 @@ impl Graph {
         ensures ok { OnOk result (self.new ≡ changes.after_values false pairs.now self.old) }
         ensures err { OnErr result (self.new ≡ self.old) }
     {
-        if let Some(refusal) = refusals::of_publish(self.entries.as_slice(), pairs) {
+        if let Some(refusal) = refusals::of_publish(self.lists.entries.as_slice(), pairs) {
             return Err(refusal);
         }
-        self.change(alloc, pairs, false)?;
-        Ok(())
-    }
-
-    fn change(
-        &mut self,
-        alloc: Global,
-        pairs: &[(Name, Value)],
-        sets: bool,
-    ) -> Result<(), AllocError>
-        requires distinct { AllPairs (λ (one other : Named × Content). one.0 ≢ other.0) pairs.now }
-        requires base { AreBase self.old.entries pairs.now }
-        ensures firm { ArePlain pairs.now → IsOk result }
-        ensures ok { OnOk result (self.new ≡ changes.after_values sets pairs.now self.old) }
-        ensures err { OnErr result (self.new ≡ self.old) }
-    {
-        let count = giving::change_values(
-            alloc,
-            self.entries.as_mut_slice(),
-            self.users.as_slice(),
-            pairs,
-            sets,
-            self.unread.as_mut_slice(),
-            self.fresh.as_mut_slice(),
-            self.work.as_mut_slice(),
-            self.newly.as_mut_slice(),
-        )?;
-        self.newly_count = count;
+        giving::change_values(alloc, &mut self.lists, pairs, false)?;
         Ok(())
     }
 
@@ -253,7 +231,7 @@ impl Graph {
         requires { is_within (tree expr.now) (length operands.now) ≡ true }
         ensures { IfOk result (λ refusal. refusal ≡ refusals.fit_refusal name expr.now operands.now self.now.entries) }
     {
-        binding::unfit(alloc, self.entries.as_slice(), name, expr, operands)
+        binding::unfit(alloc, self.lists.entries.as_slice(), name, expr, operands)
     }
 
     /// Why the property may not be bound so, if it may not.
@@ -269,16 +247,7 @@ impl Graph {
         ensures refusal { IfOk result (λ refusal. refusal
             ≡ refusals.bind_refusal name expr.now operands.now self.old.entries) }
     {
-        binding::refusal(
-            alloc,
-            self.entries.as_slice(),
-            self.users.as_slice(),
-            self.work.as_mut_slice(),
-            self.operand_count,
-            name,
-            expr,
-            operands,
-        )
+        binding::refusal(alloc, &mut self.lists, name, expr, operands)
     }
 
     /// Binds the property where nothing speaks against it, so that nobody tests twice.
@@ -293,22 +262,7 @@ impl Graph {
         ensures ok { OnOk result (self.new ≡ changes.after_bind name.0 expr (numbers operands.items) self.old) }
         ensures err { OnErr result (self.new ≡ self.old) }
     {
-        let place = name.0 as usize;
-        let others = self.operand_count - operands_at(self.entries.as_slice(), place);
-        let total = others + operands.len();
-        let count = binding::bind_name(
-            self.entries.as_mut_slice(),
-            self.users.as_mut_slice(),
-            self.unread.as_mut_slice(),
-            self.work.as_mut_slice(),
-            self.newly.as_mut_slice(),
-            place,
-            expr,
-            operands,
-        )?;
-        self.newly_count = count;
-        self.operand_count = total;
-        Ok(())
+        binding::bind_name(&mut self.lists, name, expr, operands)
     }
 
     /// The value of the property. A bound one is evaluated where it may have changed, after what it reads, each name
@@ -333,18 +287,10 @@ impl Graph {
             ≡ work.old.evaluated + bound_unread self.old.entries self.old.unread) }
         ensures others { work.new ≡ record work.old { evaluated = work.new.evaluated } }
     {
-        if asking::is_unknown(self.entries.as_slice(), name) {
+        if asking::is_unknown(self.lists.entries.as_slice(), name) {
             return Err(GraphError::Unknown(name));
         }
-        let value = reading::value_of(
-            alloc,
-            self.entries.as_slice(),
-            self.unread.as_mut_slice(),
-            self.cache.as_mut_slice(),
-            self.work.as_mut_slice(),
-            name.0 as usize,
-            work,
-        )?;
+        let value = reading::value_of(alloc, &mut self.lists, name.0 as usize, work)?;
         Ok(value)
     }
 
@@ -363,15 +309,7 @@ impl Graph {
             ≤ work.old.evaluated + evaluations_of self.old.entries (numbers names.now) self.old.unread }
         ensures others { work.new ≡ record work.old { evaluated = work.new.evaluated } }
     {
-        looking::read_each(
-            alloc,
-            self.entries.as_slice(),
-            self.unread.as_mut_slice(),
-            self.cache.as_mut_slice(),
-            self.work.as_mut_slice(),
-            names,
-            work,
-        )
+        looking::read_each(alloc, &mut self.lists, names, work)
     }
 
     /// The values of these properties, which stay as unread as they are. What is unread is evaluated each time.
@@ -388,16 +326,7 @@ impl Graph {
             ≤ work.old.evaluated + evaluations_of self.old.entries (numbers names.now) self.old.unread }
         ensures others { work.new ≡ record work.old { evaluated = work.new.evaluated } }
     {
-        looking::look_at_each(
-            alloc,
-            self.entries.as_slice(),
-            self.unread.as_mut_slice(),
-            self.before.as_mut_slice(),
-            self.cache.as_mut_slice(),
-            self.work.as_mut_slice(),
-            names,
-            work,
-        )
+        looking::look_at_each(alloc, &mut self.lists, names, work)
     }
 
     /// Reads a bound property and gives it its value for its own; another one stays as it is. Where memory is wanting,
@@ -417,43 +346,13 @@ impl Graph {
             ≡ work.old.evaluated + bound_unread self.old.entries self.old.unread) }
         ensures others { work.new ≡ record work.old { evaluated = work.new.evaluated } }
     {
-        if asking::is_unknown(self.entries.as_slice(), name) {
+        if asking::is_unknown(self.lists.entries.as_slice(), name) {
             return Err(GraphError::Unknown(name));
         }
-        if !asking::is_bound(self.entries.as_slice(), name) {
+        if !asking::is_bound(self.lists.entries.as_slice(), name) {
             return Ok(());
         }
-        self.end_binding(alloc, name.0 as usize, work)?;
-        Ok(())
-    }
-
-    fn end_binding<L: Ledgers>(
-        &mut self,
-        alloc: Global,
-        place: usize,
-        work: &mut Work<L>,
-    ) -> Result<(), AllocError>
-        requires { bound_in self.old.entries place ≡ true }
-        ensures ok { OnOk result (self.new ≡ changes.after_unbind place self.old) }
-        ensures part { OnErr result (changes.IsReadInPart place self.old self.new) }
-        ensures cost { work.new.evaluated ≤ work.old.evaluated + evaluations self.old.entries place self.old.unread }
-        ensures steps { OnOk result (work.new.evaluated + bound_unread self.old.entries self.new.unread
-            ≡ work.old.evaluated + bound_unread self.old.entries self.old.unread) }
-        ensures others { work.new ≡ record work.old { evaluated = work.new.evaluated } }
-    {
-        let operands = operands_at(self.entries.as_slice(), place);
-        let left = self.operand_count - operands;
-        unbinding::unbind_name(
-            alloc,
-            self.entries.as_mut_slice(),
-            self.users.as_mut_slice(),
-            self.unread.as_mut_slice(),
-            self.cache.as_mut_slice(),
-            self.work.as_mut_slice(),
-            place,
-            work,
-        )?;
-        self.operand_count = left;
+        unbinding::unbind_name(alloc, &mut self.lists, name.0 as usize, work)?;
         Ok(())
     }
 
@@ -463,28 +362,11 @@ impl Graph {
         ensures ok { OnOk result (self.new ≡ changes.after_forget (numbers names.now) self.old) }
         ensures err { OnErr result (self.new ≡ self.old) }
     {
-        let refusal = forgetting::refusal(self.entries.as_slice(), self.users.as_slice(), names);
-        if let Some(refusal) = refusal {
+        if let Some(refusal) = forgetting::refusal(&mut self.lists, names) {
             return Err(refusal);
         }
-        self.forget_free(names);
+        forgetting::forget_names(&mut self.lists, names);
         Ok(())
-    }
-
-    fn forget_free(&mut self, names: &[Name])
-        requires known { refusals.unknown_name self.old.entries names.now ≡ None }
-        requires free { refusals.IsFree (numbers names.now) self.old.entries }
-        ensures { self.new ≡ changes.after_forget (numbers names.now) self.old }
-    {
-        let left = forgetting::forget_names(
-            self.entries.as_mut_slice(),
-            self.users.as_mut_slice(),
-            self.unread.as_mut_slice(),
-            self.cache.as_mut_slice(),
-            self.operand_count,
-            names,
-        );
-        self.operand_count = left;
     }
 
     /// The value of a known property that isn't bound. It stays as unread as it is.
@@ -493,35 +375,35 @@ impl Graph {
         requires free { bound_in self.now.entries name.0 ≡ false }
         ensures { IfOk result (λ value. value ≡ eager self.now.entries name.0) }
     {
-        asking::own_value(alloc, self.entries.as_slice(), name)
+        asking::own_value(alloc, self.lists.entries.as_slice(), name)
     }
 
     /// The names that became unread in the last change, rising.
     pub fn newly(&self) -> &[Name]
         ensures { numbers result.now ≡ self.now.newly }
     {
-        &self.newly.as_slice()[..self.newly_count]
+        &self.lists.newly.as_slice()[..self.lists.newly_count]
     }
 
     /// Whether the property is bound.
     pub fn is_bound(&self, name: Name) -> bool
         ensures { result ≡ bound_in self.now.entries name.0 }
     {
-        asking::is_bound(self.entries.as_slice(), name)
+        asking::is_bound(self.lists.entries.as_slice(), name)
     }
 
     /// Whether the property is only published by the player.
     pub fn is_read_only(&self, name: Name) -> bool
         ensures { result ≡ refusals.read_only_in self.now.entries name.0 }
     {
-        asking::is_read_only(self.entries.as_slice(), name)
+        asking::is_read_only(self.lists.entries.as_slice(), name)
     }
 
     /// Whether the name was never declared, or was forgotten.
     pub fn is_unknown(&self, name: Name) -> bool
         ensures { result ≡ unknown_in self.now.entries name.0 }
     {
-        asking::is_unknown(self.entries.as_slice(), name)
+        asking::is_unknown(self.lists.entries.as_slice(), name)
     }
 
     /// Whether two known properties are of one kind.
@@ -529,21 +411,21 @@ impl Graph {
         ensures { result ≡ same_kind (refusals.kind_at self.now.entries one.0)
             (refusals.kind_at self.now.entries other.0) }
     {
-        refusals::are_of_one_kind(self.entries.as_slice(), one, other)
+        refusals::are_of_one_kind(self.lists.entries.as_slice(), one, other)
     }
 
     /// Whether the property may have changed since it was read.
     pub fn is_unread(&self, name: Name) -> bool
         ensures { result ≡ marked self.now.unread name.0 }
     {
-        asking::is_marked(self.unread.as_slice(), name)
+        asking::is_marked(self.lists.unread.as_slice(), name)
     }
 
     /// Where the present definition of a known property came from.
     pub fn origin(&self, name: Name) -> Option<Origin>
         ensures { result ≡ origin_in self.now.entries name.0 }
     {
-        asking::origin_of(self.entries.as_slice(), name)
+        asking::origin_of(self.lists.entries.as_slice(), name)
     }
 
     /// What is true at all times: no property reads itself, over however many bindings, and who reads an unread one is
@@ -556,7 +438,7 @@ impl Graph {
         ensures ranked { (rank : ℕ → ℕ) × Ranked self.now.entries rank }
         ensures few { length self.now.entries ≤ 4000000 }
     {
-        let _count = self.operand_count;
+        let _count = self.lists.operand_count;
     }
 }
 

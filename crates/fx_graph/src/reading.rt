@@ -2,13 +2,15 @@
 //! deep recursion. Each value is kept, and counted once.
 ghost use Rattle.std.specs.Prelude.{ℕ, ◌≡◌, ◌≤◌, ◌<◌, ◌+◌, cond, Contains, length, map, slice_set, IfOk, OnOk, true, false};
 ghost use Rattle.fx_base.specs.Names.{numbers};
-ghost use Rattle.fx_graph_model.specs.Uses.{Ranked, entry_of, uses, bound_in, operands_in, is_binding};
+ghost use Rattle.fx_graph_model.specs.Uses.{entry_of, uses, bound_in, operands_in, is_binding};
 ghost use Rattle.fx_graph_model.specs.Eager.{value_of_definition, eager};
-ghost use Rattle.fx_graph_model.specs.Unread.{marked, after_reading, bound_unread, evaluations, IsPartRead};
-ghost use Rattle.fx_graph_model.specs.Sound.{AreSound, IsSettled};
+ghost use Rattle.fx_graph_model.specs.Unread.{marked, bound_unread, evaluations};
+ghost use Rattle.fx_graph_model.specs.Changes.{after_read, IsReadInPart};
 ghost use Rattle.fx_graph.specs.Asked.{IsUnreadAmong, IsEvaluable, kept_value};
+ghost use Rattle.fx_graph.specs.Store.{Holds, shown};
 
 use crate::asking::is_marked;
+use crate::lists::Lists;
 use fx_base::{Ledgers, Name, Value, Work};
 use fx_expr::eval;
 use fx_graph_model::{Definition, Entry};
@@ -119,40 +121,45 @@ fn keep(cache: &mut [Value], unread: &mut [bool], place: usize, value: Value)
 /// Reads what an unread name needs, and the name.
 fn settle_unread<L: Ledgers>(
     alloc: Global,
-    entries: &[Entry],
-    unread: &mut [bool],
-    cache: &mut [Value],
-    stack: &mut [usize],
+    lists: &mut Lists,
     name: usize,
     work: &mut Work<L>,
 ) -> Result<(), AllocError>
-    requires ranks { (rank : ℕ → ℕ) × Ranked entries.now rank }
-    requires sound { AreSound entries.now }
-    requires settled { IsSettled entries.now unread.old cache.old }
-    requires room { length stack.old ≡ length entries.now }
-    requires unread { marked unread.old name ≡ true }
-    ensures room { length stack.new ≡ length entries.now }
-    ensures settled { IsSettled entries.now unread.new cache.new }
-    ensures part { IsPartRead entries.now name unread.old unread.new }
-    ensures read { OnOk result (marked unread.new name ≡ false) }
-    ensures ok { OnOk result (unread.new ≡ after_reading entries.now name unread.old) }
-    ensures cost { work.new.evaluated ≤ work.old.evaluated + evaluations entries.now name unread.old }
-    ensures steps { OnOk result (work.new.evaluated + bound_unread entries.now unread.new
-        ≡ work.old.evaluated + bound_unread entries.now unread.old) }
+    requires holds { Holds lists.old }
+    requires unread { marked lists.old.unread.items name ≡ true }
+    ensures holds { Holds lists.new }
+    ensures part { IsReadInPart name (shown lists.old) (shown lists.new) }
+    ensures read { OnOk result (marked lists.new.unread.items name ≡ false) }
+    ensures ok { OnOk result (shown lists.new ≡ after_read name (shown lists.old)) }
+    ensures cost { work.new.evaluated
+        ≤ work.old.evaluated + evaluations lists.old.entries.items name lists.old.unread.items }
+    ensures steps { OnOk result (work.new.evaluated + bound_unread lists.old.entries.items lists.new.unread.items
+        ≡ work.old.evaluated + bound_unread lists.old.entries.items lists.old.unread.items) }
     ensures others { work.new ≡ record work.old { evaluated = work.new.evaluated } }
 {
-    push_place(stack, 0, name);
+    push_place(lists.work.as_mut_slice(), 0, name);
     let mut count = 1;
     while count > 0 {
-        let top = stack[count - 1];
-        match operand_at(entries, top, unread) {
+        let top = lists.work[count - 1];
+        match operand_at(lists.entries.as_slice(), top, lists.unread.as_slice()) {
             Some(operand) => {
-                push_place(stack, count, operand);
+                push_place(lists.work.as_mut_slice(), count, operand);
                 count += 1;
             }
             None => {
-                let value = evaluate_at(alloc, entries, top, cache, work)?;
-                keep(cache, unread, top, value);
+                let value = evaluate_at(
+                    alloc,
+                    lists.entries.as_slice(),
+                    top,
+                    lists.cache.as_slice(),
+                    work,
+                )?;
+                keep(
+                    lists.cache.as_mut_slice(),
+                    lists.unread.as_mut_slice(),
+                    top,
+                    value,
+                );
                 count -= 1;
             }
         }
@@ -163,61 +170,49 @@ fn settle_unread<L: Ledgers>(
 /// Reads what the name needs, and the name.
 fn settle<L: Ledgers>(
     alloc: Global,
-    entries: &[Entry],
-    unread: &mut [bool],
-    cache: &mut [Value],
-    stack: &mut [usize],
+    lists: &mut Lists,
     name: usize,
     work: &mut Work<L>,
 ) -> Result<(), AllocError>
-    requires ranks { (rank : ℕ → ℕ) × Ranked entries.now rank }
-    requires sound { AreSound entries.now }
-    requires settled { IsSettled entries.now unread.old cache.old }
-    requires room { length stack.old ≡ length entries.now }
-    requires known { name < length entries.now }
-    ensures room { length stack.new ≡ length entries.now }
-    ensures settled { IsSettled entries.now unread.new cache.new }
-    ensures part { IsPartRead entries.now name unread.old unread.new }
-    ensures again { marked unread.old name ≡ false → unread.new ≡ unread.old }
-    ensures read { OnOk result (marked unread.new name ≡ false) }
-    ensures ok { OnOk result (unread.new ≡ after_reading entries.now name unread.old) }
-    ensures cost { work.new.evaluated ≤ work.old.evaluated + evaluations entries.now name unread.old }
-    ensures steps { OnOk result (work.new.evaluated + bound_unread entries.now unread.new
-        ≡ work.old.evaluated + bound_unread entries.now unread.old) }
+    requires holds { Holds lists.old }
+    requires known { name < length lists.old.entries.items }
+    ensures holds { Holds lists.new }
+    ensures part { IsReadInPart name (shown lists.old) (shown lists.new) }
+    ensures again { marked lists.old.unread.items name ≡ false → shown lists.new ≡ shown lists.old }
+    ensures read { OnOk result (marked lists.new.unread.items name ≡ false) }
+    ensures ok { OnOk result (shown lists.new ≡ after_read name (shown lists.old)) }
+    ensures cost { work.new.evaluated
+        ≤ work.old.evaluated + evaluations lists.old.entries.items name lists.old.unread.items }
+    ensures steps { OnOk result (work.new.evaluated + bound_unread lists.old.entries.items lists.new.unread.items
+        ≡ work.old.evaluated + bound_unread lists.old.entries.items lists.old.unread.items) }
     ensures others { work.new ≡ record work.old { evaluated = work.new.evaluated } }
 {
-    if !unread[name] {
+    if !lists.unread[name] {
         return Ok(());
     }
-    settle_unread(alloc, entries, unread, cache, stack, name, work)
+    settle_unread(alloc, lists, name, work)
 }
 
 /// The value of a known name.
 pub fn value_of<L: Ledgers>(
     alloc: Global,
-    entries: &[Entry],
-    unread: &mut [bool],
-    cache: &mut [Value],
-    stack: &mut [usize],
+    lists: &mut Lists,
     name: usize,
     work: &mut Work<L>,
 ) -> Result<Value, AllocError>
-    requires ranks { (rank : ℕ → ℕ) × Ranked entries.now rank }
-    requires sound { AreSound entries.now }
-    requires settled { IsSettled entries.now unread.old cache.old }
-    requires room { length stack.old ≡ length entries.now }
-    requires known { name < length entries.now }
-    ensures room { length stack.new ≡ length entries.now }
-    ensures settled { IsSettled entries.now unread.new cache.new }
-    ensures part { IsPartRead entries.now name unread.old unread.new }
-    ensures again { marked unread.old name ≡ false → unread.new ≡ unread.old }
-    ensures value { IfOk result (λ value. value ≡ eager entries.now name) }
-    ensures ok { OnOk result (unread.new ≡ after_reading entries.now name unread.old) }
-    ensures cost { work.new.evaluated ≤ work.old.evaluated + evaluations entries.now name unread.old }
-    ensures steps { OnOk result (work.new.evaluated + bound_unread entries.now unread.new
-        ≡ work.old.evaluated + bound_unread entries.now unread.old) }
+    requires holds { Holds lists.old }
+    requires known { name < length lists.old.entries.items }
+    ensures holds { Holds lists.new }
+    ensures part { IsReadInPart name (shown lists.old) (shown lists.new) }
+    ensures again { marked lists.old.unread.items name ≡ false → shown lists.new ≡ shown lists.old }
+    ensures value { IfOk result (λ value. value ≡ eager lists.old.entries.items name) }
+    ensures ok { OnOk result (shown lists.new ≡ after_read name (shown lists.old)) }
+    ensures cost { work.new.evaluated
+        ≤ work.old.evaluated + evaluations lists.old.entries.items name lists.old.unread.items }
+    ensures steps { OnOk result (work.new.evaluated + bound_unread lists.old.entries.items lists.new.unread.items
+        ≡ work.old.evaluated + bound_unread lists.old.entries.items lists.old.unread.items) }
     ensures others { work.new ≡ record work.old { evaluated = work.new.evaluated } }
 {
-    settle(alloc, entries, unread, cache, stack, name, work)?;
-    cache[name].copy(alloc)
+    settle(alloc, lists, name, work)?;
+    lists.cache[name].copy(alloc)
 }

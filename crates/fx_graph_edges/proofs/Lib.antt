@@ -1,3 +1,4 @@
+pub mod ClearLemmas
 pub mod LinkLemmas
 pub mod NewlyLemmas
 pub mod RowLemmas

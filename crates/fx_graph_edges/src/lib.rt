@@ -11,5 +11,6 @@ mod users;
 
 pub use counting::operands_at;
 pub use linking::{release_at, relink};
-pub use marking::{finish, mark_one, spread};
+pub use marking::{mark_one, spread, take_back};
+pub use newly::list_newly;
 pub use users::Users;

@@ -1,15 +1,12 @@
 //! Marking: what is to be read anew after a change. It goes upwards along the edges, and stops at what is unread
 //! already. Every change of a value or a binding ends with it.
-ghost use Rattle.std.specs.Prelude.{◌≡◌, ◌+◌, ◌<◌, ◌≤◌, ℕ, List, Bool, true, false, All, length, take, slice_set, if◌then◌else◌};
-ghost use Rattle.fx_base.specs.Names.{numbers};
+ghost use Rattle.std.specs.Prelude.{◌≡◌, ◌+◌, ◌<◌, ◌≤◌, ℕ, List, Bool, true, false, All, length, replicate, slice_set, if◌then◌else◌};
 ghost use Rattle.fx_graph_model.specs.Uses.{Ranked};
-ghost use Rattle.fx_graph_model.specs.Unread.{marked, unmarked, after_marking, newly_marked};
+ghost use Rattle.fx_graph_model.specs.Unread.{marked, unmarked, after_marking};
 ghost use Rattle.fx_graph_model.specs.Marking.{Listed, MarksAll, IsClosedBut};
 ghost use Rattle.fx_graph_model.specs.Users.{Mirrors};
 
-use crate::newly::list_newly;
 use crate::users::Users;
-use fx_base::Name;
 use fx_graph_model::Entry;
 
 /// Marks one, and puts it behind the first `count` of the list if it wasn't marked.
@@ -75,33 +72,13 @@ pub fn spread(
     end
 }
 
-/// The same, and lists the names that became unread, rising: how many there are.
-pub fn finish(
-    entries: &[Entry],
-    users: &[Users],
-    unread: &mut [bool],
-    work: &mut [usize],
-    newly: &mut [Name],
-    count: usize,
-) -> usize
-    requires ranks { (rank : ℕ → ℕ) × Ranked entries.now rank }
-    requires mirrors { Mirrors entries.now users.now }
-    requires flags { length unread.old ≡ length entries.now }
-    requires places { length work.old ≡ length entries.now }
-    requires names { length newly.old ≡ length entries.now }
-    requires few { length entries.now ≤ 4000000 }
-    requires begun { (names : List ℕ) × (w : List ℕ) × (was : List Bool) × IsClosedBut entries.now was names
-        × MarksAll names was w 0 unread.old work.old count }
-    ensures count { result ≤ length entries.now }
-    ensures places { length work.new ≡ length work.old }
-    ensures names { length newly.new ≡ length newly.old }
-    ensures marks { (names w : List ℕ) (was : List Bool) → IsClosedBut entries.now was names
-        → MarksAll names was w 0 unread.old work.old count → unread.new ≡ after_marking entries.now names was }
-    ensures newly { (names w : List ℕ) (was : List Bool) → IsClosedBut entries.now was names
-        → MarksAll names was w 0 unread.old work.old count
-        → numbers (take result newly.new) ≡ newly_marked entries.now names was }
+/// Takes back the marks of the first `count` of the list, in flags in which nothing else is marked.
+pub fn take_back(flags: &mut [bool], work: &[usize], count: usize)
+    requires places { count ≤ length work.now }
+    requires listed { Listed (replicate (length flags.old) false) flags.old work.now count }
+    ensures { flags.new ≡ replicate (length flags.old) false }
 {
-    let end = spread(entries, users, unread, work, count);
-    list_newly(work, end, newly);
-    end
+    for place in 0..count {
+        flags[work[place]] = false;
+    }
 }

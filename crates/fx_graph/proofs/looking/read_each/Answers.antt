@@ -1,64 +1,97 @@
-use Rattle.std.proofs.Common.{◌+◌, ℕ, List, Contains, refl, sym, ap, subst, ◌∙◌}
-use Rattle.fx_base.specs.declared.work.Work.{Work}
+use Rattle.std.proofs.Common.{◌≡◌, ◌+◌, ℕ, Bool, List, Contains, refl, sym, ap, subst, ◌∙◌}
 use Rattle.fx_base.specs.Names.{name_of}
+use Rattle.fx_base.specs.declared.work.Work.{Work}
 use Rattle.fx_graph_edges.proofs.RowLemmas.{number_at, numbers_more}
-use Rattle.fx_graph.proofs.LookLemmas.{first_names, reads_fewer, reads_more, reads_spent_all, reads_start, reads_stopped, reads_unchanged}
+use Rattle.fx_graph.specs.Store.{shown}
+use Rattle.fx_graph.proofs.LookLemmas.{first_names, looks_entries, looks_more, looks_part, looks_reads, looks_some, looks_start, reads_spent_all, reads_stopped, reads_unchanged}
 use Rattle.fx_graph.proofs.looking.read_each.Goals as goal
 
 pub loop-name-init : goal.loop-name-init
-loop-name-init g c = rw c.in_ok-values.ensures.items (reads_start _ _ _ _ c.requires.settled, c.requires.room, refl)
+loop-name-init g c = rw c.in_ok-values.ensures.items (looks_start _ _ c.requires.holds, refl)
+
+pub value_of-requires-clause-holds : goal.value_of-requires-clause-holds
+value_of-requires-clause-holds g c = c.loop-name.invariant.0.holds
 
 pub value_of-requires-clause-known : goal.value_of-requires-clause-known
 value_of-requires-clause-known g c =
-    c.requires.known _ (number_at c.args.names.now c.loop-name.name-index (name_of 0) c.loop-name-test.true)
+    rw (looks_entries _ _ _ _ _ _ c.loop-name.invariant.0)
+    (c.requires.known _ (number_at c.args.names.now c.loop-name.name-index (name_of 0) c.loop-name-test.true))
 
-pub returns-in_err-value-clause-fewer : goal.returns-in_err-value-clause-fewer
-returns-in_err-value-clause-fewer g c = λ n on.
-    reads_fewer _ _ _ _ _ _ _ _ c.loop-name.invariant.0 n (c.value_of.ensures.part.fewer n on)
+pub returns-in_err-value-clause-part : goal.returns-in_err-value-clause-part
+returns-in_err-value-clause-part g c = looks_part c.args.lists.now c.loop-name.lists c.value_of.new.lists _ _ _ _ _ c.loop-name.invariant.0 c.value_of.ensures.part
 
 pub returns-in_err-value-clause-again : goal.returns-in_err-value-clause-again
 returns-in_err-value-clause-again g c = λ off.
-    let same = reads_unchanged _ _ _ _ _ _ _ _ _ c.loop-name.invariant.0 c.requires.settled.closed (first_names c.args.names.now c.loop-name.name-index) off in
-    c.value_of.ensures.again (rw same (off _ (number_at c.args.names.now c.loop-name.name-index (name_of 0) c.loop-name-test.true))) ∙ same
+    let k = c.loop-name.invariant.0 in
+    let r = looks_reads _ _ _ _ _ _ k in
+    let i = c.loop-name.name-index in
+    let names = c.args.names.now in
+    let flags : c.loop-name.lists.unread.items ≡ c.args.lists.now.unread.items =
+    reads_unchanged _ _ _ _ _ _ _ _ _ r c.requires.holds.settled.closed (first_names names i) off in
+    let state : shown c.loop-name.lists ≡ shown c.args.lists.now =
+    k.state ∙ ap (λ (f : List Bool). record (shown c.args.lists.now) { unread = f }) (sym r.flags ∙ flags) in
+    c.value_of.ensures.again (rw flags (off _ (number_at names i (name_of 0) c.loop-name-test.true))) ∙ state
 
 pub returns-in_err-value-clause-cost : goal.returns-in_err-value-clause-cost
 returns-in_err-value-clause-cost g c =
-    reads_stopped _ _ _ _ _ _ _ _ _ _ _ c.loop-name.invariant.0
-    (λ n h. first_names c.args.names.now (c.loop-name.name-index + 1) n
-    (subst (λ (xs : List ℕ). Contains xs n) (sym (numbers_more c.args.names.now c.loop-name.name-index (name_of 0) c.loop-name-test.true)) h))
-    c.value_of.ensures.cost
+    let k = c.loop-name.invariant.0 in
+    let r = looks_reads _ _ _ _ _ _ k in
+    let i = c.loop-name.name-index in
+    let names = c.args.names.now in
+    reads_stopped _ _ _ _ _ _ _ _ _ _ _ r
+    (λ n h. first_names names (i + 1) n (subst (λ (xs : List ℕ). Contains xs n) (sym (numbers_more names i (name_of 0) c.loop-name-test.true)) h))
+    (rw (looks_entries _ _ _ _ _ _ k) at c.value_of.ensures.cost)
 
-pub returns-in_err-push-clause-fewer : goal.returns-in_err-push-clause-fewer
-returns-in_err-push-clause-fewer g c = λ n on.
-    reads_fewer _ _ _ _ _ _ _ _ c.loop-name.invariant.0 n (c.value_of.ensures.part.fewer n on)
+pub returns-in_err-push-clause-part : goal.returns-in_err-push-clause-part
+returns-in_err-push-clause-part g c = looks_part c.args.lists.now c.loop-name.lists c.value_of.new.lists _ _ _ _ _ c.loop-name.invariant.0 c.value_of.ensures.part
 
 pub returns-in_err-push-clause-again : goal.returns-in_err-push-clause-again
 returns-in_err-push-clause-again g c = λ off.
-    let same = reads_unchanged _ _ _ _ _ _ _ _ _ c.loop-name.invariant.0 c.requires.settled.closed (first_names c.args.names.now c.loop-name.name-index) off in
-    c.value_of.ensures.again (rw same (off _ (number_at c.args.names.now c.loop-name.name-index (name_of 0) c.loop-name-test.true))) ∙ same
+    let k = c.loop-name.invariant.0 in
+    let r = looks_reads _ _ _ _ _ _ k in
+    let i = c.loop-name.name-index in
+    let names = c.args.names.now in
+    let flags : c.loop-name.lists.unread.items ≡ c.args.lists.now.unread.items =
+    reads_unchanged _ _ _ _ _ _ _ _ _ r c.requires.holds.settled.closed (first_names names i) off in
+    let state : shown c.loop-name.lists ≡ shown c.args.lists.now =
+    k.state ∙ ap (λ (f : List Bool). record (shown c.args.lists.now) { unread = f }) (sym r.flags ∙ flags) in
+    c.value_of.ensures.again (rw flags (off _ (number_at names i (name_of 0) c.loop-name-test.true))) ∙ state
 
 pub returns-in_err-push-clause-cost : goal.returns-in_err-push-clause-cost
 returns-in_err-push-clause-cost g c =
-    reads_stopped _ _ _ _ _ _ _ _ _ _ _ c.loop-name.invariant.0
-    (λ n h. first_names c.args.names.now (c.loop-name.name-index + 1) n
-    (subst (λ (xs : List ℕ). Contains xs n) (sym (numbers_more c.args.names.now c.loop-name.name-index (name_of 0) c.loop-name-test.true)) h))
-    c.value_of.ensures.cost
+    let k = c.loop-name.invariant.0 in
+    let r = looks_reads _ _ _ _ _ _ k in
+    let i = c.loop-name.name-index in
+    let names = c.args.names.now in
+    reads_stopped _ _ _ _ _ _ _ _ _ _ _ r
+    (λ n h. first_names names (i + 1) n (subst (λ (xs : List ℕ). Contains xs n) (sym (numbers_more names i (name_of 0) c.loop-name-test.true)) h))
+    (rw (looks_entries _ _ _ _ _ _ k) at c.value_of.ensures.cost)
 
 pub loop-name-preserved : goal.loop-name-preserved
 loop-name-preserved g c =
     rw (numbers_more c.args.names.now c.loop-name.name-index (name_of 0) c.loop-name-test.true, c.in_ok-push.ensures.items) (
-      reads_more _ _ _ _ _ _ _ _ _ _ _ _ _ c.loop-name.invariant.0 c.value_of.ensures.settled c.in_ok-value.ensures.ok c.in_ok-value.ensures.value
+      looks_more _ _ _ _ _ _ _ _ _ _ c.loop-name.invariant.0 c.value_of.ensures.holds c.in_ok-value.ensures.ok c.in_ok-value.ensures.value
           c.in_ok-value.ensures.steps,
-      c.value_of.ensures.room,
-      c.value_of.ensures.others ∙ ap (λ (w : Work g.row.L.Denot). record w { evaluated = c.value_of.new.work.evaluated }) c.loop-name.invariant.2,
+      c.value_of.ensures.others ∙ ap (λ (w : Work g.row.L.Denot). record w { evaluated = c.value_of.new.work.evaluated }) c.loop-name.invariant.1,
     )
 
-pub returns-clause-fewer : goal.returns-clause-fewer
-returns-clause-fewer g c = reads_fewer _ _ _ _ _ _ _ _ c.loop-name.invariant.0
+pub returns-clause-holds : goal.returns-clause-holds
+returns-clause-holds g c = c.loop-name.invariant.0.holds
+
+pub returns-clause-part : goal.returns-clause-part
+returns-clause-part g c = looks_some _ _ _ _ _ _ c.loop-name.invariant.0
 
 pub returns-clause-again : goal.returns-clause-again
 returns-clause-again g c = λ off.
-    reads_unchanged _ _ _ _ _ _ _ _ _ c.loop-name.invariant.0 c.requires.settled.closed (first_names c.args.names.now c.loop-name.name-index) off
+    let k = c.loop-name.invariant.0 in
+    let r = looks_reads _ _ _ _ _ _ k in
+    let i = c.loop-name.name-index in
+    let names = c.args.names.now in
+    let flags : c.loop-name.lists.unread.items ≡ c.args.lists.now.unread.items =
+    reads_unchanged _ _ _ _ _ _ _ _ _ r c.requires.holds.settled.closed (first_names names i) off in
+    let state : shown c.loop-name.lists ≡ shown c.args.lists.now =
+    k.state ∙ ap (λ (f : List Bool). record (shown c.args.lists.now) { unread = f }) (sym r.flags ∙ flags) in
+    state
 
 pub returns-clause-cost : goal.returns-clause-cost
-returns-clause-cost g c = reads_spent_all _ _ _ _ _ _ _ _ _ c.loop-name.invariant.0 (first_names c.args.names.now c.loop-name.name-index)
+returns-clause-cost g c = reads_spent_all _ _ _ _ _ _ _ _ _ (looks_reads _ _ _ _ _ _ c.loop-name.invariant.0) (first_names c.args.names.now c.loop-name.name-index)

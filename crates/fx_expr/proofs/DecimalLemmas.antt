@@ -1,50 +1,27 @@
 -- Digits from the left, and the rounding of a number by the first digit behind the point.
 use Rattle.std.specs.Char.{is_ascii_digit}
-use Rattle.std.proofs.Common.{◌≡◌, ◌<◌, ◌≤◌, ◌+◌, ◌-◌, ◌*◌, ◌/◌, ◌^◌, ℕ, pos, Bool, true, false, ◌++◌, List, [], ◌∷◌, suc, length, take, drop, get_or, min, cond, leb, inl, inr, refl, ap, ◌∙◌, subst, arith, lit<}
-use Rattle.std.specs.List.{list_all}
-use Rattle.std.proofs.lemmas.Bool.{and_parts, and_from}
+use Rattle.std.proofs.Common.{◌≡◌, ◌<◌, ◌≤◌, ◌+◌, ◌-◌, ◌*◌, ◌/◌, ◌^◌, ℕ, pos, Bool, true, false, ◌++◌, List, [], ◌∷◌, suc, length, drop, drop-cons, get_or, min, cond, leb, inl, inr, refl, sym, ap, ◌∙◌, arith, lit<}
+use Rattle.std.specs.List.{list_all, prefix_len}
+use Rattle.std.proofs.lemmas.Bool.{and_parts}
 use Rattle.std.proofs.lemmas.Bool.Decides.{leb_tells}
-use Rattle.std.proofs.lemmas.List.{append-nil}
+use Rattle.std.proofs.lemmas.List.{append-nil, drop_all}
 use Rattle.std.proofs.lemmas.Nat.{div-mul-add}
-use Rattle.std.proofs.Math.Seq.{take-length}
 use Rattle.std.proofs.Math.Nat.{pow-suc, mul-le-mul_right}
 use Rattle.fx_text.specs.Digits.{number_behind, number_of_digits}
 use Rattle.fx_text.proofs.DigitLemmas.{number-append, number_small, digit_small, number_behind_is}
-use Rattle.fx_expr.specs.Decimal.{passing, behind, rounded, decimal, is_upper, has_fraction, fraction_digits}
-use Rattle.fx_expr.specs.Spelling.{Stops}
+use Rattle.fx_text.specs.Fronts.{front, behind}
+use Rattle.fx_text.proofs.FrontLemmas.{front-passes}
+use Rattle.fx_expr.specs.Decimal.{rounded, decimal, is_upper, has_fraction, fraction_digits}
 
--- the characters that pass, and the rest
-pub passing_parts : (p : ℕ → Bool) (text : List ℕ) → text ≡ passing p text ++ behind p text
-passing_parts p [] = refl
-passing_parts p (c ∷ cs) = (elim (p c) as (λ b. (c ∷ cs) ≡ cond b (c ∷ passing p cs) [] ++ cond b (behind p cs) (c ∷ cs)) [ true ↦ ap (λ t. c ∷ t) (passing_parts p cs) | false ↦ refl ])
+-- a front by its first character
+pub front_more : (p : ℕ → Bool) (c : ℕ) (cs : List ℕ) → p c ≡ true → front p (c ∷ cs) ≡ c ∷ front p cs
+front_more p c cs e = let one : 1 + prefix_len p cs ≡ suc (prefix_len p cs) = omega arith in rw (e, one) refl
 
-pub passing_pass : (p : ℕ → Bool) (text : List ℕ) → list_all p (passing p text) ≡ true
-passing_pass p [] = refl
-passing_pass p (c ∷ cs) = (elim (p c) as (λ b. p c ≡ b → list_all p (cond b (c ∷ passing p cs) []) ≡ true) [ true ↦ λ e. and_from (p c) (list_all p (passing p cs)) e (passing_pass p cs) | false ↦ λ e. refl ]) refl
+pub behind_more : (p : ℕ → Bool) (c : ℕ) (cs : List ℕ) → p c ≡ true → behind p (c ∷ cs) ≡ behind p cs
+behind_more p c cs e = let one : 1 + prefix_len p cs ≡ suc (prefix_len p cs) = omega arith in rw (e, one) refl
 
-pub behind_stops : (p : ℕ → Bool) (text : List ℕ) → Stops p (behind p text)
-behind_stops p [] = tt
-behind_stops p (c ∷ cs) = (elim (p c) as (λ b. p c ≡ b → Stops p (cond b (behind p cs) (c ∷ cs))) [ true ↦ λ e. behind_stops p cs | false ↦ λ e. e ]) refl
-
-passing_none : (p : ℕ → Bool) (text : List ℕ) → Stops p text → passing p text ≡ []
-passing_none p [] s = refl
-passing_none p (c ∷ cs) s = rw s refl
-
-behind_all : (p : ℕ → Bool) (text : List ℕ) → Stops p text → behind p text ≡ text
-behind_all p [] s = refl
-behind_all p (c ∷ cs) s = rw s refl
-
-pub passing_written : (p : ℕ → Bool) (ds text : List ℕ) → list_all p ds ≡ true → Stops p text → passing p (ds ++ text) ≡ ds
-passing_written p [] text a s = passing_none p text s
-passing_written p (d ∷ ds) text a s =
-    let both = and_parts (p d) (list_all p ds) a in
-    rw both.0 (ap (λ t. d ∷ t) (passing_written p ds text both.1 s))
-
-pub behind_written : (p : ℕ → Bool) (ds text : List ℕ) → list_all p ds ≡ true → Stops p text → behind p (ds ++ text) ≡ text
-behind_written p [] text a s = behind_all p text s
-behind_written p (d ∷ ds) text a s =
-    let both = and_parts (p d) (list_all p ds) a in
-    rw both.0 (behind_written p ds text both.1 s)
+pub behind_none : (p : ℕ → Bool) (c : ℕ) (cs : List ℕ) → p c ≡ false → behind p (c ∷ cs) ≡ c ∷ cs
+behind_none p c cs e = rw e refl
 
 -- a greater number stays above
 number_grows : (top n : ℕ) (ds : List ℕ) → top ≤ n → top ≤ number_behind n ds
@@ -107,40 +84,22 @@ decimal_is whole fraction up n h e f =
 
 -- the digits of the fraction are digits
 pub fraction_pass : (text : List ℕ) → list_all is_ascii_digit (fraction_digits text) ≡ true
-fraction_pass text = (elim (has_fraction text) as (λ b. list_all is_ascii_digit (cond b (passing is_ascii_digit (drop 1 text)) []) ≡ true) [ true ↦ passing_pass is_ascii_digit (drop 1 text) | false ↦ refl ])
+fraction_pass text = (elim (has_fraction text) as (λ b. list_all is_ascii_digit (cond b (front is_ascii_digit (drop 1 text)) []) ≡ true) [ true ↦ front-passes is_ascii_digit (drop 1 text) | false ↦ refl ])
 
--- one digit more, from the front of what is left
-pub digit_step : (n m g r : ℕ) (rest : List ℕ) (x known : ℕ) → 1 ≤ length rest → x ≡ get_or rest 0 x → is_ascii_digit x ≡ true
+-- one digit more
+pub digit_more : (n m g r i : ℕ) (ds : List ℕ) (x known : ℕ) → i < length ds → x ≡ get_or ds i x
     → m ≡ min (n * 10) 18446744073709551615 → g ≡ x - 48 → r ≡ min (m + g) 18446744073709551615
-    → min (number_behind n (passing is_ascii_digit rest)) 18446744073709551615 ≡ known
-    → min (number_behind r (passing is_ascii_digit (take (length rest - 1) (drop 1 rest)))) 18446744073709551615 ≡ known
-digit_step n m g r [] x known long is d em eg er inv = absurd (omega arith)
-digit_step n m g r (c ∷ cs) x known long is d em eg er inv =
-    let dc : is_ascii_digit c ≡ true = subst (λ y. is_ascii_digit y ≡ true) is d in
-    let now : min (number_behind (n * 10 + (c - 48)) (passing is_ascii_digit cs)) 18446744073709551615 ≡ known = rw dc at inv in
-    let whole : take (length (c ∷ cs) - 1) cs ≡ cs = take_all cs in
-    rw (whole, er, em, eg, is) (number_capped 18446744073709551615 n c (passing is_ascii_digit cs) ∙ now)
-  where
-    take_all : (cs : List ℕ) → take (suc (length cs) - 1) cs ≡ cs
-    take_all cs = let e : suc (length cs) - 1 ≡ length cs = omega arith in rw e (take-length cs)
+    → min (number_behind n (drop i ds)) 18446744073709551615 ≡ known
+    → min (number_behind r (drop (i + 1) ds)) 18446744073709551615 ≡ known
+digit_more n m g r i ds x known within is em eg er inv =
+    let cut : drop i ds ≡ x ∷ drop (suc i) ds = drop-cons ds i x within ∙ ap (λ y. y ∷ drop (suc i) ds) (sym is) in
+    let now : min (number_behind (n * 10 + (x - 48)) (drop (suc i) ds)) 18446744073709551615 ≡ known = rw cut at inv in
+    let next : i + 1 ≡ suc i = omega arith in
+    rw (next, er, em, eg) (number_capped 18446744073709551615 n x (drop (suc i) ds) ∙ now)
 
-pub behind_step : (p : ℕ → Bool) (rest : List ℕ) (x : ℕ) (known : List ℕ) → 1 ≤ length rest → x ≡ get_or rest 0 x → p x ≡ true → behind p rest ≡ known → behind p (take (length rest - 1) (drop 1 rest)) ≡ known
-behind_step p [] x known long is d inv = absurd (omega arith)
-behind_step p (c ∷ cs) x known long is d inv =
-    let dc : p c ≡ true = subst (λ y. p y ≡ true) is d in
-    let e : suc (length cs) - 1 ≡ length cs = omega arith in
-    let now : behind p cs ≡ known = rw dc at inv in
-    rw (e, take-length cs) now
-
-pub digits_stop : (n : ℕ) (rest : List ℕ) (x known : ℕ) → n ≤ 18446744073709551615 → 1 ≤ length rest → x ≡ get_or rest 0 x → is_ascii_digit x ≡ false
-    → min (number_behind n (passing is_ascii_digit rest)) 18446744073709551615 ≡ known → n ≡ known
-digits_stop n [] x known small long is d inv = absurd (omega arith)
-digits_stop n (c ∷ cs) x known small long is d inv =
-    let dc : is_ascii_digit c ≡ false = subst (λ y. is_ascii_digit y ≡ false) is d in
-    let now : min n 18446744073709551615 ≡ known = rw dc at inv in
+pub digits_end : (n i : ℕ) (ds : List ℕ) (known : ℕ) → n ≤ 18446744073709551615 → length ds ≤ i
+    → min (number_behind n (drop i ds)) 18446744073709551615 ≡ known → n ≡ known
+digits_end n i ds known small over inv =
+    let none : drop i ds ≡ [] = drop_all i ds over in
+    let now : min n 18446744073709551615 ≡ known = rw none at inv in
     omega (arith, now)
-
-pub digits_end : (n : ℕ) (rest : List ℕ) (known : ℕ) → n ≤ 18446744073709551615 → length rest < 1
-    → min (number_behind n (passing is_ascii_digit rest)) 18446744073709551615 ≡ known → n ≡ known
-digits_end n [] known small long inv = omega (arith, inv)
-digits_end n (c ∷ cs) known small long inv = absurd (omega arith)

@@ -9,10 +9,12 @@ use Rattle.std.proofs.lemmas.Bool.Decides.{Decides-eqb}
 use Rattle.fx_base.specs.declared.values.Value.TheVariants as value
 use Rattle.fx_expr.specs.declared.tokens.Token.{Token}
 use Rattle.fx_expr.specs.declared.tokens.Token.TheVariants.{Constant}
-use Rattle.fx_expr.specs.Decimal.{passing, behind, decimal, has_fraction, fraction_digits, fraction_rest}
-use Rattle.fx_expr.specs.Spelling.{Stops, fraction_text, IsNumber, IsQuoted, ended, escaped, plain, Begins}
+use Rattle.fx_text.specs.Fronts.{front, behind, stops}
+use Rattle.fx_text.proofs.FrontLemmas.{behind-stop, behind_stops, front-passes, front-stop, front_and_behind}
+use Rattle.fx_expr.specs.Decimal.{decimal, has_fraction, fraction_digits, fraction_rest}
+use Rattle.fx_expr.specs.Spelling.{fraction_text, IsNumber, IsQuoted, ended, escaped, plain, Begins}
 use Rattle.fx_expr.specs.Scanning.{number_at, with_front, character_at, end_at, on_character, quoted_at, token_at}
-use Rattle.fx_expr.proofs.DecimalLemmas.{passing_parts, passing_pass, behind_stops, passing_written, behind_written, fraction_pass}
+use Rattle.fx_expr.proofs.DecimalLemmas.{behind_more, fraction_pass, front_more}
 
 -- a token and what is behind it, and other pairs
 abbrev pub at : Token → List ℕ → Token × List ℕ
@@ -60,55 +62,59 @@ fraction_parts : (b : List ℕ) → b ≡ fraction_text (fraction_digits b) ++ f
 fraction_parts [] = refl
 fraction_parts (x ∷ []) = refl
 fraction_parts (x ∷ d ∷ ds) = (elim (eqb x 46 && is_ascii_digit d) as (λ b. (eqb x 46 && is_ascii_digit d) ≡ b
-    → (x ∷ (d ∷ ds)) ≡ fraction_text (cond b (passing is_ascii_digit (d ∷ ds)) []) ++ cond b (behind is_ascii_digit (d ∷ ds)) (x ∷ (d ∷ ds))) [
+    → (x ∷ (d ∷ ds)) ≡ fraction_text (cond b (front is_ascii_digit (d ∷ ds)) []) ++ cond b (behind is_ascii_digit (d ∷ ds)) (x ∷ (d ∷ ds))) [
       | true ↦ λ e. let both = and_parts (eqb x 46) (is_ascii_digit d) e in at_point x d ds (eq_true x 46 both.0) both.1
       | false ↦ λ e. refl
     ]) refl
   where
-    at_point : (x d : ℕ) (ds : List ℕ) → x ≡ 46 → is_ascii_digit d ≡ true → (x ∷ (d ∷ ds)) ≡ fraction_text (passing is_ascii_digit (d ∷ ds)) ++ behind is_ascii_digit (d ∷ ds)
-    at_point x d ds e i = rw (e, i) (ap (λ t. 46 ∷ (d ∷ t)) (passing_parts is_ascii_digit ds))
+    at_point : (x d : ℕ) (ds : List ℕ) → x ≡ 46 → is_ascii_digit d ≡ true → (x ∷ (d ∷ ds)) ≡ fraction_text (front is_ascii_digit (d ∷ ds)) ++ behind is_ascii_digit (d ∷ ds)
+    at_point x d ds e i =
+        ap (λ y. y ∷ (d ∷ ds)) e
+        ∙ (ap (λ t. 46 ∷ (d ∷ t)) (front_and_behind is_ascii_digit ds)
+        ∙ sym (ap (λ t. fraction_text t ++ behind is_ascii_digit (d ∷ ds)) (front_more is_ascii_digit d ds i)
+        ∙ ap (λ t. (46 ∷ (d ∷ front is_ascii_digit ds)) ++ t) (behind_more is_ascii_digit d ds i)))
 
-fraction_stops : (b : List ℕ) → Stops is_ascii_digit b → Stops is_ascii_digit (fraction_rest b)
-fraction_stops b s = (elim (has_fraction b) as (λ h. Stops is_ascii_digit (cond h (behind is_ascii_digit (drop 1 b)) b)) [ true ↦ behind_stops is_ascii_digit (drop 1 b) | false ↦ s ])
+fraction_stops : (b : List ℕ) → stops is_ascii_digit b ≡ true → stops is_ascii_digit (fraction_rest b) ≡ true
+fraction_stops b s = (elim (has_fraction b) as (λ h. stops is_ascii_digit (cond h (behind is_ascii_digit (drop 1 b)) b) ≡ true) [ true ↦ behind_stops is_ascii_digit (drop 1 b) | false ↦ s ])
 
 fraction_alone : (b : List ℕ) → fraction_digits b ≡ [] → has_fraction (fraction_rest b) ≡ false
-fraction_alone b e = (elim (has_fraction b) as (λ h. has_fraction b ≡ h → cond h (passing is_ascii_digit (drop 1 b)) [] ≡ [] → has_fraction (cond h (behind is_ascii_digit (drop 1 b)) b) ≡ false) [
+fraction_alone b e = (elim (has_fraction b) as (λ h. has_fraction b ≡ h → cond h (front is_ascii_digit (drop 1 b)) [] ≡ [] → has_fraction (cond h (behind is_ascii_digit (drop 1 b)) b) ≡ false) [
   | true ↦ λ h n. absurd (not_empty b h n)
   | false ↦ λ h n. h
 ]) refl e
   where
-    not_empty : (b : List ℕ) → has_fraction b ≡ true → passing is_ascii_digit (drop 1 b) ≡ [] → ⊥
+    not_empty : (b : List ℕ) → has_fraction b ≡ true → front is_ascii_digit (drop 1 b) ≡ [] → ⊥
     not_empty [] h n = cc
     not_empty (x ∷ []) h n = cc
-    not_empty (x ∷ d ∷ ds) h n = let i = (and_parts (eqb x 46) (is_ascii_digit d) h).1 in let no : (d ∷ passing is_ascii_digit ds) ≡ [] = rw i at n in cc
+    not_empty (x ∷ d ∷ ds) h n = let i = (and_parts (eqb x 46) (is_ascii_digit d) h).1 in let no : (d ∷ front is_ascii_digit ds) ≡ [] = sym (front_more is_ascii_digit d ds i) ∙ n in cc
 
 pub number_sound : (c : ℕ) (cs : List ℕ) → is_ascii_digit c ≡ true
-    → IsNumber (c ∷ cs) (passing is_ascii_digit (c ∷ cs)) (fraction_digits (behind is_ascii_digit (c ∷ cs))) (fraction_rest (behind is_ascii_digit (c ∷ cs)))
+    → IsNumber (c ∷ cs) (front is_ascii_digit (c ∷ cs)) (fraction_digits (behind is_ascii_digit (c ∷ cs))) (fraction_rest (behind is_ascii_digit (c ∷ cs)))
 number_sound c cs i = record {
-  parts = passing_parts is_ascii_digit (c ∷ cs) ∙ ap (λ t. passing is_ascii_digit (c ∷ cs) ++ t) (fraction_parts (behind is_ascii_digit (c ∷ cs)));
-  some = λ n. let no : (c ∷ passing is_ascii_digit cs) ≡ [] = rw i at n in cc;
-  digits = passing_pass is_ascii_digit (c ∷ cs);
+  parts = front_and_behind is_ascii_digit (c ∷ cs) ∙ ap (λ t. front is_ascii_digit (c ∷ cs) ++ t) (fraction_parts (behind is_ascii_digit (c ∷ cs)));
+  some = λ n. let no : (c ∷ front is_ascii_digit cs) ≡ [] = sym (front_more is_ascii_digit c cs i) ∙ n in cc;
+  digits = front-passes is_ascii_digit (c ∷ cs);
   places = fraction_pass (behind is_ascii_digit (c ∷ cs));
   stops = fraction_stops (behind is_ascii_digit (c ∷ cs)) (behind_stops is_ascii_digit (c ∷ cs));
   alone = fraction_alone (behind is_ascii_digit (c ∷ cs));
 }
 
-fraction_written : (fraction rest : List ℕ) → list_all is_ascii_digit fraction ≡ true → Stops is_ascii_digit rest → (fraction ≡ [] → has_fraction rest ≡ false)
+fraction_written : (fraction rest : List ℕ) → list_all is_ascii_digit fraction ≡ true → stops is_ascii_digit rest ≡ true → (fraction ≡ [] → has_fraction rest ≡ false)
     → (fraction_digits (fraction_text fraction ++ rest) ≡ fraction) × (fraction_rest (fraction_text fraction ++ rest) ≡ rest)
 fraction_written [] rest a s n = (rw (n refl) refl, rw (n refl) refl)
 fraction_written (d ∷ ds) rest a s n =
     let i = (and_parts (is_ascii_digit d) (list_all is_ascii_digit ds) a).0 in
-    let all = passing_written is_ascii_digit (d ∷ ds) rest a s in
-    let left = behind_written is_ascii_digit (d ∷ ds) rest a s in
+    let all = front-stop is_ascii_digit (d ∷ ds) rest a s in
+    let left = behind-stop is_ascii_digit (d ∷ ds) rest a s in
     (with_digit d ds rest i all, with_rest d ds rest i left)
   where
-    with_digit : (d : ℕ) (ds rest : List ℕ) → is_ascii_digit d ≡ true → passing is_ascii_digit (d ∷ (ds ++ rest)) ≡ d ∷ ds → fraction_digits (46 ∷ (d ∷ (ds ++ rest))) ≡ d ∷ ds
+    with_digit : (d : ℕ) (ds rest : List ℕ) → is_ascii_digit d ≡ true → front is_ascii_digit (d ∷ (ds ++ rest)) ≡ d ∷ ds → fraction_digits (46 ∷ (d ∷ (ds ++ rest))) ≡ d ∷ ds
     with_digit d ds rest i all = rw i (rw i at all)
 
     with_rest : (d : ℕ) (ds rest : List ℕ) → is_ascii_digit d ≡ true → behind is_ascii_digit (d ∷ (ds ++ rest)) ≡ rest → fraction_rest (46 ∷ (d ∷ (ds ++ rest))) ≡ rest
     with_rest d ds rest i left = rw i (rw i at left)
 
-fraction_no_digit : (fraction rest : List ℕ) → Stops is_ascii_digit rest → Stops is_ascii_digit (fraction_text fraction ++ rest)
+fraction_no_digit : (fraction rest : List ℕ) → stops is_ascii_digit rest ≡ true → stops is_ascii_digit (fraction_text fraction ++ rest) ≡ true
 fraction_no_digit [] rest s = s
 fraction_no_digit (d ∷ ds) rest s = refl
 
@@ -122,10 +128,10 @@ number_complete text (w ∷ ws) fraction rest n =
     let tail : List ℕ = fraction_text fraction ++ rest in
     let i = (and_parts (is_ascii_digit w) (list_all is_ascii_digit ws) n.digits).0 in
     let stop = fraction_no_digit fraction rest n.stops in
-    let whole = passing_written is_ascii_digit (w ∷ ws) (fraction_text fraction ++ rest) n.digits stop in
-    let left = behind_written is_ascii_digit (w ∷ ws) (fraction_text fraction ++ rest) n.digits stop in
+    let whole = front-stop is_ascii_digit (w ∷ ws) (fraction_text fraction ++ rest) n.digits stop in
+    let left = behind-stop is_ascii_digit (w ∷ ws) (fraction_text fraction ++ rest) n.digits stop in
     let f = fraction_written fraction rest n.places n.stops n.alone in
-    ap token_at n.parts ∙ (digit_token w (ws ++ (fraction_text fraction ++ rest)) i ∙ same_number (passing is_ascii_digit ((w ∷ ws) ++ (fraction_text fraction ++ rest))) (w ∷ ws) (behind is_ascii_digit ((w ∷ ws) ++ (fraction_text fraction ++ rest))) (fraction_text fraction ++ rest) fraction rest whole left f.0 f.1)
+    ap token_at n.parts ∙ (digit_token w (ws ++ (fraction_text fraction ++ rest)) i ∙ same_number (front is_ascii_digit ((w ∷ ws) ++ (fraction_text fraction ++ rest))) (w ∷ ws) (behind is_ascii_digit ((w ∷ ws) ++ (fraction_text fraction ++ rest))) (fraction_text fraction ++ rest) fraction rest whole left f.0 f.1)
   where
     same_number : (a whole b tail fraction rest : List ℕ) → a ≡ whole → b ≡ tail → fraction_digits tail ≡ fraction → fraction_rest tail ≡ rest
         → here (Constant (value.Int (decimal a (fraction_digits b)))) (fraction_rest b) ≡ here (Constant (value.Int (decimal whole fraction))) rest

@@ -1,21 +1,22 @@
 -- Names, signs and whole lists of tokens: what is found is what is written.
 use Rattle.std.specs.Char.{is_ascii_digit}
-use Rattle.std.proofs.Common.{◌≡◌, ◌<◌, ◌≤◌, ℕ, Bool, true, false, ◌&&◌, ◌||◌, List, [], ◌∷◌, ◌++◌, zero, suc, length, drop, refl, ap, sym, ◌∙◌, subst, arith, eqb, cond, Option, None, Some, append_assoc}
+use Rattle.std.proofs.Common.{◌≡◌, ◌<◌, ◌≤◌, ℕ, Bool, true, false, ◌&&◌, ◌||◌, List, [], ◌∷◌, ◌++◌, zero, suc, length, drop, refl, ap, sym, ◌∙◌, subst, arith, eqb, cond, Option, None, Some, append_assoc, inl, inr}
 use Rattle.std.specs.Prelude.{option_and_then}
 use Rattle.std.specs.Option.{option_map}
-use Rattle.std.specs.List.{list_all}
+use Rattle.std.specs.List.{list_all, prefix_len}
 use Rattle.std.proofs.lemmas.Bool.{and_parts, and_from}
 use Rattle.std.proofs.lemmas.Bool.Decides.{nat_tests}
-use Rattle.std.proofs.lemmas.List.{length-append}
+use Rattle.std.proofs.lemmas.List.{length-append, length-drop}
 use Rattle.fx_text.specs.Classes.{is_identifier, is_letter, is_letter_or_digit, is_white, is_quote}
 use Rattle.fx_base.specs.declared.values.Value.TheVariants as value
 use Rattle.fx_expr.specs.declared.tree.BinarySign.{BinarySign}
 use Rattle.fx_expr.specs.declared.tokens.Token.{Token}
 use Rattle.fx_expr.specs.declared.tokens.Token.TheVariants.{Constant, Binary}
-use Rattle.fx_expr.specs.Decimal.{passing, behind}
-use Rattle.fx_expr.specs.Spelling.{Stops, fraction_text, is_short, has_name, points, AreNames, word_token, double_sign, single_sign, IsSingle, Begins, number, quoted, words, double, single, IsSpelled, done, white, token}
+use Rattle.fx_text.specs.Fronts.{front, behind, stops}
+use Rattle.fx_text.proofs.FrontLemmas.{behind-stop, behind_stops, front-passes, front-stop, front_and_behind, tells}
+use Rattle.fx_expr.specs.Spelling.{fraction_text, is_short, has_name, points, AreNames, word_token, double_sign, single_sign, IsSingle, Begins, number, quoted, words, double, single, IsSpelled, done, white, token}
 use Rattle.fx_expr.specs.Scanning.{number_at, quoted_at, text_token, name_at, with_names, names_at, path_at, words_at, sign_of_one, sign_of_two, first_of_two, sign_at, token_at, after_white, with_tokens, tokens_of}
-use Rattle.fx_expr.proofs.DecimalLemmas.{passing_parts, passing_pass, behind_stops, passing_written, behind_written}
+use Rattle.fx_expr.proofs.DecimalLemmas.{behind_more, behind_none, front_more}
 use Rattle.fx_expr.proofs.GrammarLemmas.{bind_some}
 use Rattle.fx_expr.proofs.SpellingLemmas.{at, here, piece, names_of, pieces, moved, map_some, eq_true, number_sound, number_complete, same_piece, quoted_sound, quoted_complete, Closes}
 
@@ -34,21 +35,20 @@ quote_no_digit c h = grind (arith, nat_tests)
 
 -- names
 behind_short : (p : ℕ → Bool) (text : List ℕ) → length (behind p text) ≤ length text
-behind_short p [] = omega arith
-behind_short p (c ∷ cs) = (elim (p c) as (λ b. length (cond b (behind p cs) (c ∷ cs)) ≤ suc (length cs)) [ true ↦ let l = behind_short p cs in omega (arith, l) | false ↦ omega arith ])
+behind_short p text = let long = length-drop (prefix_len p text) text in omega (arith, long)
 
-letter_word : (c : ℕ) (cs : List ℕ) → is_letter c ≡ true → is_identifier (passing is_letter_or_digit (c ∷ cs)) ≡ true
-letter_word c cs h = rw (letter_or c h, h) (passing_pass is_letter_or_digit cs)
+letter_word : (c : ℕ) (cs : List ℕ) → is_letter c ≡ true → is_identifier (front is_letter_or_digit (c ∷ cs)) ≡ true
+letter_word c cs h = ap is_identifier (front_more is_letter_or_digit c cs (letter_or c h)) ∙ rw h (front-passes is_letter_or_digit cs)
 
 record Named (text name rest : List ℕ) : Type 0 where
-  pub is_name : name ≡ passing is_letter_or_digit text
+  pub is_name : name ≡ front is_letter_or_digit text
   pub is_rest : rest ≡ behind is_letter_or_digit text
   pub short : is_short name ≡ true
 
 name_sound : (text name rest : List ℕ) → name_at text ≡ piece name rest → Named text name rest
-name_sound text name rest e = (elim (is_short (passing is_letter_or_digit text)) as (λ b. is_short (passing is_letter_or_digit text) ≡ b
-    → cond b (piece (passing is_letter_or_digit text) (behind is_letter_or_digit text)) None ≡ piece name rest → Named text name rest) [
-      | true ↦ λ h i. let s = same_piece (passing is_letter_or_digit text) name (behind is_letter_or_digit text) rest i in
+name_sound text name rest e = (elim (is_short (front is_letter_or_digit text)) as (λ b. is_short (front is_letter_or_digit text) ≡ b
+    → cond b (piece (front is_letter_or_digit text) (behind is_letter_or_digit text)) None ≡ piece name rest → Named text name rest) [
+      | true ↦ λ h i. let s = same_piece (front is_letter_or_digit text) name (behind is_letter_or_digit text) rest i in
           record { is_name = sym s.0; is_rest = sym s.1; short = subst (λ n. is_short n ≡ true) s.0 h }
       | false ↦ λ h i. absurd (cc)
     ]) refl e
@@ -57,13 +57,13 @@ record Points (text : List ℕ) (names : List (List ℕ)) (rest : List ℕ) : Ty
   pub parts : text ≡ points names ++ rest
   pub names_are : list_all is_identifier names ≡ true
   pub short : list_all is_short names ≡ true
-  pub stops : Stops is_letter_or_digit rest
+  pub stops : stops is_letter_or_digit rest ≡ true
   pub alone : has_name rest ≡ false
 
 same_names : (a b : List (List ℕ)) (r s : List ℕ) → pieces a r ≡ pieces b s → (a ≡ b) × (r ≡ s)
 same_names a b r s e = let p : names_of a r ≡ names_of b s = cc in (ap (λ (u : List (List ℕ) × List ℕ). u.0) p, ap (λ (u : List (List ℕ) × List ℕ). u.1) p)
 
-no_points : (text : List ℕ) (names : List (List ℕ)) (rest : List ℕ) → pieces [] text ≡ pieces names rest → Stops is_letter_or_digit text → has_name text ≡ false → Points text names rest
+no_points : (text : List ℕ) (names : List (List ℕ)) (rest : List ℕ) → pieces [] text ≡ pieces names rest → stops is_letter_or_digit text ≡ true → has_name text ≡ false → Points text names rest
 no_points text names rest e s n =
     let same = same_names [] names text rest e in
     subst (λ r. Points text names r) same.1 (subst (λ ns. Points text ns text) same.0 (record { parts = refl; names_are = refl; short = refl; stops = s; alone = n }))
@@ -75,7 +75,7 @@ name_front (x ∷ d ∷ ds) h = let both = and_parts (eqb x 46) (is_letter d) h 
 
 one_more : (text : List ℕ) (c : ℕ) (cs name rest : List ℕ) (names : List (List ℕ)) (end : List ℕ) → text ≡ 46 ∷ (c ∷ cs) → is_letter c ≡ true → Named (c ∷ cs) name rest → Points rest names end → Points text (name ∷ names) end
 one_more text c cs name rest names end e h n p = record {
-  parts = e ∙ (ap (λ t. 46 ∷ t) (passing_parts is_letter_or_digit (c ∷ cs) ∙ (ap (λ t. t ++ behind is_letter_or_digit (c ∷ cs)) (sym n.is_name) ∙ (ap (λ t. name ++ t) (sym n.is_rest ∙ p.parts) ∙ simp append_assoc))));
+  parts = e ∙ (ap (λ t. 46 ∷ t) (front_and_behind is_letter_or_digit (c ∷ cs) ∙ (ap (λ t. t ++ behind is_letter_or_digit (c ∷ cs)) (sym n.is_name) ∙ (ap (λ t. name ++ t) (sym n.is_rest ∙ p.parts) ∙ simp append_assoc))));
   names_are = and_from (is_identifier name) (list_all is_identifier names) (subst (λ t. is_identifier t ≡ true) (sym n.is_name) (letter_word c cs h)) p.names_are;
   short = and_from (is_short name) (list_all is_short names) n.short p.short;
   stops = p.stops;
@@ -86,7 +86,7 @@ front_names : (front : List (List ℕ)) (o : Option (List (List ℕ) × List ℕ
 front_names front None names rest e = absurd (cc)
 front_names front (Some p) names rest e = let s = same_names (front ++ p.0) names p.1 rest e in (p.0, ap (λ r. pieces p.0 r) s.1, s.0)
 
-names_sound : (fuel : ℕ) (text : List ℕ) (names : List (List ℕ)) (rest : List ℕ) → length text ≤ fuel → Stops is_letter_or_digit text → names_at fuel text ≡ pieces names rest → Points text names rest
+names_sound : (fuel : ℕ) (text : List ℕ) (names : List (List ℕ)) (rest : List ℕ) → length text ≤ fuel → stops is_letter_or_digit text ≡ true → names_at fuel text ≡ pieces names rest → Points text names rest
 unfolding names_at
 names_sound zero [] names rest h s e = no_points [] names rest e s refl
 names_sound zero (c ∷ cs) names rest h s e = absurd (omega arith)
@@ -101,7 +101,7 @@ names_sound (suc fuel) text names rest h s e = (elim (has_name text) as (λ b. h
           let m = front_names (b.0.0 ∷ []) (names_at fuel b.0.1) names rest b.2 in
           let long : length text ≡ suc (suc (length f.1)) = ap (λ (t : List ℕ). length t) f.2 in
           let rest_long : length b.0.1 ≤ suc (length f.1) = rw (named.is_rest) (behind_short is_letter_or_digit (f.0 ∷ f.1)) in
-          let stop : Stops is_letter_or_digit b.0.1 = subst (λ t. Stops is_letter_or_digit t) (sym named.is_rest) (behind_stops is_letter_or_digit (f.0 ∷ f.1)) in
+          let stop : stops is_letter_or_digit b.0.1 ≡ true = subst (λ t. stops is_letter_or_digit t ≡ true) (sym named.is_rest) (behind_stops is_letter_or_digit (f.0 ∷ f.1)) in
           subst (λ ns. Points text ns rest) m.2 (one_more text f.0 f.1 b.0.0 b.0.1 m.0 rest f.2 f.3 named (names_sound fuel b.0.1 m.0 rest (omega arith) stop m.1))
     ]) refl e
 
@@ -112,11 +112,11 @@ words_sound c cs t r h e =
     let p = bind_some (name_at (c ∷ cs)) (λ n. with_names (n.0 ∷ []) (names_at (length n.1) n.1)) b.0 b.1 in
     let named = name_sound (c ∷ cs) p.0.0 p.0.1 p.1 in
     let f = front_names (p.0.0 ∷ []) (names_at (length p.0.1) p.0.1) b.0.0 b.0.1 p.2 in
-    let stop : Stops is_letter_or_digit p.0.1 = subst (λ t. Stops is_letter_or_digit t) (sym named.is_rest) (behind_stops is_letter_or_digit (c ∷ cs)) in
+    let stop : stops is_letter_or_digit p.0.1 ≡ true = subst (λ t. stops is_letter_or_digit t ≡ true) (sym named.is_rest) (behind_stops is_letter_or_digit (c ∷ cs)) in
     let more = names_sound (length p.0.1) p.0.1 f.0 b.0.1 (omega arith) stop f.1 in
     let is : word_token (p.0.0 ∷ f.0) ≡ Some m.0 = ap word_token f.2 ∙ m.1 in
     moved (c ∷ cs) m.0 t b.0.1 r (words (c ∷ cs) p.0.0 f.0 b.0.1 m.0 (record {
-      parts = passing_parts is_letter_or_digit (c ∷ cs) ∙ (ap (λ t. t ++ behind is_letter_or_digit (c ∷ cs)) (sym named.is_name) ∙ ap (λ t. p.0.0 ++ t) (sym named.is_rest ∙ more.parts));
+      parts = front_and_behind is_letter_or_digit (c ∷ cs) ∙ (ap (λ t. t ++ behind is_letter_or_digit (c ∷ cs)) (sym named.is_name) ∙ ap (λ t. p.0.0 ++ t) (sym named.is_rest ∙ more.parts));
       first_name = subst (λ t. is_identifier t ≡ true) (sym named.is_name) (letter_word c cs h);
       all_names = more.names_are;
       first_short = named.short;
@@ -130,16 +130,16 @@ identifier_front : (name : List ℕ) → is_identifier name ≡ true → (c : �
 identifier_front [] h = absurd (cc)
 identifier_front (c ∷ cs) h = let both = and_parts (is_letter c) (list_all is_letter_or_digit cs) h in (c, cs, refl, both.0, and_from (is_letter_or_digit c) (list_all is_letter_or_digit cs) (letter_or c both.0) both.1)
 
-name_written : (name tail : List ℕ) → is_identifier name ≡ true → is_short name ≡ true → Stops is_letter_or_digit tail → name_at (name ++ tail) ≡ piece name tail
+name_written : (name tail : List ℕ) → is_identifier name ≡ true → is_short name ≡ true → stops is_letter_or_digit tail ≡ true → name_at (name ++ tail) ≡ piece name tail
 name_written name tail h s stop =
     let all = (identifier_front name h).4 in
-    rw (passing_written is_letter_or_digit name tail all stop, behind_written is_letter_or_digit name tail all stop, s) refl
+    rw (front-stop is_letter_or_digit name tail all stop, behind-stop is_letter_or_digit name tail all stop, s) refl
 
-points_stop : (names : List (List ℕ)) (rest : List ℕ) → Stops is_letter_or_digit rest → Stops is_letter_or_digit (points names ++ rest)
+points_stop : (names : List (List ℕ)) (rest : List ℕ) → stops is_letter_or_digit rest ≡ true → stops is_letter_or_digit (points names ++ rest) ≡ true
 points_stop [] rest s = s
 points_stop (n ∷ names) rest s = refl
 
-names_complete : (names : List (List ℕ)) (rest : List ℕ) (fuel : ℕ) → length names ≤ fuel → list_all is_identifier names ≡ true → list_all is_short names ≡ true → Stops is_letter_or_digit rest → has_name rest ≡ false
+names_complete : (names : List (List ℕ)) (rest : List ℕ) (fuel : ℕ) → length names ≤ fuel → list_all is_identifier names ≡ true → list_all is_short names ≡ true → stops is_letter_or_digit rest ≡ true → has_name rest ≡ false
     → names_at fuel (points names ++ rest) ≡ pieces names rest
 unfolding names_at
 names_complete [] rest zero h i s stop n = refl
@@ -166,7 +166,7 @@ points_long (name ∷ names) rest =
     rw grouped (omega (arith, long, i))
 
 path_complete : (first : List ℕ) (names : List (List ℕ)) (rest : List ℕ) → is_identifier first ≡ true → list_all is_identifier names ≡ true → is_short first ≡ true → list_all is_short names ≡ true
-    → Stops is_letter_or_digit rest → has_name rest ≡ false → path_at (first ++ (points names ++ rest)) ≡ pieces (first ∷ names) rest
+    → stops is_letter_or_digit rest ≡ true → has_name rest ≡ false → path_at (first ++ (points names ++ rest)) ≡ pieces (first ∷ names) rest
 path_complete first names rest i is s ss stop n =
     let found = name_written first (points names ++ rest) i s (points_stop names rest stop) in
     rw (found, names_complete names rest (length (points names ++ rest)) (points_long names rest) is ss stop n) refl
@@ -335,10 +335,10 @@ some_list ts = Some ts
 
 after_white_spelled : (text : List ℕ) (ts : List Token) → IsSpelled (after_white text) ts → IsSpelled text ts
 after_white_spelled [] ts s = s
-after_white_spelled (c ∷ cs) ts s = (elim (is_white c) as (λ b. is_white c ≡ b → IsSpelled (cond b (after_white cs) (c ∷ cs)) ts → IsSpelled (c ∷ cs) ts) [
-  | true ↦ λ e s. white c cs ts e (after_white_spelled cs ts s)
-  | false ↦ λ e s. s
-]) refl s
+after_white_spelled (c ∷ cs) ts s = elim (tells (is_white c)) [
+  | inl w ↦ white c cs ts w (after_white_spelled cs ts (subst (λ t. IsSpelled t ts) (behind_more is_white c cs w) s))
+  | inr w ↦ subst (λ t. IsSpelled t ts) (behind_none is_white c cs w) s
+]
 
 some_same : (a b : List Token) → some_list a ≡ some_list b → a ≡ b
 some_same a b e = cc
@@ -355,10 +355,10 @@ tokens_sound (suc fuel) (c ∷ cs) ts e =
 
 stands : (text : List ℕ) (t : Token) (r : List ℕ) → token_at text ≡ here t r → after_white text ≡ text
 stands [] t r e = refl
-stands (c ∷ cs) t r e = (elim (is_white c) as (λ b. is_white c ≡ b → cond b (after_white cs) (c ∷ cs) ≡ c ∷ cs) [
-  | true ↦ λ w. absurd (let no : None ≡ here t r = sym (no_token c cs w) ∙ e in cc)
-  | false ↦ λ w. refl
-]) refl
+stands (c ∷ cs) t r e = elim (tells (is_white c)) [
+  | inl w ↦ absurd (let no : None ≡ here t r = sym (no_token c cs w) ∙ e in cc)
+  | inr w ↦ behind_none is_white c cs w
+]
 
 next_token : (fuel : ℕ) (text rest : List ℕ) (t : Token) (ts : List Token) → token_at text ≡ here t rest → length rest < length text → length text ≤ suc fuel → tokens_of fuel (after_white rest) ≡ Some ts → tokens_of (suc fuel) text ≡ Some (t ∷ ts)
 unfolding tokens_of
@@ -369,7 +369,7 @@ tokens_complete : (text : List ℕ) (ts : List Token) → IsSpelled text ts → 
 unfolding tokens_of
 tokens_complete text ts (done) zero h = refl
 tokens_complete text ts (done) (suc fuel) h = refl
-tokens_complete text ts (white c cs us w s) fuel h = rw w (tokens_complete cs us s fuel (omega arith))
+tokens_complete text ts (white c cs us w s) fuel h = ap (tokens_of fuel) (behind_more is_white c cs w) ∙ tokens_complete cs us s fuel (omega arith)
 tokens_complete text ts (token cs rest t us b s) zero h = absurd (let l = token_shorter cs t rest b in omega (arith, l))
 tokens_complete text ts (token cs rest t us b s) (suc fuel) h =
     let l = token_shorter cs t rest b in

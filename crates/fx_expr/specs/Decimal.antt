@@ -3,15 +3,7 @@ use Rattle.std.specs.Prelude.{ℕ, ℤ, pos, Bool, false, ◌+◌, ◌-◌, ◌*
 use Rattle.std.specs.Char.{is_ascii_digit}
 use Rattle.fx_text.specs.Characters.{digit_five, full_stop}
 use Rattle.fx_text.specs.Digits.{number_of_digits}
-
--- the characters from the front on that pass the test, and those behind them
-abbrev pub passing : (ℕ → Bool) → List ℕ → List ℕ
-passing p [] = []
-passing p (c ∷ cs) = if p c then c ∷ passing p cs else []
-
-abbrev pub behind : (ℕ → Bool) → List ℕ → List ℕ
-behind p [] = []
-behind p (c ∷ cs) = if p c then behind p cs else c ∷ cs
+use Rattle.fx_text.specs.Fronts.{front, behind}
 
 -- the nearest whole number to a quotient, the greater one of two
 unfoldable pub rounded : ℕ → ℕ → ℕ
@@ -30,7 +22,7 @@ has_fraction (c ∷ d ∷ ds) = c == full_stop && is_ascii_digit d
 
 -- the digits of the fraction that stands here, and what is behind it
 abbrev pub fraction_digits : List ℕ → List ℕ
-fraction_digits text = if has_fraction text then passing is_ascii_digit (drop 1 text) else []
+fraction_digits text = if has_fraction text then front is_ascii_digit (drop 1 text) else []
 
 abbrev pub fraction_rest : List ℕ → List ℕ
 fraction_rest text = if has_fraction text then behind is_ascii_digit (drop 1 text) else text

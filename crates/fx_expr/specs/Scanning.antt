@@ -4,16 +4,17 @@ use Rattle.std.specs.Prelude.{ℕ, ◌++◌, ◌==◌, length, drop, List, [], �
 use Rattle.std.specs.Option.{option_map}
 use Rattle.fx_text.specs.Characters.{backslash}
 use Rattle.fx_text.specs.Classes.{is_letter, is_letter_or_digit, is_white, is_quote}
+use Rattle.fx_text.specs.Fronts.{front, behind}
 use Rattle.fx_base.specs.declared.values.Value.TheVariants as value
 use Rattle.fx_expr.specs.declared.tokens.Token.{Token}
 use Rattle.fx_expr.specs.declared.tokens.Token.TheVariants.{Constant, Binary}
-use Rattle.fx_expr.specs.Decimal.{passing, behind, decimal, fraction_digits, fraction_rest}
+use Rattle.fx_expr.specs.Decimal.{decimal, fraction_digits, fraction_rest}
 use Rattle.fx_expr.specs.Spelling.{is_short, has_name, word_token, double_sign, single_sign}
 
 abbrev pub number_at : List ℕ → Token × List ℕ
 number_at text =
     let rest = behind is_ascii_digit text in
-    (Constant (value.Int (decimal (passing is_ascii_digit text) (fraction_digits rest))), fraction_rest rest)
+    (Constant (value.Int (decimal (front is_ascii_digit text) (fraction_digits rest))), fraction_rest rest)
 
 abbrev pub with_front : List ℕ → Option (List ℕ × List ℕ) → Option (List ℕ × List ℕ)
 with_front front read = option_map (λ p. (front ++ p.0, p.1)) read
@@ -46,8 +47,8 @@ text_token p = if is_short p.0 then Some (Constant (value.Text p.0), p.1) else N
 
 abbrev pub name_at : List ℕ → Option (List ℕ × List ℕ)
 name_at text =
-    if is_short (passing is_letter_or_digit text)
-    then Some (passing is_letter_or_digit text, behind is_letter_or_digit text) else None
+    if is_short (front is_letter_or_digit text)
+    then Some (front is_letter_or_digit text, behind is_letter_or_digit text) else None
 
 abbrev pub with_names : List (List ℕ) → Option (List (List ℕ) × List ℕ) → Option (List (List ℕ) × List ℕ)
 with_names front read = option_map (λ p. (front ++ p.0, p.1)) read

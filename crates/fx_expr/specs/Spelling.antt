@@ -6,17 +6,13 @@ use Rattle.std.specs.Str.{chars}
 use Rattle.std.specs.Cmp.Lexicographic.{pointwise}
 use Rattle.fx_text.specs.Characters as char
 use Rattle.fx_text.specs.Classes.{is_identifier, is_letter, is_letter_or_digit, is_quote, is_white}
+use Rattle.fx_text.specs.Fronts.{stops}
 use Rattle.fx_base.specs.declared.values.Value.TheVariants as value
 use Rattle.fx_expr.specs.declared.tree.BinarySign.{BinarySign}
 use Rattle.fx_expr.specs.declared.tree.BinarySign.TheVariants as binary
 use Rattle.fx_expr.specs.declared.tokens.Token.{Token}
 use Rattle.fx_expr.specs.declared.tokens.Token.TheVariants.{Constant, Path, Opening, Closing, Exclamation, Binary}
 use Rattle.fx_expr.specs.Decimal.{decimal, has_fraction}
-
--- no character that passes stands at the front
-abbrev pub Stops : (ℕ → Bool) → List ℕ → Type 0
-Stops p [] = Unit {0}
-Stops p (c ∷ cs) = p c ≡ false
 
 abbrev pub fraction_text : List ℕ → List ℕ
 fraction_text [] = []
@@ -29,7 +25,7 @@ pub record IsNumber (text whole fraction rest : List ℕ) : Type 0 where
   pub some : whole ≡ [] → ⊥
   pub digits : list_all is_ascii_digit whole ≡ true
   pub places : list_all is_ascii_digit fraction ≡ true
-  pub stops : Stops is_ascii_digit rest
+  pub stops : stops is_ascii_digit rest ≡ true
   pub alone : fraction ≡ [] → has_fraction rest ≡ false
 
 -- What is written behind a quote, up to the next one, and the text that it stands for: a backslash stands for
@@ -62,7 +58,7 @@ pub record AreNames (text : List ℕ) (first : List ℕ) (names : List (List ℕ
   pub all_names : list_all is_identifier names ≡ true
   pub first_short : is_short first ≡ true
   pub all_short : list_all is_short names ≡ true
-  pub stops : Stops is_letter_or_digit rest
+  pub stops : stops is_letter_or_digit rest ≡ true
   pub alone : has_name rest ≡ false
 
 abbrev pub is_true_word : List ℕ → Bool

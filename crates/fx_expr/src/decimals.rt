@@ -1,9 +1,11 @@
 //! Numbers: digits with an optional fraction, rounded half up.
 ghost use Rattle.std.specs.Char.{is_ascii_digit};
-ghost use Rattle.std.specs.Prelude.{◌≡◌, ◌-◌, ◌^◌, ◌+◌, min, pos, if◌then◌else◌, length, drop, ◌<◌};
+ghost use Rattle.std.specs.List.{prefix_len};
+ghost use Rattle.std.specs.Prelude.{◌≡◌, ◌-◌, ◌^◌, ◌+◌, min, pos, if◌then◌else◌, length, drop, ◌<◌, ◌≤◌};
 ghost use Rattle.fx_text.specs.Digits.{number_behind};
 ghost use Rattle.fx_base.specs.declared.values.Value.TheVariants as value;
-ghost use Rattle.fx_expr.specs.Decimal.{passing, behind, decimal, has_fraction, fraction_digits, fraction_rest, is_upper};
+ghost use Rattle.fx_text.specs.Fronts.{front, behind};
+ghost use Rattle.fx_expr.specs.Decimal.{decimal, has_fraction, fraction_digits, fraction_rest, is_upper};
 ghost use Rattle.fx_expr.specs.declared.tokens.Token.TheVariants.{Constant};
 
 use crate::tokens::Token;
@@ -12,7 +14,7 @@ use fx_base::Value;
 /// The constant whose digits stand at the front of the text, and what is behind it.
 pub fn number(text: &[char]) -> (Token, &[char])
     ensures number { result.0 ≡ Constant
-        (value.Int (decimal (passing is_ascii_digit text.now) (fraction_digits (behind is_ascii_digit text.now)))) }
+        (value.Int (decimal (front is_ascii_digit text.now) (fraction_digits (behind is_ascii_digit text.now)))) }
     ensures rest { result.1.now ≡ fraction_rest (behind is_ascii_digit text.now) }
 {
     let (whole, behind) = digits(text);
@@ -29,19 +31,22 @@ fn rounded(whole: u64, up: bool) -> i64
 
 /// The number of the digits at the front, at most the greatest of its type, and what is behind them.
 fn digits(text: &[char]) -> (u64, &[char])
-    ensures number { result.0 ≡ min (number_behind 0 (passing is_ascii_digit text.now)) (2 ^ 64 - 1) }
+    ensures number { result.0 ≡ min (number_behind 0 (front is_ascii_digit text.now)) (2 ^ 64 - 1) }
     ensures rest { result.1.now ≡ behind is_ascii_digit text.now }
 {
+    let (digits, rest) = text.split_at(digit_count(text));
+    (number_of(digits), rest)
+}
+
+/// The number of these digits, at most the greatest of its type.
+fn number_of(digits: &[char]) -> u64
+    ensures { result ≡ min (number_behind 0 digits.now) (2 ^ 64 - 1) }
+{
     let mut number: u64 = 0;
-    let mut rest = text;
-    while let [first, behind @ ..] = rest {
-        if !is_digit(*first) {
-            return (number, rest);
-        }
-        number = number.saturating_mul(10).saturating_add(digit(*first));
-        rest = behind;
+    for c in digits {
+        number = number.saturating_mul(10).saturating_add(digit(*c));
     }
-    (number, rest)
+    number
 }
 
 /// Whether the fraction that stands here rounds up, and what is behind it.
@@ -64,14 +69,16 @@ fn fraction(text: &[char]) -> (bool, &[char])
 fn after_digits(text: &[char]) -> &[char]
     ensures { result.now ≡ behind is_ascii_digit text.now }
 {
-    let mut rest = text;
-    while let [first, behind @ ..] = rest {
-        if !is_digit(*first) {
-            return rest;
-        }
-        rest = behind;
-    }
+    let (_, rest) = text.split_at(digit_count(text));
     rest
+}
+
+/// How many digits stand in front of the text?
+fn digit_count(text: &[char]) -> usize
+    ensures count { result ≡ prefix_len is_ascii_digit text.now }
+    ensures within { result ≤ length text.now }
+{
+    text.iter().take_while(|c| is_digit(**c)).count()
 }
 
 /// Is it a digit?

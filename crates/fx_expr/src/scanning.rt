@@ -1,5 +1,6 @@
 //! The tokens of a text.
 ghost use Rattle.std.specs.Prelude.{◌≡◌, ◌<◌, ◌≤◌, length, IfOk, option_and_then, ◌++◌};
+ghost use Rattle.std.specs.List.{prefix_len};
 ghost use Rattle.std.specs.Option.{option_map};
 ghost use Rattle.std.specs.Str.{chars};
 ghost use Rattle.std.specs.String.{string_bytes};
@@ -53,14 +54,16 @@ fn tokens(alloc: Global, text: &[char]) -> Result<Vec<Token>, Stop>
 fn past_white(text: &[char]) -> &[char]
     ensures { result.now ≡ spec.after_white text.now }
 {
-    let mut rest = text;
-    while let [first, behind @ ..] = rest {
-        if !is_white(*first) {
-            return rest;
-        }
-        rest = behind;
-    }
+    let (_, rest) = text.split_at(white_count(text));
     rest
+}
+
+/// How much white stands in front of the text?
+fn white_count(text: &[char]) -> usize
+    ensures count { result ≡ prefix_len is_white text.now }
+    ensures within { result ≤ length text.now }
+{
+    text.iter().take_while(|c| is_white(**c)).count()
 }
 
 fn is_white(c: char) -> bool

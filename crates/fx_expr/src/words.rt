@@ -1,10 +1,10 @@
 //! Paths of names, and the words for what is true and false.
-ghost use Rattle.std.specs.Prelude.{◌≡◌, ◌<◌, ◌≤◌, IfOk, IfSome, length, drop, Some};
+ghost use Rattle.std.specs.Prelude.{◌≡◌, ◌<◌, ◌≤◌, IfOk, IfSome, length, drop, true, Some};
 ghost use Rattle.std.specs.Option.{option_map};
-ghost use Rattle.std.specs.List.{list_any};
+ghost use Rattle.std.specs.List.{list_all, list_any, prefix_len};
 ghost use Rattle.std.specs.String.{string_bytes};
 ghost use Rattle.fx_text.specs.Classes.{is_letter, is_letter_or_digit};
-ghost use Rattle.fx_expr.specs.Decimal.{passing, behind};
+ghost use Rattle.fx_text.specs.Fronts.{front, behind};
 ghost use Rattle.fx_expr.specs.Spelling.{has_name, is_true_word, is_false_word, is_truth_word, word_token};
 ghost use Rattle.fx_expr.specs.Scanning.{name_at, names_at, with_names, path_at, words_at};
 ghost use Rattle.fx_expr.specs.Reading.{Gives};
@@ -122,19 +122,31 @@ fn name<'a>(alloc: Global, text: &'a [char]) -> Result<(Text, &'a [char]), Stop>
 }
 
 fn letters<'a>(alloc: Global, text: &'a [char]) -> Result<(String, &'a [char]), AllocError>
-    ensures letters { IfOk result (λ p. string_bytes p.0 ≡ passing is_letter_or_digit text.now) }
+    ensures letters { IfOk result (λ p. string_bytes p.0 ≡ front is_letter_or_digit text.now) }
     ensures rest { IfOk result (λ p. p.1.now ≡ behind is_letter_or_digit text.now) }
 {
-    let mut letters = String::new(alloc);
-    let mut rest = text;
-    while let [first, behind @ ..] = rest {
-        if !is_letter_or_digit(*first) {
-            return Ok((letters, rest));
-        }
-        letters.push(*first)?;
-        rest = behind;
+    let (letters, rest) = text.split_at(letter_count(text));
+    Ok((written(alloc, letters)?, rest))
+}
+
+/// How many letters and digits stand in front of the text?
+fn letter_count(text: &[char]) -> usize
+    ensures count { result ≡ prefix_len is_letter_or_digit text.now }
+    ensures within { result ≤ length text.now }
+{
+    text.iter().take_while(|c| is_letter_or_digit(**c)).count()
+}
+
+/// The text of letters and digits.
+fn written(alloc: Global, letters: &[char]) -> Result<String, AllocError>
+    requires { list_all is_letter_or_digit letters.now ≡ true }
+    ensures { IfOk result (λ text. string_bytes text ≡ letters.now) }
+{
+    let mut text = String::new(alloc);
+    for c in letters {
+        text.push(*c)?;
     }
-    Ok((letters, rest))
+    Ok(text)
 }
 
 /// Does a name begin with it?

@@ -4,7 +4,8 @@ use Rattle.std.proofs.Common.{◌∙◌, ℤ, ap, w64, SFits, rules}
 use Rattle.std.proofs.lemmas.Int.{to_z-of_z}
 use Rattle.fx_base.specs.declared.values.Value.TheVariants as value
 use Rattle.fx_expr.specs.declared.tokens.Token.TheVariants.{Constant}
-use Rattle.fx_expr.specs.Decimal.{passing, behind, fraction_digits}
+use Rattle.fx_text.specs.Fronts.{front, behind}
+use Rattle.fx_expr.specs.Decimal.{fraction_digits}
 use Rattle.fx_expr.proofs.DecimalLemmas.{decimal_is, fraction_pass}
 use Rattle.fx_expr.proofs.decimals.number.Goals as goal
 
@@ -13,5 +14,5 @@ returns-clause-number c =
     let fits : SFits w64 c.rounded.result = search rules in
     ap (λ (n : ℤ). Constant (value.Int n))
     (to_z-of_z w64 c.rounded.result fits
-    ∙ (c.rounded.ensures ∙ decimal_is (passing is_ascii_digit c.args.text.now) (fraction_digits (behind is_ascii_digit c.args.text.now)) c.fraction-up.result.0 c.digits-whole.result.0
+    ∙ (c.rounded.ensures ∙ decimal_is (front is_ascii_digit c.args.text.now) (fraction_digits (behind is_ascii_digit c.args.text.now)) c.fraction-up.result.0 c.digits-whole.result.0
     (fraction_pass (behind is_ascii_digit c.args.text.now)) (rw c.digits-whole.ensures.rest at c.fraction-up.ensures.up) c.digits-whole.ensures.number))

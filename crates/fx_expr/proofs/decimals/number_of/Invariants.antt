@@ -1,0 +1,10 @@
+-- the number so far and the digits that are left make the number
+use Rattle.std.proofs.Common.{◌≡◌, ◌≤◌, ◌-◌, ◌^◌, drop, min}
+use Rattle.fx_text.specs.Digits.{number_behind}
+use Rattle.fx_expr.proofs.decimals.number_of.Given as goal
+
+abbrev pub invariant-loop-c : goal.invariant-loop-c
+invariant-loop-c l = record {
+  number : min (number_behind l.number (drop l.c-index l.digits)) (2 ^ 64 - 1) ≡ min (number_behind 0 l.digits) (2 ^ 64 - 1);
+  fits : l.number ≤ 2 ^ 64 - 1;
+}

@@ -11,7 +11,7 @@ use Rattle.fx_css_types.specs.declared.sheets.SheetAt.{SheetAt}
 use Rattle.fx_kinds.specs.declared.facts.StyleFacts.{StyleFacts}
 use Rattle.fx_select.specs.Hits.{hit_of, hits_of, keys_of}
 use Rattle.fx_select.specs.Keys.{Key, ByClass, ById, ByKind, InRest}
-use Rattle.fx_select.specs.Listing.{Listing, listed}
+use Rattle.fx_select.specs.Listing.{Listing, bare_of, listed}
 
 pub filter_map-one : {X Y : Type 0} (h : X → Option Y) (x : X) (o : Option Y) → h x ≡ o → filter_map h (x ∷ []) ≡ option_to_list o
 filter_map-one h x None is = rw is refl
@@ -89,8 +89,11 @@ joined-hits h lists id kind classes none one two three four ids kinds rest first
 -- the hits of a node that is known with what is above it
 pub hits_of-step : (listing : Listing) (sheets : List SheetAt) (nodes : List StyleFacts) (node : StyleFacts) (above : List StyleFacts)
     → nodes ≡ node ∷ above
-    → hits_of listing sheets nodes ≡ filter_map (hit_of sheets nodes) (flat_map (listed listing) (keys_of node))
+    → hits_of listing sheets nodes
+    ≡ filter_map (hit_of sheets nodes) (flat_map (listed listing) (keys_of node)) ++ filter_map (hit_of sheets nodes) (bare_of sheets)
 unfolding hits_of
 hits_of-step listing sheets nodes node above is =
+    let named : List SelectorAt = flat_map (listed listing) (keys_of node) in
     ap (hits_of listing sheets) is
-    ∙ ap (λ (ns : List StyleFacts). filter_map (hit_of sheets ns) (flat_map (listed listing) (keys_of node))) (sym is)
+    ∙ filter_map-append (hit_of sheets (node ∷ above)) named (bare_of sheets)
+    ∙ ap (λ (ns : List StyleFacts). filter_map (hit_of sheets ns) named ++ filter_map (hit_of sheets ns) (bare_of sheets)) (sym is)

@@ -1,5 +1,5 @@
 -- Over the sheets that an index was built of, the rules that it gives are all that match.
-use Rattle.std.proofs.Common.{◌≡◌, ℕ, ◌<◌, ◌⊎◌, inl, inr, Bool, true, false, ◌&&◌, cond, eqb, List, [], ◌∷◌, ◌++◌, length, map, Option, Some, None, refl, sym, ◌∙◌, ap, subst, arith}
+use Rattle.std.proofs.Common.{◌≡◌, ℕ, ◌<◌, ◌⊎◌, inl, inr, Bool, true, false, ◌&&◌, cond, eqb, List, [], ◌∷◌, ◌++◌, length, Option, Some, None, refl, sym, ◌∙◌, ap, subst, arith}
 use Rattle.std.specs.Prelude.{slice_get, option_and_then}
 use Rattle.std.specs.Option.{option_map, option_to_list}
 use Rattle.std.specs.List.{enumerate_from, filter_map, flat_map}
@@ -11,20 +11,19 @@ use Rattle.fx_css_types.specs.declared.sheets.Candidate.{Candidate}
 use Rattle.fx_css_types.specs.declared.sheets.Rule.{Rule}
 use Rattle.fx_css_types.specs.declared.sheets.SheetAt.{SheetAt}
 use Rattle.fx_kinds.specs.declared.facts.StyleFacts.{StyleFacts}
-use Rattle.fx_kinds.specs.Classes.{name_of}
 use Rattle.fx_select.specs.declared.lists.SelectorAt.{SelectorAt}
 use Rattle.fx_select.specs.AllMatching.{matching_in, matching_of, matching_rule, rule_weights}
 use Rattle.fx_select.specs.Chains.{ParentsStandBefore, chain, upward}
 use Rattle.fx_select.specs.Hits.{bare_weight, candidate, hit_in, hit_of, hits_of, is_visible, keys_of, selector_weight, weight_at}
-use Rattle.fx_select.specs.Keys.{Key, ByClass, ByKind, InRest, is_same_key, key_of}
-use Rattle.fx_select.specs.Listing.{IsListing, Listing, each, entries, listed, rule_entries, sheet_entries, under_key}
+use Rattle.fx_select.specs.Keys.{Key, is_same_key, key_of}
+use Rattle.fx_select.specs.Listing.{IsListing, Listing, bare_at, bare_in, bare_of, each, entries, listed, selector_entries, sheet_entries, under_key}
 use Rattle.fx_select.specs.Matching.{matches_chain}
 use Rattle.fx_css_types.specs.Specificity.{specificity_of}
 use Rattle.fx_select.specs.Strongest.{RuleAt, greatest, is_of_rule, matched_of, sheet_rules, strongest, strongest_of, weights_of}
 use Rattle.fx_select.proofs.ChainLemmas.{upward-some}
 use Rattle.fx_select.proofs.HitLemmas.{filter_map-one}
 use Rattle.fx_select.proofs.KeyLemmas.{key-found}
-use Rattle.fx_select.proofs.MemberLemmas.{In, each-agree, from-filter, from-filter_map, from-map, get-in, in-each, in-filter, in-filter_map, in-flat_map, in-get, in-map, in-right}
+use Rattle.fx_select.proofs.MemberLemmas.{In, each-agree, from-filter, from-filter_map, from-map, get-in, in-each, in-filter, in-filter_map, in-flat_map, in-get, in-left, in-map, in-right}
 use Rattle.fx_select.proofs.OrderLemmas.{same-itself}
 use Rattle.fx_select.proofs.WeightLemmas.{greatest-same}
 
@@ -48,18 +47,17 @@ listed-in sheets listing is key own at among same =
     (in-map (λ (e : Key × SelectorAt). e.1) (key, at) _ (in-filter (λ (e : Key × SelectorAt). is_same_key own e.0) (key, at) (entries sheets) among same))
 
 selector-entry : (sheet rule : ℕ) (selectors : List Selector) (i : ℕ) (selector : Selector) → slice_get selectors i ≡ Some selector
-    → In (key_of selector, place sheet rule (Some i)) (rule_entries sheet rule selectors)
+    → In (key_of selector, place sheet rule (Some i)) (selector_entries sheet rule selectors)
 unfolding In place
-selector-entry sheet rule [] i selector is = cc
-selector-entry sheet rule (first ∷ more) i selector is =
-    in-each (λ (n : ℕ) (s : Selector). (key_of s, place sheet rule (Some n)) ∷ []) (first ∷ more) i selector is
+selector-entry sheet rule selectors i selector is =
+    in-each (λ (n : ℕ) (s : Selector). (key_of s, place sheet rule (Some n)) ∷ []) selectors i selector is
     (key_of selector, place sheet rule (Some i)) (inl refl)
 
 entry-in : (sheets : List SheetAt) (i j : ℕ) (s : SheetAt) (r : Rule) → slice_get sheets i ≡ Some s → slice_get s.sheet.rules j ≡ Some r
-    → (e : Key × SelectorAt) → In e (rule_entries i j r.selectors) → In e (entries sheets)
+    → (e : Key × SelectorAt) → In e (selector_entries i j r.selectors) → In e (entries sheets)
 entry-in sheets i j s r is there e among =
     in-each (λ (n : ℕ) (one : SheetAt). sheet_entries n one.sheet.rules) sheets i s is e
-    (in-each (λ (n : ℕ) (one : Rule). rule_entries i n one.selectors) s.sheet.rules j r there e among)
+    (in-each (λ (n : ℕ) (one : Rule). selector_entries i n one.selectors) s.sheet.rules j r there e among)
 
 hit-is : (sheets : List SheetAt) (nodes : List StyleFacts) (i j : ℕ) (s : SheetAt) (r : Rule) (o : Option ℕ) (w : ℕ × ℕ × ℕ)
     → slice_get sheets i ≡ Some s → slice_get s.sheet.rules j ≡ Some r → weight_at nodes i r.selectors o ≡ Some w
@@ -75,8 +73,24 @@ hit-found : (listing : Listing) (sheets : List SheetAt) (node : StyleFacts) (abo
     → In hit (hits_of listing sheets (node ∷ above))
 unfolding hits_of
 hit-found listing sheets node above own at hit has among is =
-    in-filter_map (hit_of sheets (node ∷ above)) at hit (flat_map (listed listing) (keys_of node))
-    (in-flat_map (listed listing) own at (keys_of node) has among) is
+    in-filter_map (hit_of sheets (node ∷ above)) at hit (flat_map (listed listing) (keys_of node) ++ bare_of sheets)
+    (in-left at (flat_map (listed listing) (keys_of node)) (bare_of sheets) (in-flat_map (listed listing) own at (keys_of node) has among)) is
+
+-- a rule without selector is among those that are tried
+bare-there : (sheets : List SheetAt) (i j : ℕ) (s : SheetAt) (r : Rule) → slice_get sheets i ≡ Some s → slice_get s.sheet.rules j ≡ Some r
+    → r.selectors ≡ [] → In (place i j None) (bare_of sheets)
+unfolding In place
+bare-there sheets i j s r is there are =
+    in-each (λ (n : ℕ) (one : SheetAt). bare_in n one.sheet.rules) sheets i s is (place i j None)
+    (in-each (λ (n : ℕ) (one : Rule). bare_at i n one.selectors) s.sheet.rules j r there (place i j None)
+    (subst (λ (ss : List Selector). In (place i j None) (bare_at i j ss)) (sym are) (inl refl)))
+
+bare-hit-found : (listing : Listing) (sheets : List SheetAt) (node : StyleFacts) (above : List StyleFacts) (at : SelectorAt) (hit : Candidate)
+    → In at (bare_of sheets) → hit_of sheets (node ∷ above) at ≡ Some hit → In hit (hits_of listing sheets (node ∷ above))
+unfolding hits_of
+bare-hit-found listing sheets node above at hit among is =
+    in-filter_map (hit_of sheets (node ∷ above)) at hit (flat_map (listed listing) (keys_of node) ++ bare_of sheets)
+    (in-right at (flat_map (listed listing) (keys_of node)) (bare_of sheets) among) is
 
 weight-found : (hits : List Candidate) (rule : RuleAt) (hit : Candidate) → In hit hits → is_of_rule rule hit ≡ true
     → In hit.specificity (weights_of hits rule)
@@ -105,7 +119,7 @@ weight-bare nodes sheet selectors = refl
 -- a selector that matches is found by the index
 selector-found : (sheets : List SheetAt) (listing : Listing) → IsListing sheets listing → (node : StyleFacts) (above : List StyleFacts) (i j : ℕ)
     (s : SheetAt) (r : Rule) → slice_get sheets i ≡ Some s → slice_get s.sheet.rules j ≡ Some r → (o : Option ℕ) (key own : Key) (w : ℕ × ℕ × ℕ)
-    → In (key, place i j o) (rule_entries i j r.selectors) → In own (keys_of node) → is_same_key own key ≡ true
+    → In (key, place i j o) (selector_entries i j r.selectors) → In own (keys_of node) → is_same_key own key ≡ true
     → weight_at (node ∷ above) i r.selectors o ≡ Some w
     → In w (weights_of (hits_of listing sheets (node ∷ above)) (record { sheet = i; rule = j; origin = s.origin }))
 selector-found sheets listing listing_is node above i j s r is there o key own w entry has same weighed =
@@ -115,9 +129,17 @@ selector-found sheets listing listing_is node above i j s r is there o key own w
     (hit-is sheets (node ∷ above) i j s r o w is there weighed))
     (same-itself i j)
 
-rest-has : (node : StyleFacts) → In InRest (keys_of node)
-unfolding In
-rest-has node = inr (in-right InRest (map ByClass node.classes) (ByKind (name_of node.class) ∷ InRest ∷ []) (inr (inl refl)))
+-- and so is a rule without selector
+bare-found : (sheets : List SheetAt) (listing : Listing) (node : StyleFacts) (above : List StyleFacts) (i j : ℕ)
+    (s : SheetAt) (r : Rule) → slice_get sheets i ≡ Some s → slice_get s.sheet.rules j ≡ Some r → r.selectors ≡ [] → (w : ℕ × ℕ × ℕ)
+    → weight_at (node ∷ above) i r.selectors None ≡ Some w
+    → In w (weights_of (hits_of listing sheets (node ∷ above)) (record { sheet = i; rule = j; origin = s.origin }))
+bare-found sheets listing node above i j s r is there are w weighed =
+    weight-found (hits_of listing sheets (node ∷ above)) (record { sheet = i; rule = j; origin = s.origin }) (candidate i j s.origin w)
+    (bare-hit-found listing sheets node above (place i j None) (candidate i j s.origin w)
+    (bare-there sheets i j s r is there are)
+    (hit-is sheets (node ∷ above) i j s r None w is there weighed))
+    (same-itself i j)
 
 all-found : (sheets : List SheetAt) (listing : Listing) → IsListing sheets listing → (node : StyleFacts) (above : List StyleFacts) (i j : ℕ)
     (s : SheetAt) (r : Rule) → slice_get sheets i ≡ Some s → slice_get s.sheet.rules j ≡ Some r → (selectors : List Selector) → r.selectors ≡ selectors
@@ -128,9 +150,7 @@ all-found sheets listing listing_is node above i j s r is there [] are w among =
   | inl none ↦ absurd (subst (λ (o : Option (ℕ × ℕ × ℕ)). In w (option_to_list o)) none among)
   | inr (v, some) ↦ elim (subst (λ (o : Option (ℕ × ℕ × ℕ)). In w (option_to_list o)) some among) [
     | inl same ↦
-        selector-found sheets listing listing_is node above i j s r is there None InRest InRest w
-        (subst (λ (ss : List Selector). In (InRest, place i j None) (rule_entries i j ss)) (sym are) (inl refl))
-        (rest-has node) refl
+        bare-found sheets listing node above i j s r is there are w
         (weight-bare (node ∷ above) i r.selectors ∙ ap (bare_weight (node ∷ above) i) are ∙ some ∙ ap (λ (x : ℕ × ℕ × ℕ). Some x) (sym same))
     | inr none ↦ absurd none
   ]
@@ -229,7 +249,7 @@ filter_map-flat f g [] = refl
 filter_map-flat {X} {A} {B} f g (x ∷ xs) =
     filter_map-append f (g x) (flat_map g xs) ∙ ap (λ (l : List B). filter_map f (g x) ++ l) (filter_map-flat f g xs)
 
-filter_map-each : {X A B : Type 0} (f : A → Option B) (give : ℕ → X → List A) (xs : List X)
+pub filter_map-each : {X A B : Type 0} (f : A → Option B) (give : ℕ → X → List A) (xs : List X)
     → filter_map f (each give xs) ≡ each (λ (n : ℕ) (x : X). filter_map f (give n x)) xs
 unfolding each
 filter_map-each {X} f give xs = filter_map-flat f (λ (e : ℕ × X). give e.0 e.1) (enumerate_from 0 xs)

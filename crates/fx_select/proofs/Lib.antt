@@ -1,3 +1,4 @@
+pub mod BareLemmas
 pub mod ChainLemmas
 pub mod ClimbLemmas
 pub mod HitLemmas
@@ -10,6 +11,7 @@ pub mod MergedLemmas
 pub mod NamedLemmas
 pub mod NotedLemmas
 pub mod OrderLemmas
+pub mod OwnLemmas
 pub mod RuleLemmas
 pub mod StrongestLemmas
 pub mod WeightLemmas

@@ -11,7 +11,7 @@ use Rattle.fx_kinds.specs.declared.facts.StyleFacts.{StyleFacts}
 use Rattle.fx_kinds.specs.Classes.{name_of}
 use Rattle.fx_select.specs.declared.lists.SelectorAt.{SelectorAt}
 use Rattle.fx_select.specs.Keys.{Key, ById, ByClass, ByKind, InRest}
-use Rattle.fx_select.specs.Listing.{Listing, listed}
+use Rattle.fx_select.specs.Listing.{Listing, bare_of, each, listed}
 use Rattle.fx_select.specs.Matching.{matches_chain}
 use Rattle.fx_css_types.specs.Specificity.{specificity_of}
 
@@ -67,8 +67,25 @@ hit_of sheets nodes at = option_and_then (hit_in nodes at) (slice_get sheets at.
 abbrev pub keys_of : StyleFacts → List Key
 keys_of node = ById node.id ∷ (map ByClass node.classes ++ ByKind (name_of node.class) ∷ InRest ∷ [])
 
--- the selectors that are listed for the first node and match it
+-- the selectors that are listed for the first node, and the rules without selector, that match it
 unfoldable pub hits_of : Listing → List SheetAt → List StyleFacts → List Candidate
 hits_of listing sheets [] = []
 hits_of listing sheets (node ∷ above) =
-    filter_map (hit_of sheets (node ∷ above)) (flat_map (listed listing) (keys_of node))
+    filter_map (hit_of sheets (node ∷ above)) (flat_map (listed listing) (keys_of node) ++ bare_of sheets)
+
+-- a rule of the node's own inline sheet, which matches it if it has no selector
+abbrev pub own_hit : ℕ → SheetOrigin → ℕ → List Selector → List Candidate
+own_hit sheet origin rule [] = candidate sheet rule origin (0, 0, 0) ∷ []
+own_hit sheet origin rule (first ∷ more) = []
+
+abbrev pub own_hits_in : ℕ → SheetOrigin → List Rule → List Candidate
+own_hits_in sheet origin rules = each (λ (place : ℕ) (r : Rule). own_hit sheet origin place r.selectors) rules
+
+abbrev pub own_hits_at : ℕ → Option SheetAt → List Candidate
+own_hits_at own None = []
+own_hits_at own (Some s) = own_hits_in own s.origin s.sheet.rules
+
+-- what the inline sheet of a node gives it, found by its place
+abbrev pub own_hits : Option ℕ → List SheetAt → List Candidate
+own_hits None sheets = []
+own_hits (Some own) sheets = own_hits_at own (slice_get sheets own)

@@ -1,5 +1,5 @@
 -- What an index of rules lists, and what it lists of a list of sheets.
-use Rattle.std.specs.Prelude.{ℕ, ◌≡◌, List, [], ◌∷◌, ◌++◌, map, filter, Some, None, if◌then◌else◌}
+use Rattle.std.specs.Prelude.{ℕ, ◌≡◌, List, [], ◌∷◌, ◌++◌, map, filter, Some, None, All, if◌then◌else◌}
 use Rattle.std.specs.List.{flat_map, enumerate_from}
 use Rattle.fx_css_types.specs.declared.selectors.Selector.{Selector}
 use Rattle.fx_css_types.specs.declared.sheets.Rule.{Rule}
@@ -35,17 +35,28 @@ selector_entries sheet rule selectors =
     each (λ (place : ℕ) (s : Selector). (key_of s, record { sheet = sheet; rule = rule; selector = Some place }) ∷ [])
     selectors
 
--- a rule without selector stands in the rest
-abbrev pub rule_entries : ℕ → ℕ → List Selector → List (Key × SelectorAt)
-rule_entries sheet rule [] = (InRest, record { sheet = sheet; rule = rule; selector = None }) ∷ []
-rule_entries sheet rule (first ∷ more) = selector_entries sheet rule (first ∷ more)
-
 abbrev pub sheet_entries : ℕ → List Rule → List (Key × SelectorAt)
-sheet_entries sheet rules = each (λ (place : ℕ) (r : Rule). rule_entries sheet place r.selectors) rules
+sheet_entries sheet rules = each (λ (place : ℕ) (r : Rule). selector_entries sheet place r.selectors) rules
 
 -- each selector of these sheets once, under its key
 abbrev pub entries : List SheetAt → List (Key × SelectorAt)
 entries sheets = each (λ (place : ℕ) (s : SheetAt). sheet_entries place s.sheet.rules) sheets
+
+-- a rule without selector, which is listed under no key
+abbrev pub bare_at : ℕ → ℕ → List Selector → List SelectorAt
+bare_at sheet rule [] = (record { sheet = sheet; rule = rule; selector = None }) ∷ []
+bare_at sheet rule (first ∷ more) = []
+
+abbrev pub bare_in : ℕ → List Rule → List SelectorAt
+bare_in sheet rules = each (λ (place : ℕ) (r : Rule). bare_at sheet place r.selectors) rules
+
+-- the rules without selector of these sheets
+abbrev pub bare_of : List SheetAt → List SelectorAt
+bare_of sheets = each (λ (place : ℕ) (s : SheetAt). bare_in place s.sheet.rules) sheets
+
+-- a sheet of rules without selectors, as an inline style is read
+abbrev pub IsBare : SheetAt → Type 0
+IsBare s = All (λ (r : Rule). r.selectors ≡ []) s.sheet.rules
 
 -- those of a key, in their order
 unfoldable pub under_key : Key → List (Key × SelectorAt) → List SelectorAt

@@ -57,6 +57,6 @@ strongest hits rule = option_map (candidate rule.sheet rule.rule rule.origin) (g
 abbrev pub strongest_of : List Candidate → List SheetAt → List Candidate
 strongest_of hits sheets = filter_map (strongest hits) (rules_of sheets)
 
--- the rules that have a selector listed for the node that matches it
+-- the rules that have a selector listed for the node that matches it, and those of its inline sheet without selector
 abbrev pub matched_of : Listing → List SheetAt → List StyleFacts → ℕ → List Candidate
 matched_of listing sheets facts at = strongest_of (hits_of listing sheets (chain facts at)) sheets

@@ -2,16 +2,16 @@
 //! The index collects them and gives each of their rules once.
 ghost use Rattle.std.specs.Prelude.{◌≡◌, ◌++◌, ◌<◌, ◌≤◌, ◌==◌, length, OnOk, All};
 ghost use Rattle.std.specs.List.{filter_map, list_any};
-ghost use Rattle.std.specs.Option.{option_to_list};
+ghost use Rattle.std.specs.Option.{option_copied, option_to_list};
 ghost use Rattle.fx_select.specs.Chains.{ParentsStandBefore, chain};
-ghost use Rattle.fx_select.specs.Hits.{bare_weight, hit_in, hit_of, is_inline, is_own, is_visible, lists_sheet, selector_weight, weight_at};
+ghost use Rattle.fx_select.specs.Hits.{bare_weight, hit_in, hit_of, is_inline, is_own, is_visible, lists_sheet, own_hit, own_hits, own_hits_at, own_hits_in, selector_weight, weight_at};
 ghost use Rattle.fx_css_types.specs.Limits.{AreShort, AreShortRules, AreShortSelectors};
 ghost use Rattle.fx_css_types.specs.Specificity.{part_count};
 
 use crate::lists::SelectorAt;
 use crate::matching::{matches, node_at};
 use crate::weights::specificity;
-use fx_css_types::{Candidate, Selector, SheetAt};
+use fx_css_types::{Candidate, Rule, Selector, SheetAt, SheetOrigin};
 use fx_kinds::StyleFacts;
 use std::alloc::AllocError;
 
@@ -44,6 +44,70 @@ fn push_hit(hits: &mut Vec<Candidate>, hit: Option<Candidate>) -> Result<(), All
             Ok(())
         }
         None => Ok(()),
+    }
+}
+
+/// Puts the rules without selector of the node's inline sheet behind the hits.
+pub fn push_own_hits(
+    hits: &mut Vec<Candidate>,
+    inline: Option<usize>,
+    sheets: &[SheetAt],
+) -> Result<(), AllocError>
+    ensures { OnOk result (hits.new.items ≡ hits.old.items ++ own_hits inline sheets.now) }
+{
+    match inline {
+        Some(own) => push_sheet_hits(hits, own, sheets.get(own)),
+        None => Ok(()),
+    }
+}
+
+fn push_sheet_hits(
+    hits: &mut Vec<Candidate>,
+    own: usize,
+    sheet: Option<&SheetAt>,
+) -> Result<(), AllocError>
+    ensures { OnOk result (hits.new.items ≡ hits.old.items ++ own_hits_at own (option_copied sheet.entry)) }
+{
+    match sheet {
+        Some(sheet) => push_rule_hits(hits, own, sheet.origin, sheet.sheet.rules.as_slice()),
+        None => Ok(()),
+    }
+}
+
+fn push_rule_hits(
+    hits: &mut Vec<Candidate>,
+    own: usize,
+    origin: SheetOrigin,
+    rules: &[Rule],
+) -> Result<(), AllocError>
+    ensures { OnOk result (hits.new.items ≡ hits.old.items ++ own_hits_in own origin rules.now) }
+{
+    for (place, rule) in rules.iter().enumerate() {
+        push_rule_hit(hits, own, origin, place, rule.selectors.as_slice())?;
+    }
+    Ok(())
+}
+
+fn push_rule_hit(
+    hits: &mut Vec<Candidate>,
+    own: usize,
+    origin: SheetOrigin,
+    rule: usize,
+    selectors: &[Selector],
+) -> Result<(), AllocError>
+    ensures { OnOk result (hits.new.items ≡ hits.old.items ++ own_hit own origin rule selectors.now) }
+{
+    match selectors {
+        [] => {
+            hits.push(Candidate {
+                sheet: own,
+                rule,
+                specificity: (0, 0, 0),
+                origin,
+            })?;
+            Ok(())
+        }
+        [_, ..] => Ok(()),
     }
 }
 

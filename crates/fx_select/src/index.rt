@@ -1,6 +1,6 @@
 //! The rules of a list of sheets by what a node must have to be matched (an id, a class, a type).
 //! Styling asks it for the rules that match a node.
-ghost use Rattle.std.specs.Prelude.{◌≡◌, ◌++◌, ◌<◌, ℕ, List, length, map, OnOk, IfOk, []};
+ghost use Rattle.std.specs.Prelude.{◌≡◌, ◌++◌, ◌∷◌, ◌<◌, ℕ, List, length, map, OnOk, IfOk, []};
 ghost use Rattle.std.specs.List.{filter_map, flat_map};
 ghost use Rattle.fx_kinds.specs.declared.facts.StyleFacts.{StyleFacts as StyleFactsValue};
 ghost use Rattle.fx_css_types.specs.declared.sheets.SheetAt.{SheetAt as SheetValue};
@@ -10,9 +10,9 @@ ghost use Rattle.fx_select.specs.Keys.{ByClass, Key, InRest, key_of, key_of_comp
 ghost use Rattle.fx_css_types.specs.Limits.{AreShort};
 ghost use Rattle.fx_select.specs.Strongest.{matched_of};
 ghost use Rattle.fx_select.specs.AllMatching.{matching_of};
-ghost use Rattle.fx_select.specs.Listing.{IsListing, Listing, listed, rule_entries, selector_entries, sheet_entries, under_key, with_added};
+ghost use Rattle.fx_select.specs.Listing.{IsBare, IsListing, Listing, listed, selector_entries, sheet_entries, under_key, with_added};
 
-use crate::hits::push_hits;
+use crate::hits::{push_hits, push_own_hits};
 use crate::lists::{NamedLists, SelectorAt};
 use crate::matching::node_at;
 use crate::strongest::{sort_hits, strongest};
@@ -23,7 +23,8 @@ use std::alloc::{AllocError, Global};
 use std::marker::Model;
 
 /// The selectors of a list of sheets, each listed once: under the first id of its last compound, else under its first
-/// class, else under its type, else in the rest. A rule without selector stands in the rest.
+/// class, else under its type, else in the rest. A rule without selector is listed nowhere: it matches the node that
+/// names its sheet as its inline sheet, and is found there.
 #[derive(Drop)]
 pub struct RuleIndex {
     ids: NamedLists,
@@ -48,10 +49,18 @@ pub fn all_matched()
         → matched_of listing sheets facts at ≡ matching_of sheets facts at }
 {}
 
+/// An index stays one of the sheets where some inline style is another: what it lists doesn't depend on sheets of rules
+/// without selectors, as `fx_css::read_inline` reads them.
+pub fn inline_styles_change_no_index()
+    ensures { (before after : List SheetValue) (old new : SheetValue) (listing : Listing) → IsBare old → IsBare new
+        → IsListing (before ++ old ∷ after) listing → IsListing (before ++ new ∷ after) listing }
+{}
+
 impl RuleIndex {
     /// The rules that match the node at this place, in order of sheet and rule, each once with the greatest specificity
-    /// of its selectors that match. `sheets` are those that the index was built of. Sheets within their limits are
-    /// short (`fx_css_types::sheets_within_limits_are_short`).
+    /// of its selectors that match. `sheets` are those that the index was built of, or differ from them in inline
+    /// styles (`inline_styles_change_no_index`). Sheets within their limits are short
+    /// (`fx_css_types::sheets_within_limits_are_short`).
     pub fn matched(
         &self,
         alloc: Global,
@@ -99,6 +108,7 @@ impl RuleIndex {
             at,
         )?;
         push_hits(&mut hits, self.rest.as_slice(), sheets, facts, at)?;
+        push_own_hits(&mut hits, node.inline, sheets)?;
         Ok(hits)
     }
 
@@ -152,29 +162,9 @@ impl RuleIndex {
             ≡ listed self.old key ++ under_key key (sheet_entries sheet rules.now)) }
     {
         for (place, rule) in rules.iter().enumerate() {
-            self.list_rule(alloc, sheet, place, rule.selectors.as_slice())?;
+            self.list_selectors(alloc, sheet, place, rule.selectors.as_slice())?;
         }
         Ok(())
-    }
-
-    fn list_rule(
-        &mut self,
-        alloc: Global,
-        sheet: usize,
-        rule: usize,
-        selectors: &[Selector],
-    ) -> Result<(), AllocError>
-        ensures { OnOk result ((key : Key) → listed self.new key
-            ≡ listed self.old key ++ under_key key (rule_entries sheet rule selectors.now)) }
-    {
-        if selectors.is_empty() {
-            return self.list_rest(SelectorAt {
-                sheet,
-                rule,
-                selector: None,
-            });
-        }
-        self.list_selectors(alloc, sheet, rule, selectors)
     }
 
     fn list_selectors(

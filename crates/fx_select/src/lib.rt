@@ -9,7 +9,7 @@ mod matching;
 mod strongest;
 mod weights;
 
-pub use index::{RuleIndex, all_matched};
+pub use index::{RuleIndex, all_matched, inline_styles_change_no_index};
 pub use lists::SelectorAt;
 pub use matching::matches;
 pub use weights::specificity;

@@ -1,13 +1,16 @@
-use Rattle.std.proofs.Common.{◌++◌, ℕ, List, map, sym, ◌∙◌, ap}
+use Rattle.std.proofs.Common.{◌≡◌, ◌∷◌, ◌++◌, ℕ, List, map, sym, ◌∙◌, ap}
 use Rattle.std.specs.List.{filter_map, flat_map}
 use Rattle.fx_kinds.specs.Classes.{name_of}
+use Rattle.fx_css_types.specs.declared.sheets.Candidate.{Candidate}
+use Rattle.fx_select.specs.declared.lists.SelectorAt.{SelectorAt}
 use Rattle.fx_select.specs.Chains.{chain, upward}
-use Rattle.fx_select.specs.Hits.{hit_of}
+use Rattle.fx_select.specs.Hits.{hit_of, keys_of, own_hits}
 use Rattle.fx_select.specs.Keys.{ByClass, ById, ByKind}
 use Rattle.fx_select.specs.Listing.{Listing, listed}
 use Rattle.fx_select.specs.Named.{under}
 use Rattle.fx_select.proofs.ChainLemmas.{upward-some}
 use Rattle.fx_select.proofs.HitLemmas.{hits_of-step, joined-hits}
+use Rattle.fx_select.proofs.OwnLemmas.{own-hits}
 use Rattle.fx_select.proofs.index.RuleIndex.hits.Goals as goal
 
 pub returns : goal.returns
@@ -16,7 +19,12 @@ returns c =
     let node = c.node_at-node.result.now in
     let inside = c.self.inside in
     let listing = c.args.self.now in
-    joined-hits (hit_of c.args.sheets.now (chain facts c.args.at)) (listed listing) node.id (name_of node.class) node.classes
+    let h = hit_of c.args.sheets.now (chain facts c.args.at) in
+    let step : chain facts c.args.at ≡ node ∷ upward facts node.parent = upward-some facts c.requires.before c.args.at node c.node_at-node.ensures in
+    let named : List SelectorAt = flat_map (listed listing) (keys_of node) in
+    c.in_ok-push_own_hits.ensures
+    ∙ ap (λ (l : List Candidate). l ++ own_hits node.inline c.args.sheets.now)
+    (joined-hits (hit_of c.args.sheets.now (chain facts c.args.at)) (listed listing) node.id (name_of node.class) node.classes
     c.new-hits.result.items c.push_hits.new.hits.items c.push_class_hits.new.hits.items c.push_hits-2.new.hits.items c.push_hits-3.new.hits.items
     c.under.result.now c.under-2.result.now c.as_slice-2.result.now
     c.new-hits.ensures.items
@@ -28,6 +36,6 @@ returns c =
     c.in_ok-push_hits-3.ensures
     (c.under.ensures ∙ ap (under inside.ids) c.as_str.ensures.text ∙ ap (λ (l : Listing). listed l (ById node.id)) c.self.view_is)
     (c.under-2.ensures ∙ ap (under inside.kinds) c.name_of.ensures ∙ ap (λ (l : Listing). listed l (ByKind (name_of node.class))) c.self.view_is)
-    (c.as_slice-2.ensures.value ∙ ap (λ (l : Listing). l.rest) c.self.view_is)
-    ∙ sym (hits_of-step listing c.args.sheets.now (chain facts c.args.at) node (upward facts node.parent)
-    (upward-some facts c.requires.before c.args.at node c.node_at-node.ensures))
+    (c.as_slice-2.ensures.value ∙ ap (λ (l : Listing). l.rest) c.self.view_is))
+    ∙ ap (λ (l : List Candidate). filter_map h named ++ l) (sym (own-hits c.args.sheets.now (chain facts c.args.at) node (upward facts node.parent) step))
+    ∙ sym (hits_of-step listing c.args.sheets.now (chain facts c.args.at) node (upward facts node.parent) step)

@@ -9,7 +9,7 @@ ghost use Rattle.fx_css_types.specs.Limits.{AreShort, AreShortRules, AreShortSel
 ghost use Rattle.fx_css_types.specs.Specificity.{part_count};
 
 use crate::lists::SelectorAt;
-use crate::matching::{matches, node_at};
+use crate::matching::{is_match, node_at};
 use crate::weights::specificity;
 use fx_css_types::{Candidate, Rule, Selector, SheetAt, SheetOrigin};
 use fx_kinds::StyleFacts;
@@ -176,7 +176,7 @@ fn selector_weight(
     requires short { part_count selector.now ≤ 4194304 }
     ensures { result ≡ selector_weight (chain facts.now at) sheet selector.now }
 {
-    if matches(selector, facts, at) && is_visible(sheet, facts, at) {
+    if is_match(selector, facts, at) && is_visible(sheet, facts, at) {
         Some(specificity(selector))
     } else {
         None

@@ -1,6 +1,6 @@
 //! Matching a selector (Selectors Level 3), from the last compound upwards.
 //! The index asks it of its candidates.
-ghost use Rattle.std.specs.Prelude.{◌≡◌, ◌<◌, length, reverse, slice_get, Some};
+ghost use Rattle.std.specs.Prelude.{◌≡◌, ◌<◌, ◌≤◌, length, reverse, slice_get, Some};
 ghost use Rattle.std.specs.List.{list_all};
 ghost use Rattle.std.specs.Str.{bytes_eq};
 ghost use Rattle.std.specs.Option.{ForSome};
@@ -11,8 +11,18 @@ use fx_base::Text;
 use fx_css_types::{Combinator, Compound, Selector};
 use fx_kinds::{Class, StyleFacts, name_of};
 
-/// Does the selector match the node at this place? A selector without compounds matches nothing.
+/// Does the selector match the node at this place? A selector without compounds matches nothing. With each ancestor that
+/// is tried for a combinator the walk goes one call deeper, so the nodes are as few as a scene may have.
 pub fn matches(selector: &Selector, facts: &[StyleFacts], at: usize) -> bool
+    requires few { length facts.now ≤ 4096 }
+    requires before { ParentsStandBefore facts.now }
+    requires there { at < length facts.now }
+    ensures { result ≡ matches_chain selector.now (chain facts.now at) }
+{
+    is_match(selector, facts, at)
+}
+
+pub fn is_match(selector: &Selector, facts: &[StyleFacts], at: usize) -> bool
     requires before { ParentsStandBefore facts.now }
     requires there { at < length facts.now }
     ensures { result ≡ matches_chain selector.now (chain facts.now at) }

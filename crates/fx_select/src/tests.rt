@@ -1,6 +1,6 @@
 //! Selectors against trees of nodes. What is expected comes from the reference player, but for the specificities of the
 //! tree of six nodes, which are counted by hand.
-ghost use Rattle.std.specs.Prelude.{IsTrue, ◌≤◌};
+ghost use Rattle.std.specs.Prelude.{IsTrue, ◌≤◌, length};
 ghost use Rattle.fx_select.specs.Chains.{ParentsStandBefore};
 ghost use Rattle.fx_css_types.specs.Limits.{AreShort, AreShortRules, AreShortSelectors};
 ghost use Rattle.fx_css_types.specs.Specificity.{part_count};
@@ -264,7 +264,8 @@ fn stand_before(facts: &[StyleFacts]) -> bool
 }
 
 fn assert_matches(rt: &impl Abort, selector: &Selector, facts: &[StyleFacts], expected: &str)
-    requires { ParentsStandBefore facts.now }
+    requires few { length facts.now ≤ 4096 }
+    requires before { ParentsStandBefore facts.now }
 {
     for (at, wanted) in expected.bytes().enumerate() {
         assert!(rt; at < facts.len());
@@ -282,7 +283,8 @@ fn assert_selectors(
     facts: &[StyleFacts],
     lines: &str,
 ) -> Result<(), Fail>
-    requires { ParentsStandBefore facts.now }
+    requires few { length facts.now ≤ 4096 }
+    requires before { ParentsStandBefore facts.now }
 {
     for line in lines.lines() {
         let (text, expected) = line.split_once(';').ok_or("nothing expected")?;
@@ -320,6 +322,7 @@ fn matches_as_the_reference(rt: HostRuntime) -> Result<(), Fail> {
     let facts = nodes(alloc, NODES)?;
     let facts = facts.as_slice();
     assert!(rt; stand_before(facts));
+    assert!(rt; facts.len() <= 4096);
     assert_selectors(&rt, alloc, facts, SELECTORS)
 }
 
@@ -352,6 +355,7 @@ fn assert_tree(rt: &impl Abort, alloc: Global, tree: &str) -> Result<(), Fail> {
     let facts = nodes(alloc, node_lines)?;
     let facts = facts.as_slice();
     assert!(rt; stand_before(facts));
+    assert!(rt; facts.len() <= 4096);
     assert_selectors(rt, alloc, facts, selector_lines)?;
     let sheets = sheets(alloc, sheet_lines)?;
     let sheets = sheets.as_slice();

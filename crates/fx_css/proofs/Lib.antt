@@ -1,5 +1,4 @@
 pub mod NumberedLemmas
-pub mod Finds
 pub mod Ends
 pub mod Blocks
 pub mod Bodies

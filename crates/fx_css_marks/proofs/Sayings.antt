@@ -5,6 +5,7 @@ use Rattle.std.proofs.lemmas.List.{map-append, length-map}
 use Rattle.std.specs.Bool.{if◌then◌else◌}
 use Rattle.std.specs.List.{list_any}
 use lib.Dec.{eqb}
+use Rattle.std.specs.List.{position_or_len}
 use Rattle.fx_base.specs.declared.positions.Position.{Position}
 use Rattle.fx_css_marks.specs.declared.marks.Mark.{Mark}
 use Rattle.fx_css_marks.specs.declared.saying.Said.{Said}
@@ -14,7 +15,7 @@ use Rattle.fx_css_marks.specs.Bytes.{begins_with, has_beginning}
 use Rattle.fx_css_marks.specs.Marks.{mark, space, quoted, Marked, sign, bytes, signs}
 use Rattle.fx_css_marks.specs.Scanning.{scanned}
 use Rattle.fx_css_marks.specs.Scanning as v
-use Rattle.fx_css_marks.specs.Lengths.{run_length, is_stop, quoted_length, comment_rest, is_bare}
+use Rattle.fx_css_marks.specs.Lengths.{is_stop, quoted_length, comment_rest, is_bare}
 use Rattle.fx_css_marks.specs.Saying.{Says, Took}
 use Rattle.fx_css_marks.proofs.Comments.{or_left, or_right}
 use Rattle.fx_css_marks.proofs.Scans.{plain_alone, quote_opens, marks_scanned, only_scanned}
@@ -55,9 +56,9 @@ says_more text left far b s c t x y = record {
 pub says_empty : (said : Said) (text : List ℕ) → said.bytes.items ≡ [] → said.signs.items ≡ [] → Says text text said.bytes.items said.signs.items
 says_empty said text e f = subst (λ y. Says text text y said.signs.items) (sym e) (subst (λ y. Says text text [] y) (sym f) (says_none text))
 
-run_says : (text : List ℕ) → Says text (drop (run_length is_stop text) text) (take (run_length is_stop text) text) (take (run_length is_stop text) text)
+run_says : (text : List ℕ) → Says text (drop (position_or_len is_stop text) text) (take (position_or_len is_stop text) text) (take (position_or_len is_stop text) text)
 run_says text =
-    let run : List ℕ = take (run_length is_stop text) text in
+    let run : List ℕ = take (position_or_len is_stop text) text in
     record {
       behind = λ p. after_bytes p run;
       front = λ p. bare p run;
@@ -105,13 +106,13 @@ took old new text left b s says e f = record {
       (subst (λ y. Says whole left (old.bytes.items ++ b) y) (sym f) (says_more whole text left old.bytes.items old.signs.items b s before says));
 }
 
-pub took_run : (old new : Said) (text run left : List ℕ) (n : ℕ) → n ≡ run_length is_stop text → run ≡ take n text → left ≡ drop n text
+pub took_run : (old new : Said) (text run left : List ℕ) (n : ℕ) → n ≡ position_or_len is_stop text → run ≡ take n text → left ≡ drop n text
     → new.bytes.items ≡ old.bytes.items ++ run → new.signs.items ≡ old.signs.items ++ run → Took old new text left
 took_run old new text run left n count front back e f =
-    let r : run ≡ take (run_length is_stop text) text = front ∙ ap (λ k. take k text) count in
-    let l : left ≡ drop (run_length is_stop text) text = back ∙ ap (λ k. drop k text) count in
+    let r : run ≡ take (position_or_len is_stop text) text = front ∙ ap (λ k. take k text) count in
+    let l : left ≡ drop (position_or_len is_stop text) text = back ∙ ap (λ k. drop k text) count in
     took old new text left run run
-    (subst (λ y. Says text left y y) (sym r) (subst (λ y. Says text y (take (run_length is_stop text) text) (take (run_length is_stop text) text)) (sym l) (run_says text)))
+    (subst (λ y. Says text left y y) (sym r) (subst (λ y. Says text y (take (position_or_len is_stop text) text) (take (position_or_len is_stop text) text)) (sym l) (run_says text)))
     e f
 
 pub took_alone : (old new : Said) (c : ℕ) (text : List ℕ) → is_quote c ≡ false → (eqb c 47 && begins_with 42 text) ≡ false

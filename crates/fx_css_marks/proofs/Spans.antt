@@ -2,6 +2,7 @@
 -- Below the answers on what is said, and on walks.
 use Rattle.std.proofs.Common.{◌≡◌, ℕ, suc, Bool, true, false, List, [], ◌∷◌, ◌++◌, take, drop, refl, sym, ◌∙◌, ap}
 use lib.Dec.{eqb}
+use Rattle.std.specs.List.{position_or_len}
 use Rattle.fx_base.specs.declared.positions.Position.{Position}
 use Rattle.fx_css_marks.specs.declared.marks.Mark.{Mark}
 use Rattle.fx_text.specs.Classes.{is_quote}
@@ -10,8 +11,9 @@ use Rattle.fx_css_marks.specs.Bytes.{begins_with}
 use Rattle.fx_css_marks.specs.Marks.{mark, space, quoted}
 use Rattle.fx_css_marks.specs.Scanning.{marks_at, mode_after, plain_marks, plain_mode, scanned}
 use Rattle.fx_css_marks.specs.Scanning as v
-use Rattle.fx_css_marks.specs.Lengths.{run_length, is_stop, quoted_length, comment_length, comment_rest}
+use Rattle.fx_css_marks.specs.Lengths.{is_stop, quoted_length, comment_length, comment_rest}
 use Rattle.fx_css_marks.proofs.Comments.{or_left, or_right}
+use Rattle.fx_css_marks.proofs.Finds.{run_none, run_more}
 use Rattle.fx_css_marks.proofs.Scans.{plain_alone}
 
 -- the marks of bytes that mean themselves
@@ -20,20 +22,20 @@ bare p [] = []
 bare p (b ∷ bs) = mark b p true ∷ bare (after_byte p b) bs
 
 run_by : (p : Position) (c : ℕ) (cs : List ℕ) (b : Bool) → is_stop c ≡ b
-    → ((q : Position) → scanned v.Plain q cs ≡ bare q (take (run_length is_stop cs) cs) ++ scanned v.Plain (after_bytes q (take (run_length is_stop cs) cs)) (drop (run_length is_stop cs) cs))
-    → scanned v.Plain p (c ∷ cs) ≡ bare p (take (run_length is_stop (c ∷ cs)) (c ∷ cs)) ++ scanned v.Plain (after_bytes p (take (run_length is_stop (c ∷ cs)) (c ∷ cs))) (drop (run_length is_stop (c ∷ cs)) (c ∷ cs))
+    → ((q : Position) → scanned v.Plain q cs ≡ bare q (take (position_or_len is_stop cs) cs) ++ scanned v.Plain (after_bytes q (take (position_or_len is_stop cs) cs)) (drop (position_or_len is_stop cs) cs))
+    → scanned v.Plain p (c ∷ cs) ≡ bare p (take (position_or_len is_stop (c ∷ cs)) (c ∷ cs)) ++ scanned v.Plain (after_bytes p (take (position_or_len is_stop (c ∷ cs)) (c ∷ cs))) (drop (position_or_len is_stop (c ∷ cs)) (c ∷ cs))
 run_by p c cs true e h =
-    let none : run_length is_stop (c ∷ cs) ≡ 0 = rw e refl in
+    let none : position_or_len is_stop (c ∷ cs) ≡ 0 = run_none is_stop c cs e in
     ap (λ r. bare p (take r (c ∷ cs)) ++ scanned v.Plain (after_bytes p (take r (c ∷ cs))) (drop r (c ∷ cs))) (sym none)
 run_by p c cs false e h =
     let q : is_quote c ≡ false = or_left (is_quote c) (eqb c 47) e in
     let s : eqb c 47 ≡ false = or_right (is_quote c) (eqb c 47) e in
-    let more : run_length is_stop (c ∷ cs) ≡ suc (run_length is_stop cs) = rw e refl in
+    let more : position_or_len is_stop (c ∷ cs) ≡ suc (position_or_len is_stop cs) = run_more is_stop c cs e in
     plain_alone p c cs (eqb c 47) refl q (rw s refl)
     ∙ (ap (λ y. mark c p true ∷ y) (h (after_byte p c))
     ∙ ap (λ r. bare p (take r (c ∷ cs)) ++ scanned v.Plain (after_bytes p (take r (c ∷ cs))) (drop r (c ∷ cs))) (sym more))
 
-pub run_span : (cs : List ℕ) (p : Position) → scanned v.Plain p cs ≡ bare p (take (run_length is_stop cs) cs) ++ scanned v.Plain (after_bytes p (take (run_length is_stop cs) cs)) (drop (run_length is_stop cs) cs)
+pub run_span : (cs : List ℕ) (p : Position) → scanned v.Plain p cs ≡ bare p (take (position_or_len is_stop cs) cs) ++ scanned v.Plain (after_bytes p (take (position_or_len is_stop cs) cs)) (drop (position_or_len is_stop cs) cs)
 run_span [] p = refl
 run_span (c ∷ cs) p = run_by p c cs (is_stop c) refl (run_span cs)
 

@@ -5,6 +5,8 @@ use Rattle.std.specs.Bool.{if◌then◌else◌}
 use Rattle.std.proofs.lemmas.List.{drop-drop, take_more, take_all, map-append}
 use Rattle.std.specs.Option.{is_none}
 use lib.Dec.{eqb}
+use Rattle.std.specs.List.{position_or_len}
+use Rattle.std.proofs.lemmas.List.Sums.{prefix_len-le-length}
 use Rattle.fx_base.specs.declared.positions.Place.{Place}
 use Rattle.fx_base.specs.declared.positions.Position.{Position}
 use Rattle.fx_css_marks.specs.declared.marks.Mark.{Mark}
@@ -14,10 +16,10 @@ use Rattle.fx_css_marks.specs.Bytes.{begins_with}
 use Rattle.fx_css_marks.specs.Marks.{mark, space, Marked, position_of, place_of}
 use Rattle.fx_css_marks.specs.Scanning.{scanned, marks_at, mode_after}
 use Rattle.fx_css_marks.specs.Scanning as v
-use Rattle.fx_css_marks.specs.Lengths.{run_length, comment_rest}
+use Rattle.fx_css_marks.specs.Lengths.{comment_rest}
 use Rattle.fx_css_marks.specs.Walks.{mode_of, stops, still_open, opened}
 use Rattle.fx_css_marks.proofs.Comments.{or_left, or_right}
-use Rattle.fx_css_marks.proofs.Finds.{run_front, run_most, run_within}
+use Rattle.fx_css_marks.proofs.Finds.{run_front, run_more, run_most, run_none}
 use Rattle.fx_css_marks.proofs.Scans.{plain_alone, quote_opens, only_scanned}
 use Rattle.fx_css_marks.proofs.Spans.{whole_comment}
 
@@ -89,35 +91,35 @@ calm_step None p b bs e =
     plain_alone p b bs (eqb b 47) refl (or_left (is_quote b) (eqb b 47) e) (rw s refl)
 calm_step (Some q) p b bs e = quoted_step q p b bs ∙ rw e refl
 
-run_by : (quote : Option ℕ) (n : ℕ) (p : Position) (b : ℕ) (bs : List ℕ) (k : Bool) → stops quote b ≡ k → suc n ≤ run_length (stops quote) (b ∷ bs)
-    → (n ≤ run_length (stops quote) bs → drop n (scanned (mode_of quote) (after_byte p b) bs) ≡ scanned (mode_of quote) (after_bytes (after_byte p b) (take n bs)) (drop n bs))
+run_by : (quote : Option ℕ) (n : ℕ) (p : Position) (b : ℕ) (bs : List ℕ) (k : Bool) → stops quote b ≡ k → suc n ≤ position_or_len (stops quote) (b ∷ bs)
+    → (n ≤ position_or_len (stops quote) bs → drop n (scanned (mode_of quote) (after_byte p b) bs) ≡ scanned (mode_of quote) (after_bytes (after_byte p b) (take n bs)) (drop n bs))
     → drop (suc n) (scanned (mode_of quote) p (b ∷ bs)) ≡ scanned (mode_of quote) (after_bytes (after_byte p b) (take n bs)) (drop n bs)
 run_by quote n p b bs true e l h =
-    let none : run_length (stops quote) (b ∷ bs) ≡ 0 = rw e refl in
+    let none : position_or_len (stops quote) (b ∷ bs) ≡ 0 = run_none (stops quote) b bs e in
     absurd (omega arith)
 run_by quote n p b bs false e l h =
-    let more : run_length (stops quote) (b ∷ bs) ≡ suc (run_length (stops quote) bs) = rw e refl in
+    let more : position_or_len (stops quote) (b ∷ bs) ≡ suc (position_or_len (stops quote) bs) = run_more (stops quote) b bs e in
     ap (λ y. drop (suc n) y) (calm_step quote p b bs e) ∙ h (omega arith)
 
-run_passed : (quote : Option ℕ) (n : ℕ) (p : Position) (bs : List ℕ) → n ≤ run_length (stops quote) bs → drop n (scanned (mode_of quote) p bs) ≡ scanned (mode_of quote) (after_bytes p (take n bs)) (drop n bs)
+run_passed : (quote : Option ℕ) (n : ℕ) (p : Position) (bs : List ℕ) → n ≤ position_or_len (stops quote) bs → drop n (scanned (mode_of quote) p bs) ≡ scanned (mode_of quote) (after_bytes p (take n bs)) (drop n bs)
 run_passed quote zero p bs l = refl
 run_passed quote (suc n) p [] l = absurd (omega arith)
 run_passed quote (suc n) p (b ∷ bs) l = run_by quote n p b bs (stops quote b) refl l (λ m. run_passed quote n (after_byte p b) bs m)
 
-pub pass_run : (quote : Option ℕ) (n most : ℕ) (p q : Position) (text within run rest : List ℕ) → within ≡ take most text → n ≡ run_length (stops quote) within → run ≡ take n text → rest ≡ drop n text → q ≡ after_bytes p run
+pub pass_run : (quote : Option ℕ) (n most : ℕ) (p q : Position) (text within run rest : List ℕ) → within ≡ take most text → n ≡ position_or_len (stops quote) within → run ≡ take n text → rest ≡ drop n text → q ≡ after_bytes p run
     → scanned (mode_of quote) q rest ≡ drop n (scanned (mode_of quote) p text)
 pass_run quote n most p q text within run rest front count ran back all =
-    let l : run_length (stops quote) (take most text) ≤ run_length (stops quote) text = run_front (stops quote) most text in
-    let is : n ≡ run_length (stops quote) (take most text) = count ∙ ap (run_length (stops quote)) front in
+    let l : position_or_len (stops quote) (take most text) ≤ position_or_len (stops quote) text = run_front (stops quote) most text in
+    let is : n ≡ position_or_len (stops quote) (take most text) = count ∙ ap (position_or_len (stops quote)) front in
     ap (λ y. scanned (mode_of quote) y rest) (all ∙ ap (λ y. after_bytes p y) ran)
     ∙ (ap (λ y. scanned (mode_of quote) (after_bytes p (take n text)) y) back ∙ sym (run_passed quote n p text (omega arith)))
 
-pub run_most_of : (quote : Option ℕ) (n most : ℕ) (text within : List ℕ) → within ≡ take most text → n ≡ run_length (stops quote) within → (n ≤ most) × (n ≤ length text)
+pub run_most_of : (quote : Option ℕ) (n most : ℕ) (text within : List ℕ) → within ≡ take most text → n ≡ position_or_len (stops quote) within → (n ≤ most) × (n ≤ length text)
 run_most_of quote n most text within front count =
-    let is : n ≡ run_length (stops quote) (take most text) = count ∙ ap (run_length (stops quote)) front in
-    let l : run_length (stops quote) (take most text) ≤ most = run_most (stops quote) most text in
-    let k : run_length (stops quote) (take most text) ≤ run_length (stops quote) text = run_front (stops quote) most text in
-    let j : run_length (stops quote) text ≤ length text = run_within (stops quote) text in
+    let is : n ≡ position_or_len (stops quote) (take most text) = count ∙ ap (position_or_len (stops quote)) front in
+    let l : position_or_len (stops quote) (take most text) ≤ most = run_most (stops quote) most text in
+    let k : position_or_len (stops quote) (take most text) ≤ position_or_len (stops quote) text = run_front (stops quote) most text in
+    let j : position_or_len (stops quote) text ≤ length text = prefix_len-le-length (λ b. not (stops quote b)) text in
     (omega arith, omega arith)
 
 pub pass_more : (ms here more far : List Mark) (m : Mark) (i n k : ℕ) → here ≡ drop i ms → here ≡ m ∷ more → far ≡ drop n more → k ≡ i + 1 + n → far ≡ drop k ms

@@ -4,11 +4,6 @@ use Rattle.fx_text.specs.Characters.{asterisk, slash}
 use Rattle.fx_text.specs.Classes.{is_quote}
 use Rattle.fx_css_marks.specs.Bytes.{begins_with, begins_comment}
 
--- the bytes before the first that passes
-abbrev pub run_length : (ℕ → Bool) → List ℕ → ℕ
-run_length stops [] = 0
-run_length stops (b ∷ bs) = if stops b then 0 else suc (run_length stops bs)
-
 -- a quote, or a `/` that may begin a comment
 abbrev pub is_stop : ℕ → Bool
 is_stop b = is_quote b || (b == slash)

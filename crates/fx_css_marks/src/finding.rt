@@ -1,7 +1,7 @@
 //! Where bare runs, comments and quoted texts end, in bytes from the first one on.
 //! What a text says is put together from these parts; a text that is one bare run stands for itself.
 ghost use Rattle.std.specs.Prelude.{◌≡◌, ◌≤◌, ℕ, List, length, drop, false, IsTrue};
-ghost use Rattle.std.specs.List.{list_any};
+ghost use Rattle.std.specs.List.{list_any, position_or_len};
 ghost use Rattle.fx_base.specs.declared.positions.Position.{Position};
 ghost use Rattle.memchr.specs.Find.{is_byte};
 ghost use Rattle.fx_text.specs.Characters.{asterisk};
@@ -9,7 +9,7 @@ ghost use Rattle.fx_text.specs.Classes.{is_quote};
 ghost use Rattle.fx_css_marks.specs.Bytes.{has_beginning};
 ghost use Rattle.fx_css_marks.specs.declared.marks.Mark.{Mark};
 ghost use Rattle.fx_css_marks.specs.Marks.{Marked, bytes, signs};
-ghost use Rattle.fx_css_marks.specs.Lengths.{run_length, is_stop, quoted_length, comment_length, comment_rest, is_bare};
+ghost use Rattle.fx_css_marks.specs.Lengths.{is_stop, quoted_length, comment_length, comment_rest, is_bare};
 
 use crate::marks::{begins_comment, ends_comment};
 use fx_text::is_quote;
@@ -17,7 +17,7 @@ use memchr::{memchr, memchr3};
 
 /// The bytes before the first quote or `/`.
 pub fn bare_length(text: &[u8]) -> usize
-    ensures length { result ≡ run_length is_stop text.now }
+    ensures length { result ≡ position_or_len is_stop text.now }
     ensures within { result ≤ length text.now }
 {
     match memchr3(b'"', b'\'', b'/', text) {
@@ -28,7 +28,7 @@ pub fn bare_length(text: &[u8]) -> usize
 
 /// The bytes before the first of these.
 pub fn length_before(byte: u8, text: &[u8]) -> usize
-    ensures length { result ≡ run_length (is_byte byte) text.now }
+    ensures length { result ≡ position_or_len (is_byte byte) text.now }
     ensures within { result ≤ length text.now }
 {
     match memchr(byte, text) {
@@ -65,7 +65,7 @@ fn comment_length(text: &[u8]) -> usize
 
 /// The text from its first `*` on.
 fn from_star(text: &[u8]) -> &[u8]
-    ensures from { result.now ≡ drop (run_length (is_byte asterisk) text.now) text.now }
+    ensures from { result.now ≡ drop (position_or_len (is_byte asterisk) text.now) text.now }
     ensures within { length result.now ≤ length text.now }
 {
     let (_, from) = text.split_at(length_before(b'*', text));
@@ -85,7 +85,7 @@ pub fn comment_rest(text: &[u8]) -> usize
 
 /// The text from its first quote or `/` on.
 fn from_stop(text: &[u8]) -> &[u8]
-    ensures from { result.now ≡ drop (run_length is_stop text.now) text.now }
+    ensures from { result.now ≡ drop (position_or_len is_stop text.now) text.now }
     ensures within { length result.now ≤ length text.now }
 {
     let (_, from) = text.split_at(bare_length(text));

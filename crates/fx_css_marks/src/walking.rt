@@ -5,7 +5,7 @@ ghost use Rattle.fx_text.specs.Characters.{asterisk, slash};
 ghost use Rattle.fx_base.specs.Positions.{start};
 ghost use Rattle.fx_css_marks.specs.declared.marks.Mark.{Mark};
 ghost use Rattle.fx_css_marks.specs.Bytes.{begins_with};
-ghost use Rattle.fx_css_marks.specs.Lengths.{run_length};
+ghost use Rattle.std.specs.List.{position_or_len};
 ghost use Rattle.fx_css_marks.specs.Marks.{Marked, position_of, place_of};
 ghost use Rattle.fx_css_marks.specs.Scanning.{Plain, Quoted, scanned};
 ghost use Rattle.fx_css_marks.specs.Walks.{left, stops, still_open, opened};
@@ -105,7 +105,7 @@ fn front(text: &[u8], most: usize) -> &[u8]
 
 /// The bytes in front of a text that end no quoted text of this quote, or outside quoted texts that begin nothing.
 fn calm_length(quote: Option<u8>, text: &[u8]) -> usize
-    ensures { result ≡ run_length (stops quote) text.now }
+    ensures { result ≡ position_or_len (stops quote) text.now }
 {
     match quote {
         Some(quote) => length_before(quote, text),

@@ -1,6 +1,6 @@
 -- The sheet of the user agent is within the limits, by computing.
 -- Below the answers on that sheet.
-use Rattle.std.proofs.Common.{◌≡◌, ℕ, ◌≤◌, List, [], ◌∷◌, length, arith, codes, lit<, sym, subst, Result, Ok, Err, IfOk}
+use Rattle.std.proofs.Common.{◌≡◌, ℕ, ◌≤◌, List, [], ◌∷◌, length, refl, arith, codes, lit<, sym, subst, Result, Ok, Err, IfOk}
 use Rattle.std.proofs.lemmas.List.Elements.{All-nil, All-cons}
 use Rattle.std.specs.List.{All}
 use Rattle.fx_look.specs.Styles.{styles}
@@ -15,23 +15,23 @@ use Rattle.fx_css.specs.Agent as spec
 
 fill_kept : (c : Color) → IsKeptDeclaration (spec.text_fill c)
 unfolding spec.text_fill styles
-fill_kept c = record { layers = omega arith; fits = tt }
+fill_kept c = record { row = refl; layers = omega arith; fits = tt }
 
 background_kept : (under over : Color) → IsKeptDeclaration (spec.background under over)
 unfolding spec.background styles
-background_kept under over = record { layers = omega arith; fits = tt }
+background_kept under over = record { row = refl; layers = omega arith; fits = tt }
 
 alignment_kept : IsKeptDeclaration (spec.alignment 3) × IsKeptDeclaration (spec.alignment 4)
 unfolding spec.alignment styles
-alignment_kept = (record { layers = omega arith; fits = lit< tt }, record { layers = omega arith; fits = lit< tt })
+alignment_kept = (record { row = refl; layers = omega arith; fits = lit< tt }, record { row = refl; layers = omega arith; fits = lit< tt })
 
 insets_kept : IsKeptDeclaration spec.button_insets
 unfolding spec.button_insets styles
-insets_kept = record { layers = omega arith; fits = tt }
+insets_kept = record { row = refl; layers = omega arith; fits = tt }
 
 padding_kept : IsKeptDeclaration spec.button_padding
 unfolding spec.button_padding styles
-padding_kept = record { layers = omega arith; fits = tt }
+padding_kept = record { row = refl; layers = omega arith; fits = tt }
 
 rule_kept : (class : List ℕ) (pseudos : List (List ℕ)) (ds : List Declaration) → length pseudos ≤ 1 → length ds ≤ 256 → All IsKeptDeclaration ds → IsKeptRule (spec.rule_of (class ∷ []) pseudos ds)
 unfolding spec.selector_of
@@ -47,7 +47,7 @@ one_kept d h = All-cons IsKeptDeclaration d [] h (All-nil IsKeptDeclaration)
 
 root_kept : IsKeptRule spec.root_rule
 unfolding spec.root_rule styles
-root_kept = rule_kept (codes "root") [] _ (omega arith) (omega arith) (one_kept _ (record { layers = omega arith; fits = tt }))
+root_kept = rule_kept (codes "root") [] _ (omega arith) (omega arith) (one_kept _ (record { row = refl; layers = omega arith; fits = tt }))
 
 label_kept : IsKeptRule spec.label_rule
 unfolding spec.label_rule

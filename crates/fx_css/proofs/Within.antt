@@ -83,9 +83,11 @@ judged_good ms d e past =
     let h = map_gives (λ (x : Declaration). let r : ReadDeclaration = record { declaration = x; past = past_in_declaration text } in r) (declaration_in text) d e in
     let same : past_in_declaration text ≡ d.past = ap (λ (r : ReadDeclaration). r.past) h.2 in
     let none : d.past ≡ None = none_within ms d.past (λ i f. declaration_past_within text i (same ∙ f)) past in
+    let spelled = declarations_read.sound text h.0 h.1 in
     subst IsKeptDeclaration (ap (λ (r : ReadDeclaration). r.declaration) h.2) (record {
+      row = spelled.is_row;
       layers = (layers_tell text h.0 h.1).0 (same ∙ none);
-      fits = declaration_fits text h.0 (declarations_read.sound text h.0 h.1);
+      fits = declaration_fits text h.0 spelled;
     })
 
 piece_good : (ms : List Numbered) (first : ℕ) (o : Option ReadDeclaration) → judged ms ≡ o → All IsGood (kept (shown_piece ms first o))

@@ -11,6 +11,7 @@ use Rattle.fx_css_types.specs.declared.declarations.Declared.TheVariants as decl
 use Rattle.fx_css_types.specs.declared.declarations.Paint.TheVariants as paint
 use Rattle.fx_css_types.specs.declared.selectors.Selector.{Selector}
 use Rattle.fx_css_types.specs.declared.sheets.Rule.{Rule}
+use Rattle.fx_css_types.specs.Limits.{row_of}
 
 -- a selector of one compound with these classes and pseudo-classes
 unfoldable pub selector_of : List (List ℕ) → List (List ℕ) → Selector
@@ -23,7 +24,7 @@ rule_of classes pseudos declarations =
     record { selectors = selector_of classes pseudos ∷ []; declarations = declarations }
 
 abbrev pub declaration_of : List ℕ → Declared → Declaration
-declaration_of name v = record { name = name; value = v }
+declaration_of name v = record { name = name; row = row_of name; value = v }
 
 abbrev pub opaque : ℕ → ℕ → ℕ → Color
 opaque r g b = record { r = r; g = g; b = b; a = 255 }

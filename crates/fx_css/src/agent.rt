@@ -6,6 +6,7 @@ ghost use Rattle.fx_css.specs.Agent as spec;
 
 use fx_base::{Color, Family, List, Sides, Text, Value};
 use fx_css_types::{Compound, Declaration, Declared, Paint, Rule, Selector, Sheet};
+use fx_look::style_named;
 use std::alloc::{AllocError, Global};
 
 const BLACK: Color = Color {
@@ -76,6 +77,7 @@ fn declaration(alloc: Global, word: &str, value: Declared) -> Result<Declaration
 {
     Ok(Declaration {
         name: name(alloc, word)?,
+        row: style_named(word),
         value,
     })
 }

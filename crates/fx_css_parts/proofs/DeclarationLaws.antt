@@ -13,6 +13,7 @@ use Rattle.fx_base.specs.declared.kinds.Family.TheVariants.{Pos}
 use Rattle.fx_base.specs.declared.values.Value.TheVariants as value
 use Rattle.fx_look.specs.declared.styles.StyleForm.{StyleForm}
 use Rattle.fx_look.specs.declared.styles.StyleForm.TheVariants as form
+use Rattle.fx_look.specs.declared.styles.StyleName.{StyleName}
 use Rattle.fx_look.specs.Colors.{color_at}
 use Rattle.fx_look.specs.Numbers.{IsSize, size_at}
 use Rattle.fx_text.proofs.FrontLemmas.{bytes_tell, front_and_behind, front-stop, behind-stop, behind_stops, then_gives, map_gives}
@@ -207,6 +208,7 @@ name_no_colon before inner t i =
 
 declaration_complete : (text : List ℕ) (d : Declaration) → IsDeclaration text d → declaration_in text ≡ Some d
 declaration_complete text d h =
+    let with_row : Option StyleName → Option Declaration = λ row. Some (record { name = d.name; row = row; value = d.value }) in
     let clear = name_no_colon h.before h.is_name.inner h.is_name.is_inner h.is_name.spells.0 in
     let name : trimmed h.before ≡ d.name = trimmed_complete h.before h.is_name.inner h.is_name.is_inner ∙ sym h.is_name.spells.1 in
     let good : is_ident d.name ≡ true = ap is_ident h.is_name.spells.1 ∙ h.is_name.spells.0 in
@@ -215,6 +217,7 @@ declaration_complete text d h =
     ∙ ap (λ y. with_value y (58 ∷ h.after)) name
     ∙ ap (λ b. cond b (option_map (declaration d.name) (declared_at (form_of d.name) (trimmed h.after))) None) good
     ∙ ap (λ y. option_map (declaration d.name) y) (between_read (IsDeclared (form_of d.name)) (declared_at (form_of d.name)) (values_read (form_of d.name)) h.after d.value h.is_value)
+    ∙ ap with_row (sym h.is_row)
 
 colon_is : (c : ℕ) → (c == 58) ≡ true → c ≡ 58
 colon_is c e = grind (arith, nat_tests, e)
@@ -231,6 +234,7 @@ declaration_by text (c ∷ cs) d b s e =
       after = cs;
       parts = front_and_behind not_colon text ∙ ap (λ y. front not_colon text ++ y) (b ∙ ap (λ y. y ∷ cs) (colon_is c (not_not (c == 58) s)));
       is_name = record { inner = name; is_inner = trimmed_sound (front not_colon text); spells = (good.0, refl) };
+      is_row = refl;
       is_value = between_sound (IsDeclared (form_of name)) (declared_at (form_of name)) (values_read (form_of name)) cs h.0 h.1;
     })
 

@@ -13,7 +13,7 @@ use Rattle.fx_look.specs.declared.styles.StyleForm.TheVariants as form
 use Rattle.fx_look.specs.Colors.{IsColor, color_at}
 use Rattle.fx_look.specs.Numbers.{IsSize, size_at}
 use Rattle.fx_look.specs.Insets.{IsSides, sides_at}
-use Rattle.fx_css_types.specs.Limits.{form_of}
+use Rattle.fx_css_types.specs.Limits.{form_of, row_of}
 use Rattle.fx_css_types.specs.declared.declarations.Paint.{Paint}
 use Rattle.fx_css_types.specs.declared.declarations.Paint.TheVariants as paint
 use Rattle.fx_css_types.specs.declared.declarations.Declared.{Declared}
@@ -63,12 +63,13 @@ pub data IsDeclared : Option StyleForm → List ℕ → Declared → Type 0 wher
       → IsDeclared (Some f) text d
   other : (text : List ℕ) (p : Paint) → IsPaint text p → IsDeclared None text (declared.Paint p)
 
--- a name, `:` and a value, with white round each
+-- a name, `:` and a value, with white round each; the row is that of the name
 pub record IsDeclaration (text : List ℕ) (d : Declaration) : Type 0 where
   pub before : List ℕ
   pub after : List ℕ
   pub parts : text ≡ before ++ (colon ∷ after)
   pub is_name : IsBetweenWhite (λ name n. IsTrue (is_ident name) × (n ≡ name)) before d.name
+  pub is_row : d.row ≡ row_of d.name
   pub is_value : IsBetweenWhite (IsDeclared (form_of d.name)) after d.value
 
 -- the reading
@@ -109,7 +110,7 @@ declared_at None text = option_map declared.Paint (paint_at text)
 declared_at (Some f) text = if bytes_eq text (codes "inherit") then Some declared.Inherit else styled_at f text
 
 abbrev pub declaration : List ℕ → Declared → Declaration
-declaration name d = record { name = name; value = d }
+declaration name d = record { name = name; row = row_of name; value = d }
 
 abbrev pub with_value : List ℕ → List ℕ → Option Declaration
 with_value name [] = None

@@ -5,14 +5,14 @@ ghost use Rattle.std.specs.List.{prefix_len};
 ghost use Rattle.fx_css_parts.specs.Declaring.{not_colon};
 ghost use Rattle.fx_css_parts.specs.Parts.{declaration_at};
 ghost use Rattle.fx_text.specs.Fronts.{front, behind};
-ghost use Rattle.fx_css_types.specs.Limits.{form_of};
+ghost use Rattle.fx_css_types.specs.Limits.{form_at};
 
 use crate::ReadDeclaration;
 use crate::limits::past_in_value;
 use crate::texts::read_ident;
 use crate::values::read_declared;
 use fx_css_types::Declaration;
-use fx_look::{StyleForm, style_named};
+use fx_look::{StyleForm, StyleName, style_named};
 use fx_text::trimmed;
 use std::alloc::{AllocError, Global};
 
@@ -27,7 +27,8 @@ pub fn read_declaration(alloc: Global, text: &[u8]) -> Result<Option<ReadDeclara
     let Some(name) = read_ident(alloc, trimmed(before))? else {
         return Ok(None);
     };
-    let form = form_of(name.as_str());
+    let row = style_named(name.as_str());
+    let form = form_of(row);
     let Some(declared) = read_declared(alloc, form, trimmed(value))? else {
         return Ok(None);
     };
@@ -35,17 +36,18 @@ pub fn read_declaration(alloc: Global, text: &[u8]) -> Result<Option<ReadDeclara
     Ok(Some(ReadDeclaration {
         declaration: Declaration {
             name,
+            row,
             value: declared,
         },
         past,
     }))
 }
 
-/// The form of the style declaration of this name.
-fn form_of(name: &str) -> Option<StyleForm>
-    ensures { result ≡ form_of name.now }
+/// The form of the value of the row, if there is one.
+fn form_of(row: Option<StyleName>) -> Option<StyleForm>
+    ensures { result ≡ form_at row }
 {
-    let style = style_named(name)?.style()?;
+    let style = row?.style()?;
     Some(style.form)
 }
 

@@ -1,10 +1,11 @@
 -- What sheets that are read keep within: limits on their parts, and values that fit the names under which they stand.
-use Rattle.std.specs.Prelude.{ℕ, ◌≤◌, ◌<◌, List, length, Option, Some, None, All}
+use Rattle.std.specs.Prelude.{ℕ, ◌≡◌, ◌≤◌, ◌<◌, List, length, Option, Some, None, All}
 use Rattle.std.specs.Option.{option_and_then, option_map}
 use Rattle.fx_base.specs.declared.kinds.Family.TheVariants.{Pos}
 use Rattle.fx_base.specs.declared.values.Value.TheVariants as value
 use Rattle.fx_look.specs.declared.styles.StyleForm.{StyleForm}
 use Rattle.fx_look.specs.declared.styles.StyleForm.TheVariants as form
+use Rattle.fx_look.specs.declared.styles.StyleName.{StyleName}
 use Rattle.fx_look.specs.StyleRows.{style_at, style_named}
 use Rattle.fx_css_types.specs.declared.declarations.Declaration.{Declaration}
 use Rattle.fx_css_types.specs.declared.declarations.Declared.{Declared}
@@ -15,9 +16,17 @@ use Rattle.fx_css_types.specs.declared.sheets.Sheet.{Sheet}
 use Rattle.fx_css_types.specs.declared.sheets.SheetAt.{SheetAt}
 use Rattle.fx_css_types.specs.Specificity.{part_count}
 
+-- the style declaration of this name, by its row in their table; none where any name with one paint is looked up
+abbrev pub row_of : List ℕ → Option StyleName
+row_of name = option_map (λ place. record { 0 = place }) (style_named name)
+
+-- the form of the value of a row
+abbrev pub form_at : Option StyleName → Option StyleForm
+form_at row = option_map (λ r. r.form) (option_and_then (λ (name : StyleName). style_at name.0) row)
+
 -- the form of the style declaration of this name
 abbrev pub form_of : List ℕ → Option StyleForm
-form_of name = option_map (λ row. row.form) (option_and_then style_at (style_named name))
+form_of name = form_at (row_of name)
 
 -- a value of this form, but for `inherit`
 abbrev pub IsOfForm : StyleForm → Declared → Type 0
@@ -59,6 +68,7 @@ abbrev pub AreShort : List SheetAt → Type 0
 AreShort sheets = All (λ (s : SheetAt). AreShortRules s.sheet.rules) sheets
 
 pub record IsKeptDeclaration (d : Declaration) : Type 0 where
+  pub row : d.row ≡ row_of d.name
   pub layers : layer_count d.value ≤ 8
   pub fits : Fits (form_of d.name) d.value
 
@@ -68,7 +78,7 @@ pub record IsKeptRule (r : Rule) : Type 0 where
   pub declarations : length r.declarations ≤ 256
   pub each : All IsKeptDeclaration r.declarations
 
--- a sheet within all limits, each of whose values fits its name
+-- a sheet within all limits, each of whose declarations has the row of its name and a value that fits it
 pub record IsWithinLimits (sheet : Sheet) : Type 0 where
   pub rules : length sheet.rules ≤ 4096
   pub each : All IsKeptRule sheet.rules

@@ -3,6 +3,7 @@
 ghost use Rattle.std.specs.Prelude.{◌≡◌, IfOk};
 
 use fx_base::{Color, Duplicate, List, Sides, Text, Value};
+use fx_look::StyleName;
 use std::alloc::{AllocError, Global};
 
 /// A colour, or a name that is looked up among the declarations of the node and its ancestors.
@@ -22,10 +23,12 @@ pub enum Declared {
     Inherit,
 }
 
-/// A name with its value, as in `-fx-spacing: 4`.
+/// A name with its value, as in `-fx-spacing: 4`, and the row of the style table that the name has there, if it is a
+/// style declaration's.
 #[derive(Drop)]
 pub struct Declaration {
     pub name: Text,
+    pub row: Option<StyleName>,
     pub value: Declared,
 }
 
@@ -89,6 +92,7 @@ impl Declaration {
     {
         Ok(Declaration {
             name: self.name.copy(alloc)?,
+            row: self.row,
             value: self.value.copy(alloc)?,
         })
     }

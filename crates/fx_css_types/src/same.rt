@@ -5,6 +5,7 @@ use crate::declarations::{Declaration, Declared, Found, FoundValue, Paint};
 use crate::selectors::{Compound, Selector};
 use crate::sheets::{Rule, Sheet, SheetAt};
 use fx_base::{Place, Same};
+use fx_look::StyleName;
 
 impl Same for Paint {
     fn is_same(&self, other: &Self) -> bool {
@@ -31,7 +32,19 @@ impl Same for Declared {
 
 impl Same for Declaration {
     fn is_same(&self, other: &Self) -> bool {
-        self.name.is_same(&other.name) && self.value.is_same(&other.value)
+        self.name.is_same(&other.name)
+            && is_same_row(self.row, other.row)
+            && self.value.is_same(&other.value)
+    }
+}
+
+fn is_same_row(row: Option<StyleName>, other: Option<StyleName>) -> bool
+    ensures { IsTrue result ↔ (row ≡ other) }
+{
+    match (row, other) {
+        (Some(one), Some(another)) => one == another,
+        (None, None) => true,
+        _ => false,
     }
 }
 

@@ -1,6 +1,7 @@
 //! A sheet of one rule is copied, and so is a winner.
 use crate::*;
 use fx_base::{Color, List, Place, Position, Same, Sides, Text, Value};
+use fx_look::{StyleKey, StyleName, style_named};
 use std::alloc::Global;
 use std::test::Fail;
 
@@ -57,10 +58,12 @@ fn declarations(alloc: Global) -> Result<Vec<Declaration>, Fail> {
     let mut all = Vec::new(alloc);
     all.push(Declaration {
         name: Text::from_str(alloc, "-fx-background-color")?,
+        row: style_named("-fx-background-color"),
         value: Declared::Paints(List::from_vec(paints)),
     })?;
     all.push(Declaration {
         name: Text::from_str(alloc, "-fx-padding")?,
+        row: style_named("-fx-padding"),
         value: Declared::Inherit,
     })?;
     Ok(all)
@@ -81,6 +84,10 @@ fn copies_a_sheet(rt: HostRuntime) -> Result<(), Fail> {
         return Err(Fail::from("no rule"));
     };
     assert_eq!(rt; rule.declarations.as_slice().len(), 2);
+    let Some(last) = rule.declarations.as_slice().last() else {
+        return Err(Fail::from("no declaration"));
+    };
+    assert_eq!(rt; last.row, Some(StyleName(StyleKey::Padding as u32)));
     let Some(selector) = rule.selectors.as_slice().first() else {
         return Err(Fail::from("no selector"));
     };

@@ -9,10 +9,11 @@ ghost use Rattle.fx_css_types.specs.Limits.{form_at};
 
 use crate::ReadDeclaration;
 use crate::limits::past_in_value;
+use crate::naming::row_named;
 use crate::texts::read_ident;
 use crate::values::read_declared;
 use fx_css_types::Declaration;
-use fx_look::{StyleForm, StyleName, style_named};
+use fx_look::{StyleForm, StyleName};
 use fx_text::trimmed;
 use std::alloc::{AllocError, Global};
 
@@ -27,7 +28,7 @@ pub fn read_declaration(alloc: Global, text: &[u8]) -> Result<Option<ReadDeclara
     let Some(name) = read_ident(alloc, trimmed(before))? else {
         return Ok(None);
     };
-    let row = style_named(name.as_str());
+    let row = row_named(name.as_str());
     let form = form_of(row);
     let Some(declared) = read_declared(alloc, form, trimmed(value))? else {
         return Ok(None);

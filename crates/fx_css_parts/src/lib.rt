@@ -7,6 +7,7 @@ mod declaring;
 mod laws;
 mod layers;
 mod limits;
+mod naming;
 mod selecting;
 mod texts;
 mod values;

@@ -12,7 +12,7 @@ use fx_css_types::{SheetAt, sheets_within_limits_are_short};
 use fx_kinds::StyleFacts;
 use fx_select::RuleIndex;
 use nodes::{nodes, stand_before};
-use sheets::{read, sheet_text};
+use sheets::{push_styles, read, sheet_text};
 use std::alloc::Global;
 use std::env;
 
@@ -25,6 +25,8 @@ struct Work {
     reads: usize,
     searches: usize,
     commented: bool,
+    /// How many inline styles stand beside the sheet, the button's own the first of them.
+    styles: usize,
 }
 
 fn main(rt: HostRuntime) -> anyhow::Result<()> {
@@ -36,18 +38,29 @@ fn main(rt: HostRuntime) -> anyhow::Result<()> {
         words.next(),
         words.next(),
     ) else {
-        bail!("usage: sheets_bench RULES SHARING READS SEARCHES [commented]");
+        bail!("usage: sheets_bench RULES SHARING READS SEARCHES [plain|commented [STYLES]]");
     };
     let work = Work {
         rules: rules.as_str().parse::<usize>()?,
         sharing: sharing.as_str().parse::<usize>()?,
         reads: reads.as_str().parse::<usize>()?,
         searches: searches.as_str().parse::<usize>()?,
-        commented: words.next().is_some(),
+        commented: words
+            .next()
+            .is_some_and(|word| word.as_str() == "commented"),
+        styles: count(words.next())?,
     };
     let (bytes, read, found) = run(rt.alloc(), work)?;
     println!(rt; "{bytes} bytes, {read} declarations read, {found} rules found")?;
     Ok(())
+}
+
+/// The number that a word is, or none.
+fn count(word: Option<String>) -> anyhow::Result<usize> {
+    match word {
+        Some(word) => Ok(word.as_str().parse::<usize>()?),
+        None => Ok(0),
+    }
 }
 
 /// The bytes of the sheet, the declarations that were read and the rules that were found.
@@ -60,18 +73,19 @@ fn run(alloc: Global, work: Work) -> anyhow::Result<(usize, usize, usize)> {
             declarations = declarations.wrapping_add(rule.declarations.as_slice().len());
         }
     }
-    let found = search(alloc, text.as_str(), work.searches)?;
+    let found = search(alloc, text.as_str(), work.searches, work.styles)?;
     Ok((text.len(), declarations, found))
 }
 
 /// How many rules were found in so many searches.
-fn search(alloc: Global, text: &str, searches: usize) -> anyhow::Result<usize> {
+fn search(alloc: Global, text: &str, searches: usize, styles: usize) -> anyhow::Result<usize> {
     if searches == 0 {
         return Ok(0);
     }
     let mut sheets = Vec::new(alloc);
     sheets.push(read(alloc, text)?)?;
-    let facts = nodes(alloc)?;
+    push_styles(alloc, &mut sheets, styles)?;
+    let facts = nodes(alloc, if styles == 0 { None } else { Some(1) })?;
     search_in(alloc, sheets.as_slice(), facts.as_slice(), searches)
 }
 

@@ -6,20 +6,21 @@ use fx_base::{List, NodeKey, Text};
 use fx_kinds::{Class, StyleFacts, class_of};
 use std::alloc::Global;
 
-/// The facts of the pane, which lists the sheet, and of the button.
-pub fn nodes(alloc: Global) -> anyhow::Result<Vec<StyleFacts>> {
+/// The facts of the pane, which lists the sheet, and of the button, whose inline sheet has this place.
+pub fn nodes(alloc: Global, inline: Option<usize>) -> anyhow::Result<Vec<StyleFacts>> {
     let mut facts = Vec::new(alloc);
     let mut sheets = Vec::new(alloc);
     sheets.push(0usize)?;
     let pane = node(alloc, "Pane", None, &["root"], sheets)?;
     facts.push(pane)?;
-    let button = node(
+    let mut button = node(
         alloc,
         "Button",
         Some(0),
         &["c0", "c1", "c2"],
         Vec::new(alloc),
     )?;
+    button.inline = inline;
     facts.push(button)?;
     Ok(facts)
 }

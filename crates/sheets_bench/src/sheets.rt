@@ -1,9 +1,9 @@
 //! A sheet of rules of four forms, written and read.
-ghost use Rattle.std.specs.Prelude.{IfOk};
-ghost use Rattle.fx_css_types.specs.Limits.{IsWithinLimits};
+ghost use Rattle.std.specs.Prelude.{IfOk, OnOk};
+ghost use Rattle.fx_css_types.specs.Limits.{AreWithinLimits, IsWithinLimits};
 
 use anyhow::anyhow;
-use fx_css::read_sheet;
+use fx_css::{read_inline, read_sheet};
 use fx_css_types::{SheetAt, SheetOrigin};
 use std::alloc::{AllocError, Global};
 
@@ -64,5 +64,25 @@ pub fn read(alloc: Global, text: &str) -> anyhow::Result<SheetAt>
     Ok(SheetAt {
         sheet: read_sheet(alloc, text.as_bytes(), 0)?,
         origin: SheetOrigin::Scene,
+    })
+}
+
+/// Puts so many inline styles behind the sheets.
+pub fn push_styles(alloc: Global, sheets: &mut Vec<SheetAt>, count: usize) -> anyhow::Result<()>
+    requires { AreWithinLimits sheets.old.items }
+    ensures { OnOk result (AreWithinLimits sheets.new.items) }
+{
+    for _ in 0..count {
+        sheets.push(style(alloc)?)?;
+    }
+    Ok(())
+}
+
+fn style(alloc: Global) -> anyhow::Result<SheetAt>
+    ensures { IfOk result (λ sheet. IsWithinLimits sheet.sheet) }
+{
+    Ok(SheetAt {
+        sheet: read_inline(alloc, "-fx-padding: 3; -fx-spacing: 2")?,
+        origin: SheetOrigin::Inline,
     })
 }

@@ -1,0 +1,6 @@
+pub mod Axes
+pub mod Lengths
+pub mod Parts
+pub mod Shares
+pub mod Sizes
+pub mod Tracks

@@ -1,6 +1,6 @@
 -- The parts of a length, and how much longer or shorter each may become.
 -- Cited by src/parted.rt and by the track rule.
-use Rattle.std.specs.Prelude.{ℕ, ◌+◌, ◌-◌, ◌==◌, if◌then◌else◌, unwrap_or}
+use Rattle.std.specs.Prelude.{ℕ, ◌+◌, ◌-◌, ◌==◌, List, map, if◌then◌else◌, unwrap_or}
 use Rattle.fx_panes_parts.specs.declared.axes.ChildAxis.{ChildAxis}
 use Rattle.fx_panes_parts.specs.declared.parted.Room.{Room}
 use Rattle.fx_panes_parts.specs.declared.parted.Room.TheVariants.{Above, Below}
@@ -23,3 +23,7 @@ part_of child = record {
 abbrev pub room_in : Room → Part → ℕ
 room_in Below part = part.pref - part.min
 room_in (Above priority) part = if part.priority == priority then part.max - part.pref else 0
+
+-- of each part, in order
+abbrev pub rooms : Room → List Part → List ℕ
+rooms room parts = map (room_in room) parts

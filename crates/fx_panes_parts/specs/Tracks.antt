@@ -1,13 +1,13 @@
 -- The track rule, by which rows and grids give lengths to their parts.
 -- Cited by src/tracks.rt and by those panes.
-use Rattle.std.specs.Prelude.{ℕ, ◌+◌, ◌-◌, List, [], ◌∷◌, map, sum, sum_by}
+use Rattle.std.specs.Prelude.{ℕ, ◌+◌, ◌-◌, List, [], ◌∷◌, sum, sum_by}
 use Rattle.fx_share.specs.Levels.{levelled}
 use Rattle.fx_panes_parts.specs.declared.level.Level.{Level}
 use Rattle.fx_panes_parts.specs.declared.parted.Room.{Room}
 use Rattle.fx_panes_parts.specs.declared.parted.Room.TheVariants.{Above, Below}
 use Rattle.fx_panes_parts.specs.declared.parts.Part.{Part}
 use Rattle.fx_panes_parts.specs.declared.tracks.Plan.{Plan}
-use Rattle.fx_panes_parts.specs.Parts.{room_in}
+use Rattle.fx_panes_parts.specs.Parts.{rooms}
 use Rattle.fx_panes_parts.specs.Shares.{share_of}
 
 -- the preferred length of each part, with what it is given twice and less what is taken off it
@@ -17,10 +17,6 @@ lengthened (p ∷ ps) [] always sometimes = []
 lengthened (p ∷ ps) (l ∷ ls) [] sometimes = []
 lengthened (p ∷ ps) (l ∷ ls) (a ∷ rest) [] = []
 lengthened (p ∷ ps) (l ∷ ls) (a ∷ rest) (s ∷ ss) = (p.pref + (a + s) - l) ∷ lengthened ps ls rest ss
-
--- the room of each part, in order
-abbrev pub rooms : Room → List Part → List ℕ
-rooms room parts = map (room_in room) parts
 
 -- The lengths of the parts in so much room. What is left beyond the preferred lengths is shared over the parts that grow
 -- ALWAYS (2), and what then remains over those that grow SOMETIMES (1); what is lacking is shared over all and taken off.

@@ -4,9 +4,8 @@ ghost use Rattle.std.specs.Prelude.{◌≡◌, ◌/◌, ◌%◌};
 ghost use Rattle.std.specs.Option.{option_map};
 ghost use Rattle.fx_panes_parts.specs.Axes.{IsChildAxis, IsPaneAxis, child_axis, joined, pane_axis, rect_of};
 
-use fx_base::{ChildSize, PaneFacts, Rect, Sizes};
-
 use crate::lengths::{length_of, pixels};
+use fx_base::{ChildSize, PaneFacts, Rect, Sizes};
 
 /// The horizontal or the vertical axis.
 #[derive(Clone, Copy, PartialEq, Eq, Debug)]

@@ -18,7 +18,11 @@ pub fn length_of(n: i64) -> u64
 pub fn place_of(n: i64) -> i64
     ensures { result ≡ place_of n }
 {
-    if n < 0 { n.max(-100_000) } else { n.min(100_000) }
+    if n < 0 {
+        n.max(-100_000)
+    } else {
+        n.min(100_000)
+    }
 }
 
 /// A length as the number that an answer has.

@@ -2,7 +2,7 @@
 //! other. They stand between parts and the track rule.
 ghost use Rattle.std.specs.Prelude.{◌≡◌, ℕ, ◌+◌, ◌-◌, ◌^◌, ◌<◌, ◌≤◌, List, ◌∷◌, length, map, min, sum};
 ghost use Rattle.fx_share.specs.Levels.{filled, levelled};
-ghost use Rattle.fx_panes_parts.specs.Parts.{room_in};
+ghost use Rattle.fx_panes_parts.specs.Parts.{rooms};
 ghost use Rattle.fx_panes_parts.specs.Shares.{ShareIsShare, level_of, share_of};
 
 use crate::axes::Axis;
@@ -12,8 +12,8 @@ use crate::parted::{Parted, Room, room_in};
 /// The level that shares a total out over the room of these parts, in some twenty passes over them.
 pub fn level_for<T: Parted>(total: u64, room: Room, axis: Axis, parts: &[T]) -> Level
     requires { total < 2 ^ 63 }
-    ensures { levelled result.level result.more (map (λ part. room_in room (T.part_along axis part)) parts.now)
-        ≡ share_of total (map (λ part. room_in room (T.part_along axis part)) parts.now) }
+    ensures { levelled result.level result.more (rooms room (map (T.part_along axis) parts.now))
+        ≡ share_of total (rooms room (map (T.part_along axis) parts.now)) }
 {
     let level = level_of(total, room, axis, parts);
     Level {
@@ -26,7 +26,7 @@ pub fn level_for<T: Parted>(total: u64, room: Room, axis: Axis, parts: &[T]) -> 
 pub fn given<T: Parted>(mut level: Level, room: Room, axis: Axis, parts: &[T]) -> u64
     requires { length parts.now ≤ 4096 }
     ensures { result ≡ sum (levelled level.level level.more
-        (map (λ part. room_in room (T.part_along axis part)) parts.now)) }
+        (rooms room (map (T.part_along axis) parts.now))) }
 {
     let mut sum = 0;
     for part in parts {
@@ -43,7 +43,7 @@ pub fn share_law()
 /// The greatest level up to which the total fills the room of the parts, but the longest length at most.
 fn level_of<T: Parted>(total: u64, room: Room, axis: Axis, parts: &[T]) -> u32
     requires { total < 2 ^ 63 }
-    ensures value { result ≡ level_of total (map (λ part. room_in room (T.part_along axis part)) parts.now) }
+    ensures value { result ≡ level_of total (rooms room (map (T.part_along axis) parts.now)) }
     ensures most { result ≤ 100000 }
 {
     let mut low: u32 = 0;
@@ -62,7 +62,7 @@ fn level_of<T: Parted>(total: u64, room: Room, axis: Axis, parts: &[T]) -> u32
 /// How much room the parts have below the level, or `u64::MAX` where that is less.
 fn taken<T: Parted>(level: u64, room: Room, axis: Axis, parts: &[T]) -> u64
     ensures { result
-        ≡ min (filled level (map (λ part. room_in room (T.part_along axis part)) parts.now)) (2 ^ 64 - 1) }
+        ≡ min (filled level (rooms room (map (T.part_along axis) parts.now))) (2 ^ 64 - 1) }
 {
     let mut sum: u64 = 0;
     for part in parts {

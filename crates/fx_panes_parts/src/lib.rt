@@ -11,7 +11,9 @@ mod parts;
 mod sizes;
 mod tracks;
 
-pub use axes::{Axis, ChildAxis, Extent, OwnLengths, PaneAxis, Span, child_axis, joined, pane_axis, rect_of};
+pub use axes::{
+    Axis, ChildAxis, Extent, OwnLengths, PaneAxis, Span, child_axis, joined, pane_axis, rect_of,
+};
 pub use lengths::{aligned, end_of, length_of, pixels, place_of};
 pub use level::Level;
 pub use levels::{given, level_for, share_law};

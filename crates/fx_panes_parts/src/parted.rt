@@ -4,10 +4,9 @@ ghost use Rattle.std.specs.Prelude.{◌≡◌, ◌^◌, ◌<◌};
 ghost use Rattle.fx_panes_parts.specs.Axes.{IsChildAxis, child_axis};
 ghost use Rattle.fx_panes_parts.specs.Parts.{part_of, room_in};
 
-use fx_base::ChildSize;
-
 use crate::axes::{Axis, ChildAxis, child_axis};
 use crate::parts::Part;
+use fx_base::ChildSize;
 
 /// What a length is shared over: what is lacking over the room down to the minimum, what is left over the room up
 /// to the maximum of the parts that have the priority of this number.
@@ -67,7 +66,9 @@ pub fn room_in(room: Room, part: Part) -> u64
 {
     match room {
         Room::Below => u64::from(part.pref.saturating_sub(part.min)),
-        Room::Above(priority) if part.priority == priority => u64::from(part.max.saturating_sub(part.pref)),
+        Room::Above(priority) if part.priority == priority => u64::from(
+            part.max.saturating_sub(part.pref),
+        ),
         Room::Above(_) => 0,
     }
 }

@@ -65,7 +65,11 @@ fn preferred(own: i64, computed: u64) -> u64
     ensures value { result ≡ preferred own computed }
     ensures most { result ≤ longest }
 {
-    if own < 0 { computed.min(100_000) } else { length_of(own) }
+    if own < 0 {
+        computed.min(100_000)
+    } else {
+        length_of(own)
+    }
 }
 
 /// A minimum or maximum of the look, which is the preferred length for -Infinity.

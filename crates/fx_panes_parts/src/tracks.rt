@@ -73,7 +73,7 @@ impl Plan {
 /// The preferred lengths of all parts together.
 pub fn wanted<T: Parted>(axis: Axis, parts: &[T]) -> u64
     requires { length parts.now ≤ 4096 }
-    ensures value { result ≡ sum_by (λ part. (T.part_along axis part).pref) parts.now }
+    ensures value { result ≡ sum_by (λ part. part.pref) (map (T.part_along axis) parts.now) }
     ensures most { result ≤ 2 ^ 32 * length parts.now }
 {
     let mut sum = 0;

@@ -1,2 +1,3 @@
+pub mod PaneLemmas
 pub mod ShareLemmas
 pub mod TrackLemmas

@@ -1,14 +1,16 @@
 -- One part after the other gets its length by a plan.
-use Rattle.std.proofs.Common.{◌≡◌, ℕ, ◌+◌, ◌-◌, ◌≤◌, List, [], ◌∷◌, arith, drop, length, map, refl, subst, sum, sum_by}
-use Rattle.std.proofs.lemmas.List.{drop_all}
-use Rattle.fx_share.specs.Levels.{levelled}
+use Rattle.std.proofs.Common.{◌≡◌, ℕ, suc, true, false, cond, ◌+◌, ◌-◌, ◌≤◌, ◌∙◌, ap, List, [], ◌∷◌, arith, drop, length, map, refl, subst, sum, sum_by}
+use Rattle.std.specs.Prelude.{nat_le, nat_lt}
+use Rattle.std.proofs.lemmas.List.{drop_all, length-map}
+use Rattle.fx_share.specs.Levels.{filled, levelled}
+use Rattle.fx_panes_parts.specs.declared.parted.Room.{Room}
 use Rattle.fx_panes_parts.specs.declared.parted.Room.TheVariants.{Above, Below}
 use Rattle.fx_panes_parts.specs.declared.parts.Part.{Part}
 use Rattle.fx_panes_parts.specs.declared.level.Level.{Level}
 use Rattle.fx_panes_parts.specs.declared.tracks.Plan.{Plan}
 use Rattle.fx_panes_parts.specs.Parts.{room_in, rooms}
-use Rattle.fx_panes_parts.specs.Shares.{share_of}
-use Rattle.fx_panes_parts.specs.Tracks.{lengths_by, tracked}
+use Rattle.fx_panes_parts.specs.Shares.{level_of, share_of}
+use Rattle.fx_panes_parts.specs.Tracks.{lengthened, lengths_by, tracked}
 
 -- a level gives so much to a cap, and is then this one
 abbrev pub Gives : Level → ℕ → ℕ → Level → Type 0
@@ -59,3 +61,39 @@ whole_ends plan f parts i so_far whole past same =
     let ends : so_far + sum (lengths_by plan []) ≡ whole = rw none at same in
     let last : so_far + 0 ≡ whole = rw no_lengths at ends in
     omega (arith, last)
+
+length-levelled : (level more : ℕ) (caps : List ℕ) → length (levelled level more caps) ≡ length caps
+length-levelled level more [] = refl
+length-levelled level more (cap ∷ caps) =
+    elim (nat_le cap level) as (λ b. length (cond b (cap ∷ levelled level more caps)
+      (cond (nat_lt 0 more) ((level + 1) ∷ levelled level (more - 1) caps) (level ∷ levelled level more caps))) ≡ suc (length caps)) [
+      | true ↦ ap suc (length-levelled level more caps)
+      | false ↦
+          elim (nat_lt 0 more) as (λ b. length (cond b ((level + 1) ∷ levelled level (more - 1) caps) (level ∷ levelled level more caps)) ≡ suc (length caps)) [
+            | true ↦ ap suc (length-levelled level (more - 1) caps)
+            | false ↦ ap suc (length-levelled level more caps)
+          ]
+    ]
+
+pub length-share_of : (total : ℕ) (caps : List ℕ) → length (share_of total caps) ≡ length caps
+unfolding share_of
+length-share_of total caps = length-levelled (level_of total caps) (total - filled (level_of total caps) caps) caps
+
+length-lengthened : (parts : List Part) (less always sometimes : List ℕ)
+    → length less ≡ length parts → length always ≡ length parts → length sometimes ≡ length parts
+    → length (lengthened parts less always sometimes) ≡ length parts
+length-lengthened [] less always sometimes one two three = refl
+length-lengthened (p ∷ ps) [] always sometimes one two three = absurd (omega (arith, one))
+length-lengthened (p ∷ ps) (l ∷ ls) [] sometimes one two three = absurd (omega (arith, two))
+length-lengthened (p ∷ ps) (l ∷ ls) (a ∷ rest) [] one two three = absurd (omega (arith, three))
+length-lengthened (p ∷ ps) (l ∷ ls) (a ∷ rest) (s ∷ ss) one two three =
+    ap suc (length-lengthened ps ls rest ss (omega (arith, one)) (omega (arith, two)) (omega (arith, three)))
+
+-- each part has a length
+pub length-tracked : (room : ℕ) (parts : List Part) → length (tracked room parts) ≡ length parts
+unfolding tracked
+length-tracked room parts =
+    length-lengthened parts _ _ _ (one _ Below) (one _ (Above 2)) (one _ (Above 1))
+  where
+    one : (total : ℕ) (room : Room) → length (share_of total (rooms room parts)) ≡ length parts
+    one total room = length-share_of total (rooms room parts) ∙ length-map parts (room_in room)

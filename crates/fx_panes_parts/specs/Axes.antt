@@ -1,6 +1,6 @@
 -- A pane and a child along one axis. A `Pos` p is numbered by rows of three: it aligns as p % 3 across and p / 3 down.
 -- Cited by src/axes.rt and by every pane.
-use Rattle.std.specs.Prelude.{ℕ, ◌≤◌, ◌/◌, ◌%◌}
+use Rattle.std.specs.Prelude.{ℕ, ◌+◌, ◌-◌, ◌*◌, ◌≤◌, ◌/◌, ◌%◌, List, length, map}
 use Rattle.std.specs.Option.{option_map}
 use Rattle.fx_base.specs.declared.facts.ChildSize.{ChildSize}
 use Rattle.fx_base.specs.declared.facts.PaneFacts.{PaneFacts}
@@ -55,6 +55,10 @@ child_axis Down c = record {
   layout = c.layout_y;
 }
 
+-- the children along an axis
+abbrev pub along : Axis → List ChildSize → List ChildAxis
+along axis children = map (child_axis axis) children
+
 -- a pane along an axis
 unfoldable pub pane_axis : Axis → PaneFacts → PaneAxis
 pane_axis Across p = record {
@@ -90,6 +94,18 @@ pub record IsPaneAxis (p : PaneAxis) : Type 0 where
   pub after : p.after ≤ longest
   pub spacing : p.spacing ≤ longest
   pub gap : p.gap ≤ longest
+
+-- the insets before and behind the content
+abbrev pub insets : PaneAxis → ℕ
+insets pane = pane.before + pane.after
+
+-- the length of the content of a pane of this length
+abbrev pub content : PaneAxis → ℕ → ℕ
+content pane length = length - insets pane
+
+-- the gaps between so many parts
+abbrev pub gaps : ℕ → ℕ → ℕ
+gaps gap count = gap * (count - 1)
 
 -- the sizes of the extents along the two axes
 abbrev pub joined : Extent → Extent → Sizes

@@ -1,5 +1,6 @@
 pub mod Axes
 pub mod Lengths
+pub mod Panes
 pub mod Parts
 pub mod Shares
 pub mod Sizes

@@ -1,6 +1,6 @@
 -- The parts of a length, and how much longer or shorter each may become.
 -- Cited by src/parted.rt and by the track rule.
-use Rattle.std.specs.Prelude.{ℕ, ◌+◌, ◌-◌, ◌==◌, List, map, if◌then◌else◌, unwrap_or}
+use Rattle.std.specs.Prelude.{ℕ, ◌+◌, ◌-◌, ◌==◌, List, [], ◌∷◌, map, max, if◌then◌else◌, unwrap_or}
 use Rattle.fx_panes_parts.specs.declared.axes.ChildAxis.{ChildAxis}
 use Rattle.fx_panes_parts.specs.declared.parted.Room.{Room}
 use Rattle.fx_panes_parts.specs.declared.parted.Room.TheVariants.{Above, Below}
@@ -27,3 +27,8 @@ room_in (Above priority) part = if part.priority == priority then part.max - par
 -- of each part, in order
 abbrev pub rooms : Room → List Part → List ℕ
 rooms room parts = map (room_in room) parts
+
+-- the greatest of these lengths, or 0
+abbrev pub greatest_of : List ℕ → ℕ
+greatest_of [] = 0
+greatest_of (length ∷ lengths) = max length (greatest_of lengths)

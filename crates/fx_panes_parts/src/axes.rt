@@ -1,8 +1,8 @@
 //! A pane and its children along one axis. A pane's rule is one rule for both axes: it is written over these
 //! types, and what it answers for each axis is joined at the end.
-ghost use Rattle.std.specs.Prelude.{◌≡◌, ◌/◌, ◌%◌};
+ghost use Rattle.std.specs.Prelude.{◌≡◌, ◌*◌, ◌/◌, ◌%◌, ◌≤◌};
 ghost use Rattle.std.specs.Option.{option_map};
-ghost use Rattle.fx_panes_parts.specs.Axes.{IsChildAxis, IsPaneAxis, child_axis, joined, pane_axis, rect_of};
+ghost use Rattle.fx_panes_parts.specs.Axes.{IsChildAxis, IsPaneAxis, child_axis, content, gaps, insets, joined, pane_axis, rect_of};
 
 use crate::lengths::{length_of, pixels};
 use fx_base::{ChildSize, PaneFacts, Rect, Sizes};
@@ -91,6 +91,34 @@ pub fn pane_axis(axis: Axis, pane: &PaneFacts) -> PaneAxis
         Axis::Across => pane_across(pane),
         Axis::Down => pane_down(pane),
     }
+}
+
+/// The insets before and behind the content.
+pub fn insets(pane: &PaneAxis) -> u64
+    requires { IsPaneAxis pane.now }
+    ensures value { result ≡ insets pane.now }
+    ensures most { result ≤ 200000 }
+{
+    pane.before + pane.after
+}
+
+/// The length of the content of a pane that has this length.
+pub fn content(pane: &PaneAxis, length: u64) -> u64
+    requires { IsPaneAxis pane.now }
+    ensures value { result ≡ content pane.now length }
+    ensures most { result ≤ length }
+{
+    length.saturating_sub(insets(pane))
+}
+
+/// The gaps between so many parts.
+pub fn gaps(gap: u64, count: usize) -> u64
+    requires gap { gap ≤ 100000 }
+    requires count { count ≤ 4096 }
+    ensures value { result ≡ gaps gap count }
+    ensures most { result ≤ 100000 * 4096 }
+{
+    gap * count.saturating_sub(1) as u64
 }
 
 /// Sizes of the extents along the two axes.

@@ -2,6 +2,7 @@
 //! those that grow sometimes; what is lacking is taken off all. It stands above shares, below rows and grids.
 ghost use Rattle.std.specs.Prelude.{◌≡◌, ℕ, ◌+◌, ◌*◌, ◌^◌, ◌<◌, ◌≤◌, List, ◌∷◌, length, map, sum, sum_by};
 ghost use Rattle.fx_panes_parts.specs.declared.parts.Part.{Part};
+ghost use Rattle.fx_panes_parts.specs.Parts.{greatest_of};
 ghost use Rattle.fx_panes_parts.specs.Tracks.{lengths_by, tracked};
 
 use crate::axes::Axis;
@@ -81,4 +82,41 @@ pub fn wanted<T: Parted>(axis: Axis, parts: &[T]) -> u64
         sum += u64::from(part.part(axis).pref);
     }
     sum
+}
+
+/// The minimum lengths of all parts together.
+pub fn needed<T: Parted>(axis: Axis, parts: &[T]) -> u64
+    requires { length parts.now ≤ 4096 }
+    ensures value { result ≡ sum_by (λ part. part.min) (map (T.part_along axis) parts.now) }
+    ensures most { result ≤ 2 ^ 32 * length parts.now }
+{
+    let mut sum = 0;
+    for part in parts {
+        sum += u64::from(part.part(axis).min);
+    }
+    sum
+}
+
+/// The greatest minimum length of the parts, or 0.
+pub fn greatest_min<T: Parted>(axis: Axis, parts: &[T]) -> u64
+    ensures value { result ≡ greatest_of (map (λ part. part.min) (map (T.part_along axis) parts.now)) }
+    ensures most { result < 2 ^ 32 }
+{
+    let mut most = 0;
+    for part in parts {
+        most = u64::from(part.part(axis).min).max(most);
+    }
+    most
+}
+
+/// The greatest preferred length of the parts, or 0.
+pub fn greatest_pref<T: Parted>(axis: Axis, parts: &[T]) -> u64
+    ensures value { result ≡ greatest_of (map (λ part. part.pref) (map (T.part_along axis) parts.now)) }
+    ensures most { result < 2 ^ 32 }
+{
+    let mut most = 0;
+    for part in parts {
+        most = u64::from(part.part(axis).pref).max(most);
+    }
+    most
 }

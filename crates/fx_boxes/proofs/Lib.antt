@@ -1,0 +1,4 @@
+pub mod ControlLemmas
+pub mod Outcomes
+pub mod PaneRects
+pub mod RowLemmas

@@ -1,0 +1,7 @@
+use Rattle.fx_panes_parts.proofs.PaneLemmas.{across_first}
+use Rattle.fx_boxes.specs.Rows.{beside_extent, beside_spans, row_extent, row_spans}
+use Rattle.fx_boxes.proofs.RowLemmas.{one_each_beside, one_each_row}
+use Rattle.fx_boxes.proofs.hbox.across_first.Goals as goal
+
+pub returns : goal.returns
+returns c = across_first row_extent beside_extent row_spans beside_spans one_each_row one_each_beside

@@ -1,0 +1,4 @@
+pub mod Controls
+pub mod Panes
+pub mod Regions
+pub mod Rows

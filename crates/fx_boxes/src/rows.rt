@@ -1,0 +1,164 @@
+//! Rows of children along either axis, and what stands beside them: HBox and VBox in one.
+//! It stands on the track rule, below the two panes.
+ghost use Rattle.std.specs.Prelude.{◌≡◌, ◌+◌, ◌*◌, ◌^◌, ◌<◌, ◌≤◌, List, ◌∷◌, IfOk, length};
+ghost use Rattle.std.specs.Simd.Lanes.{zip2};
+ghost use Rattle.fx_boxes.specs.Rows.{beside_extent, beside_span, beside_spans, other, rect_along, row_extent, row_spans, span_at, spans_by};
+ghost use Rattle.fx_panes_parts.specs.declared.axes.ChildAxis.{ChildAxis};
+ghost use Rattle.fx_panes_parts.specs.Axes.{IsChildAxis, IsPaneAxis, along, child_axis, content, gaps, pane_axis};
+
+use fx_base::{ChildSize, PaneFacts, Rect};
+use fx_panes_parts::{
+    Axis, ChildAxis, Extent, PaneAxis, Plan, Span, aligned, child_axis, content, filled_length,
+    gaps, greatest_min, greatest_pref, in_area, insets, needed, pane_axis, pane_extent, part_of,
+    pixels, plan_for, rect_of, wanted,
+};
+use std::alloc::{AllocError, Global};
+
+/// A row of which some children have been placed: how the others come to their lengths, and where the next begins.
+#[derive(Clone, Copy, PartialEq, Eq, Debug)]
+pub(crate) struct Row {
+    plan: Plan,
+    at: u64,
+    spacing: u64,
+}
+
+/// The sizes of a pane along the axis of its row.
+pub(crate) fn row_extent(axis: Axis, pane: &PaneFacts, children: &[ChildSize]) -> Extent
+    requires { length children.now ≤ 4096 }
+    ensures { result ≡ row_extent (pane_axis axis pane.now) (along axis children.now) }
+{
+    let facts = pane_axis(axis, pane);
+    let rest = insets(&facts) + gaps(facts.spacing, children.len());
+    pane_extent(
+        facts.own,
+        rest + needed(axis, children),
+        rest + wanted(axis, children),
+    )
+}
+
+/// The sizes of a pane along the axis beside its row.
+pub(crate) fn beside_extent(axis: Axis, pane: &PaneFacts, children: &[ChildSize]) -> Extent
+    ensures { result ≡ beside_extent (pane_axis axis pane.now) (along axis children.now) }
+{
+    let facts = pane_axis(axis, pane);
+    let around = insets(&facts);
+    pane_extent(
+        facts.own,
+        around + greatest_min(axis, children),
+        around + greatest_pref(axis, children),
+    )
+}
+
+/// The rectangles of the children of a row of this axis, in a pane that is so long along it and so long beside it.
+pub(crate) fn row_rects(
+    alloc: Global,
+    axis: Axis,
+    pane: &PaneFacts,
+    children: &[ChildSize],
+    length_along: u64,
+    length_beside: u64,
+) -> Result<Vec<Rect>, AllocError>
+    requires few { length children.now ≤ 4096 }
+    requires along { length_along ≤ 100000 }
+    requires beside { length_beside ≤ 100000 }
+    ensures { IfOk result (λ rects. rects.items ≡ zip2 (rect_along axis)
+        (row_spans (pane_axis axis pane.now) (along axis children.now) length_along)
+        (beside_spans (pane_axis (other axis) pane.now) (along (other axis) children.now) length_beside)) }
+{
+    let facts = pane_axis(other(axis), pane);
+    let mut row = row_for(axis, &pane_axis(axis, pane), children, length_along);
+    let mut rects = Vec::with_capacity(alloc, children.len())?;
+    for child in children {
+        let along = row.next(&child_axis(axis, child));
+        let beside = beside_span(&facts, length_beside, &child_axis(other(axis), child));
+        rects.push(rect_along(axis, along, beside))?;
+    }
+    Ok(rects)
+}
+
+/// The row before any child has been placed.
+fn row_for(axis: Axis, pane: &PaneAxis, children: &[ChildSize], length_along: u64) -> Row
+    requires pane { IsPaneAxis pane.now }
+    requires few { length children.now ≤ 4096 }
+    requires long { length_along ≤ 100000 }
+    ensures spans { spans_by result (along axis children.now) ≡ row_spans pane.now (along axis children.now) length_along }
+    ensures at { result.at ≤ 2 ^ 18 }
+    ensures spacing { result.spacing ≤ 100000 }
+{
+    let space = content(pane, length_along);
+    let between = gaps(pane.spacing, children.len());
+    let plan = plan_for(space.saturating_sub(between), axis, children);
+    let used = plan.whole(axis, children) + between;
+    Row {
+        plan,
+        at: pane.before + aligned(pane.alignment, used, space),
+        spacing: pane.spacing,
+    }
+}
+
+impl Row {
+    /// Where the next child stands along the row.
+    fn next(&mut self, child: &ChildAxis) -> Span
+        requires child { IsChildAxis child.now }
+        requires at { self.old.at < 2 ^ 60 }
+        requires spacing { self.old.spacing ≤ 100000 }
+        ensures next { (children : List ChildAxis) → spans_by self.old (child.now ∷ children)
+            ≡ result ∷ spans_by self.new children }
+        ensures at { self.new.at ≤ self.old.at + 2 ^ 35 }
+        ensures spacing { self.new.spacing ≡ self.old.spacing }
+    {
+        let length = self.plan.next(part_of(child));
+        let span = span_at(self.at, child, length);
+        self.at += length + self.spacing;
+        span
+    }
+}
+
+/// Where a child stands that begins at a place and has this length, both with its margins.
+fn span_at(at: u64, child: &ChildAxis, outer_length: u64) -> Span
+    requires at { at < 2 ^ 60 }
+    requires child { IsChildAxis child.now }
+    ensures { result ≡ span_at at child.now outer_length }
+{
+    Span {
+        start: pixels(at + child.before),
+        length: outer_length.saturating_sub(child.before + child.after),
+    }
+}
+
+/// Where a child stands beside the row, in a pane of this length.
+#[tactic(auto, unfolding(crate::specs::Rows::beside_span))]
+fn beside_span(pane: &PaneAxis, length_beside: u64, child: &ChildAxis) -> Span
+    requires pane { IsPaneAxis pane.now }
+    requires long { length_beside ≤ 100000 }
+    requires child { IsChildAxis child.now }
+    ensures { result ≡ beside_span pane.now length_beside child.now }
+{
+    let space = content(pane, length_beside);
+    let room = space.saturating_sub(child.before + child.after);
+    in_area(
+        pane.alignment,
+        pane.before,
+        space,
+        child,
+        filled_length(pane.fill, child.extent, room),
+    )
+}
+
+fn rect_along(axis: Axis, along: Span, beside: Span) -> Rect
+    ensures { result ≡ rect_along axis along beside }
+{
+    match axis {
+        Axis::Across => rect_of(along, beside),
+        Axis::Down => rect_of(beside, along),
+    }
+}
+
+fn other(axis: Axis) -> Axis
+    ensures { result ≡ other axis }
+{
+    match axis {
+        Axis::Across => Axis::Down,
+        Axis::Down => Axis::Across,
+    }
+}

@@ -8,3 +8,6 @@ pub mod pane;
 pub mod region;
 mod rows;
 pub mod vbox;
+
+#[cfg(test)]
+mod tests;

@@ -70,11 +70,38 @@ level_found total level caps within enough greatest =
           lt-leb (filled k caps) total (omega (arith, below, filled-rises (level + 1) k caps (omega (arith, over))))
     ])
 
-pub search_ends : (total low high : ℕ) (caps : List ℕ) → low ≤ high → high ≤ low → high ≤ 100000 → filled low caps ≤ total
-    → (high ≡ 100000) ⊎ (total < filled (high + 1) caps) → low ≡ level_of total caps
+pub search_ends : (total low high : ℕ) (caps : List ℕ) → low ≤ high → high ≤ low → high < 100000 → filled low caps ≤ total
+    → total < filled (high + 1) caps → low ≡ level_of total caps
 search_ends total low high caps order met within enough greatest =
     let same : high ≡ low = omega (arith, order, met) in
-    sym (level_found total low caps (omega (arith, order, within)) enough (rw same at greatest))
+    sym (level_found total low caps (omega (arith, order, within)) enough (inr (rw same at greatest)))
+
+-- where the total fills all caps, the level is the greatest that there is
+pub all_filled : (total : ℕ) (caps : List ℕ) → total < 2 ^ 63 → min (filled 100000 caps) (2 ^ 64 - 1) ≤ total
+    → 100000 ≡ level_of total caps
+all_filled total caps small enough =
+    sym (level_found total 100000 caps (omega arith) (omega (arith, small, enough)) (inl refl))
+
+levelled-none : (level more : ℕ) (caps : List ℕ) → filled level caps ≡ 0 → more ≡ 0 → levelled 0 0 caps ≡ levelled level more caps
+levelled-none level more [] empty none = refl
+levelled-none level more (cap ∷ caps) empty none =
+    elim (cases_lt 0 cap) [
+      | inl some ↦ 
+          let low : level ≡ 0 = omega (arith, empty, some) in
+          sym (ap (λ (n : ℕ). levelled n more (cap ∷ caps)) low ∙ ap (λ (n : ℕ). levelled 0 n (cap ∷ caps)) none)
+      | inr no_cap ↦
+          rw (le-leb cap 0 no_cap, le-leb cap level (omega (arith, no_cap)))
+          (ap (λ (l : List ℕ). cap ∷ l) (levelled-none level more caps (omega (arith, empty)) none))
+    ]
+
+-- a share of nothing gives nothing
+pub share_of_none : (total : ℕ) (caps : List ℕ) → total ≡ 0 → levelled 0 0 caps ≡ share_of total caps
+unfolding level_of share_of
+share_of_none total caps none =
+    let test : ℕ → Bool = λ n. nat_le (filled n caps) total in
+    let enough : filled (greatest test longest) caps ≤ total =
+      leb-true _ _ (greatest_passes test longest (le-leb (filled 0 caps) total (omega (arith, filled-zero caps)))) in
+    levelled-none (greatest test longest) _ caps (omega (arith, enough, none)) (omega (arith, none))
 
 -- what is left above the level goes to the first of the caps that are above it
 pub share_given : (total level wide more : ℕ) (caps : List ℕ) → total < 2 ^ 63 → level ≡ level_of total caps → wide ≡ level

@@ -9,12 +9,15 @@ use crate::axes::Axis;
 use crate::level::Level;
 use crate::parted::{Parted, Room, room_in};
 
-/// The level that shares a total out over the room of these parts, in some twenty passes over them.
+/// The level that shares a total out over the room of these parts, in some twenty passes over them at most.
 pub fn level_for<T: Parted>(total: u64, room: Room, axis: Axis, parts: &[T]) -> Level
     requires { total < 2 ^ 63 }
     ensures { levelled result.level result.more (rooms room (map (T.part_along axis) parts.now))
         ≡ share_of total (rooms room (map (T.part_along axis) parts.now)) }
 {
+    if total == 0 {
+        return Level { level: 0, more: 0 };
+    }
     let level = level_of(total, room, axis, parts);
     Level {
         level,
@@ -46,8 +49,11 @@ fn level_of<T: Parted>(total: u64, room: Room, axis: Axis, parts: &[T]) -> u32
     ensures value { result ≡ level_of total (rooms room (map (T.part_along axis) parts.now)) }
     ensures most { result ≤ 100000 }
 {
+    if taken(100_000, room, axis, parts) <= total {
+        return 100_000;
+    }
     let mut low: u32 = 0;
-    let mut high: u32 = 100_000;
+    let mut high: u32 = 99_999;
     while low < high {
         let middle = high - (high - low) / 2;
         if taken(u64::from(middle), room, axis, parts) <= total {

@@ -31,9 +31,9 @@ pub length-placed : (xs ys : PaneAxis → List ChildAxis → ℕ → List Span) 
     → (p : PaneFacts) (cs : List ChildSize) (w h : ℕ) → length (placed xs ys p cs w h) ≡ length cs
 length-placed xs ys one_across one_down p cs w h =
     let first : length (xs (pane_axis Across p) (along Across cs) w) ≡ length cs =
-      one_across (pane_axis Across p) (along Across cs) w ∙ length-map cs (child_axis Across) in
+    one_across (pane_axis Across p) (along Across cs) w ∙ length-map cs (child_axis Across) in
     let second : length (ys (pane_axis Down p) (along Down cs) h) ≡ length cs =
-      one_down (pane_axis Down p) (along Down cs) h ∙ length-map cs (child_axis Down) in
+    one_down (pane_axis Down p) (along Down cs) h ∙ length-map cs (child_axis Down) in
     length-zip2 rect_of _ _ (first ∙ sym second) ∙ first
 
 pub across_first : (widths heights : PaneAxis → List ChildAxis → Extent)
@@ -43,7 +43,7 @@ across_first widths heights xs ys one_across one_down =
     record {
       widths = λ p q cs ds same_pane same_children. rw (same_pane, same_children) refl;
       spans = λ p q cs ds same_pane same_children w h k.
-      half p cs w h ∙ (rw (same_pane, same_children) refl ∙ sym (half q ds w k));
+          half p cs w h ∙ (rw (same_pane, same_children) refl ∙ sym (half q ds w k));
     }
   where
     half : (p : PaneFacts) (cs : List ChildSize) (w h : ℕ)

@@ -86,7 +86,7 @@ levelled-none : (level more : ℕ) (caps : List ℕ) → filled level caps ≡ 0
 levelled-none level more [] empty none = refl
 levelled-none level more (cap ∷ caps) empty none =
     elim (cases_lt 0 cap) [
-      | inl some ↦ 
+      | inl some ↦
           let low : level ≡ 0 = omega (arith, empty, some) in
           sym (ap (λ (n : ℕ). levelled n more (cap ∷ caps)) low ∙ ap (λ (n : ℕ). levelled 0 n (cap ∷ caps)) none)
       | inr no_cap ↦
@@ -100,7 +100,7 @@ unfolding level_of share_of
 share_of_none total caps none =
     let test : ℕ → Bool = λ n. nat_le (filled n caps) total in
     let enough : filled (greatest test longest) caps ≤ total =
-      leb-true _ _ (greatest_passes test longest (le-leb (filled 0 caps) total (omega (arith, filled-zero caps)))) in
+    leb-true _ _ (greatest_passes test longest (le-leb (filled 0 caps) total (omega (arith, filled-zero caps)))) in
     levelled-none (greatest test longest) _ caps (omega (arith, enough, none)) (omega (arith, none))
 
 -- what is left above the level goes to the first of the caps that are above it

@@ -66,7 +66,7 @@ length-levelled : (level more : ℕ) (caps : List ℕ) → length (levelled leve
 length-levelled level more [] = refl
 length-levelled level more (cap ∷ caps) =
     elim (nat_le cap level) as (λ b. length (cond b (cap ∷ levelled level more caps)
-      (cond (nat_lt 0 more) ((level + 1) ∷ levelled level (more - 1) caps) (level ∷ levelled level more caps))) ≡ suc (length caps)) [
+    (cond (nat_lt 0 more) ((level + 1) ∷ levelled level (more - 1) caps) (level ∷ levelled level more caps))) ≡ suc (length caps)) [
       | true ↦ ap suc (length-levelled level more caps)
       | false ↦
           elim (nat_lt 0 more) as (λ b. length (cond b ((level + 1) ∷ levelled level (more - 1) caps) (level ∷ levelled level more caps)) ≡ suc (length caps)) [

@@ -12,7 +12,8 @@ mod sizes;
 mod tracks;
 
 pub use axes::{
-    Axis, ChildAxis, Extent, OwnLengths, PaneAxis, Span, child_axis, content, gaps, insets, joined, pane_axis, rect_of,
+    Axis, ChildAxis, Extent, OwnLengths, PaneAxis, Span, child_axis, content, gaps, insets, joined,
+    pane_axis, rect_of,
 };
 pub use lengths::{aligned, end_of, length_of, pixels, place_of};
 pub use level::Level;
@@ -21,3 +22,6 @@ pub use parted::{Parted, Room, part_of, room_in};
 pub use parts::Part;
 pub use sizes::{control_extent, filled_length, held, in_area, pane_extent};
 pub use tracks::{Plan, greatest_min, greatest_pref, needed, plan_for, wanted};
+
+#[cfg(test)]
+mod tests;

@@ -13,7 +13,7 @@ returns-then-taken-total-clause-value g c =
 pub loop-low-init : goal.loop-low-init
 loop-low-init g c =
     let over : c.args.total < min (filled 100000 (rooms c.args.room (map (g.T.Parted.part_along c.args.axis) c.args.parts.now))) (2 ^ 64 - 1) =
-      rw c.taken.ensures at c.if-taken-total.false in
+    rw c.taken.ensures at c.if-taken-total.false in
     record {
       order = omega arith;
       most = omega arith;

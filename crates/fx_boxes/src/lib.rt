@@ -7,7 +7,6 @@ pub mod hbox;
 pub mod pane;
 pub mod region;
 mod rows;
-pub mod vbox;
-
 #[cfg(test)]
 mod tests;
+pub mod vbox;

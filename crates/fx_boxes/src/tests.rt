@@ -1,10 +1,10 @@
 //! Rows of children against tables: the first four rows by hand, the others by another program.
 //! They stand beside the panes, and are read only for the tests.
-ghost use Rattle.std.specs.Prelude.{◌≡◌};
+ghost use Rattle.std.specs.Prelude.{◌≡◌, ◌≤◌, length};
 
 use crate::{control, hbox, pane, region, vbox};
-use fx_base::{ChildSize, Ledgers, List, PaneFacts, Sides, Sizes, Text, Work};
-use std::alloc::Global;
+use fx_base::{ChildSize, Ledgers, List, PaneFacts, Rect, Sides, Sizes, Text, Work};
+use std::alloc::{AllocError, Global};
 use std::marker::Brand;
 use std::process::Abort;
 use std::sync::ledger::Blank;
@@ -18,37 +18,17 @@ const ROWS: &str = "\
     H|-1 10 -1 -1 1 -1 0 0 0 0 0 0 1 1 10 1|0 0 2 0 0 100000 0 0 0 0 2 -1 0 0 0 0 100000 0 0 100000 0 0 0 0 2 -1 0 0 0 0 100000 0 0 100000 0 0 0 0 2 -1 0 0|0 10 100000 0 1 100000 0 0 2 1 2 0 4 1 6 0 4 1;\
     H|-1 -1 -1 -1 -1 -1 0 0 0 0 0 0 1 1 4 1|3 3 100000 0 0 100000 0 0 0 0 -1 -1 0 0 3 3 100000 0 0 100000 0 0 0 0 -1 -1 0 0|6 6 100000 0 0 100000 0 0 3 1 3 0 3 1;\
     V|-1 -1 -1 -1 -1 -1 0 0 0 0 0 0 1 1 1 5|0 0 100000 0 4 100000 0 0 0 0 -1 -1 0 0 0 0 100000 0 4 100000 0 0 0 0 -1 -1 0 0|0 0 100000 0 8 100000 0 0 1 2 0 2 1 3;\
-    H|4 -1 20 -1 -1 -1 1 0 0 0 1 2 1 0 3 0|0 0 8 0 0 8 0 2 0 0 1 -1 0 0 0 1 3 0 2 100000 -3 0 2 0 2 -1 0 0 5 8 13 3 5 13 0 -3 0 0 2 0 0 0|4 15 20 4 6 100000 0 1 0 0 4 1 0 0 6 1 5 3;\
-    H|200000 4 200000 0 -1 -1 3 0 1 0 7 2 0 0 30 30|5 5 100000 0 13 13 0 1 -3 -3 -1 -1 0 0 3 3 100000 0 5 8 0 0 2 0 1 -1 0 0 1 2 100000 2 8 8 0 0 1 1 2 0 0 0 1 3 100000 5 8 8 0 0 0 0 -1 2 0 0|100000 100000 100000 0 17 100000 0 16 5 13 8 22 3 5 14 20 11 8 27 21 3 8;\
     H|-9223372036854775808 -1 200000 -1 0 0 0 0 3 1 5 0 0 1 60 30|8 8 8 0 8 13 0 0 1 0 -1 0 0 0 0 0 100000 0 1 100000 0 0 0 2 1 -1 0 0|11 11 100000 4 4 4 1 6 8 13 11 0 49 27;\
-    H|0 4 4 200000 -1 -1 3 3 3 3 4 0 0 0 60 7|1 3 100000 0 2 5 -3 2 0 2 0 2 0 0 0 3 5 2 5 100000 0 2 0 0 1 2 0 0 2 2 13 0 0 3 0 0 -3 2 0 1 0 0|0 4 4 100000 100000 100000 23 3 3 1 28 3 5 2 37 3 2 0;\
-    H|4 4 -1 -9223372036854775808 -1 -9223372036854775808 3 0 1 0 7 -1 0 1 60 7|0 0 100000 1 2 13 -3 0 0 -3 1 1 0 0 0 1 8 0 1 100000 1 -3 0 2 2 1 0 0 1 1 5 0 0 1 0 0 0 0 -1 0 0 0 2 3 100000 0 1 100000 0 1 -3 2 2 1 0 0|4 4 100000 6 6 6 0 3 0 3 2 4 8 2 10 5 1 1 13 3 46 3;\
-    H|-1 -1 -1 200000 -1 -1 0 0 0 3 1 -1 0 1 60 30|0 0 13 0 2 3 2 1 2 0 -1 1 0 0 2 3 5 2 3 100000 0 1 0 1 -1 1 0 0 0 5 100000 0 2 8 -3 0 0 0 2 2 0 0|8 14 100000 100000 100000 100000 3 2 0 3 5 0 3 30 9 0 51 8;\
-    H|4 -1 0 -1 200000 -9223372036854775808 0 3 3 0 3 0 1 1 7 16|0 5 100000 0 5 100000 1 1 -3 0 1 0 0 0|4 4 4 4 100000 100000 0 1 3 12;\
-    H|0 -1 -1 -9223372036854775808 -1 -1 1 1 0 0 4 0 1 1 16 3|0 5 13 0 1 8 0 0 -3 0 0 -1 0 0 0 2 3 0 5 100000 1 0 2 0 -1 2 0 0 0 1 2 0 1 2 -3 0 2 0 0 1 0 0|0 9 100000 9 9 100000 3 1 5 2 8 2 2 0 10 1 1 0;\
+    H|4 -1 20 -1 -1 -1 1 0 0 0 1 2 1 0 3 0|0 0 8 0 0 8 0 2 0 0 1 -1 0 0 0 1 3 0 2 100000 -3 0 2 0 2 -1 0 0 5 8 13 3 5 13 0 -3 0 0 2 0 0 0|4 15 20 4 6 100000 0 1 0 0 4 1 0 0 6 1 5 3;\
     H|-1 0 4 -1 0 -1 0 0 0 3 3 2 0 1 60 16|2 3 8 1 2 5 0 0 0 0 -1 2 0 0 1 3 8 0 3 100000 0 -3 0 0 1 -1 0 0 1 3 13 3 5 100000 0 0 0 0 -1 0 0 0|11 11 11 3 3 100000 3 5 3 5 8 0 8 16 18 0 3 16;\
-    H|-1 -1 4 20 -1 200000 1 0 0 0 1 1 0 0 16 30||0 0 4 20 20 100000;\
-    H|20 -1 0 0 -9223372036854775808 -1 0 3 1 3 2 1 0 0 60 30|0 1 100000 0 0 2 0 -3 0 0 1 1 0 0 0 0 2 0 3 13 -3 2 2 0 2 2 0 0 0 3 13 2 2 3 -3 -3 1 1 1 -1 0 0|20 20 20 0 6 100000 3 0 34 0 38 0 2 3 44 0 13 2;\
-    H|200000 0 -1 -9223372036854775808 -1 -1 1 1 1 0 0 2 0 1 7 60||100000 100000 100000 2 2 100000;\
-    V|-9223372036854775808 200000 0 0 200000 200000 3 0 0 1 1 2 0 1 16 0|3 8 13 0 0 2 -3 2 0 0 -1 2 0 0 0 3 5 8 13 13 0 0 1 -3 1 1 0 0 1 3 8 0 5 8 0 0 0 1 -1 -1 0 0 0 3 3 0 8 100000 0 0 1 0 -1 0 0 0|100000 100000 100000 0 100000 100000 3 3 8 0 7 5 3 8 7 16 3 0 7 18 3 0;\
-    V|-1 -1 0 -1 -9223372036854775808 0 3 1 0 1 6 0 1 0 60 0||2 2 2 3 3 3;\
-    V|20 200000 -1 0 200000 -1 0 0 3 3 5 1 1 1 60 60|2 3 8 0 8 13 -3 0 0 0 2 1 0 0 2 5 13 1 2 8 0 0 0 2 -1 0 0 0 2 3 100000 0 2 8 1 -3 2 0 1 0 0 0|20 100000 100000 0 100000 100000 52 17 8 13 47 31 13 2 3 35 57 2;\
-    V|4 -1 200000 0 4 -1 0 0 1 0 6 2 1 1 7 0|0 8 100000 0 0 13 2 1 1 0 -1 -1 0 0|4 9 100000 0 4 100000 0 2 6 0;\
-    V|-1 -1 -1 200000 -1 -1 0 0 0 0 4 0 1 1 60 0||0 0 100000 100000 100000 100000;\
-    V|-1 0 -9223372036854775808 20 0 -9223372036854775808 0 0 1 3 4 1 0 1 30 3|0 2 100000 0 0 3 1 -3 -3 1 -1 0 0 0 2 5 8 0 5 100000 1 0 -3 1 -1 -1 0 0 0 2 3 2 2 3 1 0 0 0 -1 2 0 0|6 6 6 20 20 20 16 1 2 0 14 3 5 0 15 5 2 2;\
-    V|200000 -1 -9223372036854775808 200000 20 -1 0 3 0 0 0 -1 0 1 0 60||100000 100000 100000 100000 100000 100000;\
+    H|0 4 4 200000 -1 -1 3 3 3 3 4 0 0 0 60 7|1 3 100000 0 2 5 -3 2 0 2 0 2 0 0 0 3 5 2 5 100000 0 2 0 0 1 2 0 0 2 2 13 0 0 3 0 0 -3 2 0 1 0 0|0 4 4 100000 100000 100000 23 3 3 1 28 3 5 2 37 3 2 0;\
     V|-1 20 200000 4 -1 -1 0 1 0 0 8 2 0 1 60 60|5 5 13 0 0 0 0 0 1 0 2 -1 0 0 3 5 8 0 0 13 0 2 1 0 0 0 0 0|6 20 100000 4 4 100000 54 56 5 0 52 59 5 0;\
     V|200000 -1 20 -9223372036854775808 20 -1 3 0 3 0 0 1 0 0 30 7|0 3 5 3 3 5 -3 2 -3 0 -1 -1 0 0 0 13 13 3 8 13 1 0 0 -3 0 2 0 0|100000 100000 100000 20 20 100000 0 3 3 3 0 8 13 3;\
     V|-1 -9223372036854775808 4 4 200000 4 0 0 3 0 3 2 0 0 16 30|1 5 8 0 0 3 0 1 1 -3 1 -1 0 0 1 2 8 0 2 3 0 2 0 0 0 2 0 0 2 3 13 1 2 2 0 2 0 0 -1 1 0 0|4 4 4 4 4 4 0 8 5 0 0 11 2 3 0 16 3 2;\
-    P|0 -9223372036854775808 -9223372036854775808 -1 200000 -1 0 0 3 0 0 2 1 0 7 3||0 0 0 3 100000 100000;\
-    P|-1 -9223372036854775808 -9223372036854775808 -1 4 -1 3 1 0 0 0 -1 1 0 0 7|0 1 2 0 0 2 0 0 0 0 2 0 0 4 0 13 13 0 8 100000 0 0 0 0 -1 2 1 -200000|1 15 15 3 4 100000 0 4 1 0 1 -100000 13 8;\
-    P|0 20 0 0 20 -1 1 1 3 3 0 0 1 0 16 60|0 2 8 0 0 8 0 0 0 0 -1 -1 0 1 0 5 100000 1 1 5 0 0 0 0 -1 1 300000 4|0 0 0 0 20 100000 0 1 2 0 100000 4 5 1;\
-    P|0 -1 -1 200000 4 -1 3 0 0 0 0 -1 1 0 16 3|0 2 100000 1 5 8 0 0 0 0 -1 2 0 -2 0 8 100000 3 3 100000 0 0 0 0 0 1 300000 1 0 0 13 2 13 13 0 0 0 0 -1 0 -200000 -2|0 100000 100000 100000 100000 100000 0 -2 2 5 100000 1 8 3 -100000 -2 0 13;\
-    P|-1 200000 -1 -1 -1 -1 1 0 0 3 0 0 0 0 30 60|0 1 2 1 2 3 0 0 0 0 0 2 9 300000 1 3 13 2 3 5 0 0 0 0 -1 2 9 -2 1 3 8 0 5 100000 0 0 0 0 0 2 -200000 -2|3 100000 100000 1 100000 100000 9 100000 1 2 9 -2 3 3 -100000 -2 3 5;\
+    V|20 200000 -1 0 200000 -1 0 0 3 3 5 1 1 1 60 60|2 3 8 0 8 13 -3 0 0 0 2 1 0 0 2 5 13 1 2 8 0 0 0 2 -1 0 0 0 2 3 100000 0 2 8 1 -3 2 0 1 0 0 0|20 100000 100000 0 100000 100000 52 17 8 13 47 31 13 2 3 35 57 2;\
     P|0 20 4 -1 4 4 0 3 0 0 0 -1 0 1 30 7|0 0 5 1 3 8 0 0 0 0 1 -1 0 0 0 0 5 0 2 5 0 0 0 0 -1 0 300000 1|0 4 4 0 4 4 0 0 0 3 100000 1 0 2;\
-    R|-1 -1 -9223372036854775808 -1 200000 -1 0 0 1 3 0 1 0 0 60 30||3 3 3 1 100000 100000;\
-    R|4 200000 200000 -9223372036854775808 -1 -1 0 0 0 3 0 0 0 0 0 0||4 100000 100000 0 0 100000;\
-    R|-1 -9223372036854775808 -1 20 -9223372036854775808 20 0 1 0 1 0 0 1 0 16 16||2 2 100000 20 20 20";
+    P|0 20 0 0 20 -1 1 1 3 3 0 0 1 0 16 60|0 2 8 0 0 8 0 0 0 0 -1 -1 0 1 0 5 100000 1 1 5 0 0 0 0 -1 1 300000 4|0 0 0 0 20 100000 0 1 2 0 100000 4 5 1;\
+    R|-1 -1 -9223372036854775808 -1 200000 -1 0 0 1 3 0 1 0 0 60 30||3 3 3 1 100000 100000";
 
 fn at(numbers: &[i64], place: usize) -> i64 {
     numbers.get(place).copied().unwrap_or(0)
@@ -141,32 +121,49 @@ fn push_sizes(numbers: &mut Vec<i64>, sizes: Sizes) -> Result<(), Fail> {
     Ok(())
 }
 
-/// What the pane of this letter answers, as the table has it.
-fn answer<L: Ledgers, R: Abort + AllocGlobal>(
-    rt: &R,
+/// The sizes of the pane of this letter.
+fn measured<L: Ledgers>(
+    alloc: Global,
     letter: &str,
     pane: &PaneFacts,
     children: &[ChildSize],
-    (w, h): (i64, i64),
     work: &mut Work<L>,
-) -> Result<Vec<i64>, Fail> {
-    let alloc = rt.alloc();
-    assert!(rt; children.len() <= 4096);
-    let sizes = match letter {
-        "H" => hbox::measure(alloc, pane, children, work)?,
-        "V" => vbox::measure(alloc, pane, children, work)?,
-        "P" => pane::measure(alloc, pane, children, work)?,
-        _ => region::measure(alloc, pane, children, work)?,
-    };
-    let rects = match letter {
-        "H" => hbox::place(alloc, pane, children, w, h, work)?,
-        "V" => vbox::place(alloc, pane, children, w, h, work)?,
-        "P" => pane::place(alloc, pane, children, w, h, work)?,
-        _ => region::place(alloc, pane, children, w, h, work)?,
-    };
+) -> Result<Sizes, AllocError>
+    requires { length children.now ≤ 4096 }
+{
+    match letter {
+        "H" => hbox::measure(alloc, pane, children, work),
+        "V" => vbox::measure(alloc, pane, children, work),
+        "P" => pane::measure(alloc, pane, children, work),
+        _ => region::measure(alloc, pane, children, work),
+    }
+}
+
+/// The places of its children.
+fn placed<L: Ledgers>(
+    alloc: Global,
+    letter: &str,
+    pane: &PaneFacts,
+    children: &[ChildSize],
+    size: (i64, i64),
+    work: &mut Work<L>,
+) -> Result<Vec<Rect>, AllocError>
+    requires { length children.now ≤ 4096 }
+{
+    let (w, h) = size;
+    match letter {
+        "H" => hbox::place(alloc, pane, children, w, h, work),
+        "V" => vbox::place(alloc, pane, children, w, h, work),
+        "P" => pane::place(alloc, pane, children, w, h, work),
+        _ => region::place(alloc, pane, children, w, h, work),
+    }
+}
+
+/// Sizes and rectangles as the table has them.
+fn numbers_of(alloc: Global, sizes: Sizes, rects: &[Rect]) -> Result<Vec<i64>, Fail> {
     let mut numbers = Vec::new(alloc);
     push_sizes(&mut numbers, sizes)?;
-    for rect in rects.as_slice() {
+    for rect in rects {
         for number in [rect.x, rect.y, rect.w, rect.h] {
             numbers.push(number)?;
         }
@@ -174,20 +171,32 @@ fn answer<L: Ledgers, R: Abort + AllocGlobal>(
     Ok(numbers)
 }
 
-fn expect_row<L: Ledgers, R: Abort + AllocGlobal>(rt: &R, row: &str, work: &mut Work<L>) -> Result<(), Fail> {
+fn children_of(alloc: Global, text: &str) -> Result<Vec<ChildSize>, Fail> {
+    let numbers = number_list(alloc, text)?;
+    let mut children = Vec::new(alloc);
+    for child in numbers.as_slice().chunks(14) {
+        children.push(child_of(child))?;
+    }
+    Ok(children)
+}
+
+fn expect_row<L: Ledgers, R: Abort + AllocGlobal>(
+    rt: &R,
+    row: &str,
+    work: &mut Work<L>,
+) -> Result<(), Fail> {
     let alloc = rt.alloc();
     let (letter, rest) = row.split_once('|').ok_or("letter")?;
     let (facts, rest) = rest.split_once('|').ok_or("facts")?;
     let (children, expected) = rest.split_once('|').ok_or("children")?;
+    let children = children_of(alloc, children)?;
+    assert!(rt; children.len() <= 4096);
     let facts = number_list(alloc, facts)?;
-    let numbers = number_list(alloc, children)?;
-    let mut sizes = Vec::new(alloc);
-    for child in numbers.as_slice().chunks(14) {
-        sizes.push(child_of(child))?;
-    }
     let size = (at(facts.as_slice(), 14), at(facts.as_slice(), 15));
     let pane = pane_of(alloc, facts.as_slice());
-    let found = answer(rt, letter, &pane, sizes.as_slice(), size, work)?;
+    let sizes = measured(alloc, letter, &pane, children.as_slice(), work)?;
+    let rects = placed(alloc, letter, &pane, children.as_slice(), size, work)?;
+    let found = numbers_of(alloc, sizes, rects.as_slice())?;
     let expected = number_list(alloc, expected)?;
     assert_eq!(rt; found.as_slice(), expected.as_slice(), "at {row}");
     Ok(())
@@ -249,13 +258,18 @@ fn expect_labels<L: Ledgers, R: Abort + AllocGlobal>(
     let wrapping = label(alloc, true)?;
     for (w, h) in [(8, 12), (20, 6), (4, 24), (7, 24), (0, 24)] {
         let sizes = control::wrapped(alloc, &wrapping, w, &mut work)?;
-        assert!(rt; sizes.pref_w == 20 && sizes.min_h == h && sizes.pref_h == h && sizes.max_h == h, "at {w}");
+        assert_eq!(rt;
+            (sizes.pref_w, sizes.min_h, sizes.pref_h),
+            (20, h, h),
+            "at {w}"
+        );
     }
     let whole = control::measure(alloc, &wrapping, &[], &mut work)?;
-    assert!(rt; whole.min_w == 0 && whole.max_w == 20 && whole.pref_h == 6);
-    let single = label(alloc, false)?;
-    assert!(rt; control::wrapped(alloc, &single, 4, &mut work)?.pref_h == 6);
-    assert!(rt; control::place(alloc, &single, &[], 4, 4, &mut work)?.is_empty());
+    assert_eq!(rt; (whole.min_w, whole.max_w, whole.pref_h), (0, 20, 6));
+    let single = control::wrapped(alloc, &label(alloc, false)?, 4, &mut work)?;
+    assert_eq!(rt; single.pref_h, 6);
+    let rects = control::place(alloc, &wrapping, &[], 4, 4, &mut work)?;
+    assert!(rt; rects.is_empty());
     Ok(())
 }
 

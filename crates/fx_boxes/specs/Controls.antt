@@ -52,5 +52,5 @@ OneControl = (control : PaneFacts) (w : ℕ) (one another : Sizes) → IsControl
 
 -- and its widths are the same in all widths
 abbrev pub SameWidths : Type 0
-SameWidths = (control : PaneFacts) (v w : ℕ) (one another : Sizes) → IsControl control v one → IsControl control w another
-    → widths_of one ≡ widths_of another
+SameWidths = (control : PaneFacts) (v w : ℕ) (one another : Sizes)
+    → IsControl control v one → IsControl control w another → widths_of one ≡ widths_of another

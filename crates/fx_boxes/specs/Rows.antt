@@ -60,7 +60,8 @@ unfoldable pub row_spans : PaneAxis → List ChildAxis → ℕ → List Span
 row_spans pane children n =
     let between = gaps pane.spacing (length children) in
     let lengths = tracked (content pane n - between) (parts_of children) in
-    spans_from pane.spacing (pane.before + aligned pane.alignment (sum lengths + between) (content pane n)) children lengths
+    spans_from pane.spacing
+    (pane.before + aligned pane.alignment (sum lengths + between) (content pane n)) children lengths
 
 -- beside it: each child by itself fills the content or not, and is aligned in it
 unfoldable pub beside_span : PaneAxis → ℕ → ChildAxis → Span

@@ -81,7 +81,8 @@ fn row_for(axis: Axis, pane: &PaneAxis, children: &[ChildSize], length_along: u6
     requires pane { IsPaneAxis pane.now }
     requires few { length children.now ≤ 4096 }
     requires long { length_along ≤ 100000 }
-    ensures spans { spans_by result (along axis children.now) ≡ row_spans pane.now (along axis children.now) length_along }
+    ensures spans { spans_by result (along axis children.now)
+        ≡ row_spans pane.now (along axis children.now) length_along }
     ensures at { result.at ≤ 2 ^ 18 }
     ensures spacing { result.spacing ≤ 100000 }
 {

@@ -18,8 +18,9 @@ lengthened (p ∷ ps) (l ∷ ls) [] sometimes = []
 lengthened (p ∷ ps) (l ∷ ls) (a ∷ rest) [] = []
 lengthened (p ∷ ps) (l ∷ ls) (a ∷ rest) (s ∷ ss) = (p.pref + (a + s) - l) ∷ lengthened ps ls rest ss
 
--- The lengths of the parts in so much room. What is left beyond the preferred lengths is shared over the parts that grow
--- ALWAYS (2), and what then remains over those that grow SOMETIMES (1); what is lacking is shared over all and taken off.
+-- The lengths of the parts in so much room. What is left beyond the preferred lengths is shared over the parts that
+-- grow ALWAYS (2), and what then remains over those that grow SOMETIMES (1). What is lacking is shared over all, and
+-- taken off.
 unfoldable pub tracked : ℕ → List Part → List ℕ
 tracked room parts =
     let wanted = sum_by (λ part. part.pref) parts in

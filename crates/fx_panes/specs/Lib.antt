@@ -1,0 +1,4 @@
+pub mod Anchor
+pub mod Border
+pub mod Rules
+pub mod Stack

@@ -1,5 +1,6 @@
 -- The children of a stack as parts.
 use Rattle.std.proofs.Common.{◌≡◌, ℕ, ◌+◌, List, [], ◌∷◌, map, refl, ap}
+use Rattle.std.proofs.lemmas.Simd.{map-map}
 use Rattle.fx_base.specs.declared.facts.ChildSize.{ChildSize}
 use Rattle.fx_panes_parts.specs.declared.axes.Axis.{Axis}
 use Rattle.fx_panes_parts.specs.declared.axes.Extent.{Extent}
@@ -9,10 +10,6 @@ use Rattle.fx_panes_parts.specs.Axes.{along, child_axis, insets}
 use Rattle.fx_panes_parts.specs.Parts.{greatest_of, part_of}
 use Rattle.fx_panes_parts.specs.Sizes.{pane_extent}
 use Rattle.fx_panes.specs.Stack.{stack_extent}
-
-map-map : {X Y Z : Type 0} (f : Y → Z) (g : X → Y) (xs : List X) → map f (map g xs) ≡ map (λ x. f (g x)) xs
-map-map f g [] = refl
-map-map f g (x ∷ xs) = ap (λ ys. f (g x) ∷ ys) (map-map f g xs)
 
 -- what is worked out from the children as parts is the extent
 pub stack_extent_is : (axis : Axis) (facts pane : PaneAxis) (children : List ChildSize) (around least wish : ℕ) (extent : Extent)

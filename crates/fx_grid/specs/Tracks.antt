@@ -1,0 +1,115 @@
+-- The columns or the rows of a grid, by their constraints and by the children along one axis.
+-- Cited by src/tracks.rt and by the grid.
+use Rattle.std.specs.Prelude.{ℕ, ℤ, pos, negsuc, Bool, ◌+◌, ◌-◌, ◌^◌, ◌≤◌, ◌==◌, ◌&&◌, ◌++◌, nat_lt, if◌then◌else◌, List, fold, length, map, max, min, replicate, sum, take, drop, slice_index, slice_index_or, None, unwrap_or}
+use Rattle.std.specs.List.{range_with_len}
+use Rattle.std.specs.Simd.Lanes.{zip2}
+use Rattle.fx_base.specs.declared.facts.ChildSize.{ChildSize}
+use Rattle.fx_base.specs.declared.facts.Track.{Track}
+use Rattle.fx_panes_parts.specs.declared.axes.Axis.{Axis}
+use Rattle.fx_panes_parts.specs.declared.axes.ChildAxis.{ChildAxis}
+use Rattle.fx_panes_parts.specs.declared.parts.Part.{Part}
+use Rattle.fx_panes_parts.specs.Axes.{child_axis, gaps}
+use Rattle.fx_panes_parts.specs.Lengths.{longest}
+use Rattle.fx_panes_parts.specs.Parts.{greatest_of}
+use Rattle.fx_panes_parts.specs.Shares.{share_of}
+use Rattle.fx_panes_parts.specs.Sizes.{limited}
+use Rattle.fx_panes.specs.declared.rules.Bound.{Bound}
+use Rattle.fx_panes.specs.declared.rules.Bound.TheVariants.{Minimum, Preferred}
+use Rattle.fx_panes.specs.Rules.{outer_by}
+
+-- a track without a constraint: one that computes its lengths and says nothing else
+abbrev pub free_track : Track
+free_track = record { min = negsuc 0; pref = negsuc 0; max = negsuc 0; grow = None; align = None }
+
+-- the constraint of a track
+abbrev pub track_at : List Track → ℕ → Track
+track_at given k = slice_index_or given k free_track
+
+-- as many tracks as there are constraints, and as the children cover
+abbrev pub track_count : List Track → List ChildAxis → ℕ
+track_count given children = max (length given) (greatest_of (map (λ child. child.index + child.span) children))
+
+-- the child covers this track and no other
+abbrev pub is_alone : ℕ → ChildAxis → Bool
+is_alone k child = (child.span == 1) && (child.index == k)
+
+-- what a child alone in a track needs there, or 0
+unfoldable pub alone : Bound → ℕ → ChildAxis → ℕ
+alone bound k child = if is_alone k child then outer_by bound child else 0
+
+-- the priority of growth that a child alone in a track asks for there, or 0
+unfoldable pub alone_grow : ℕ → ChildAxis → ℕ
+alone_grow k child = if is_alone k child then unwrap_or child.grow 0 else 0
+
+-- a constraint's preferred length, where it has one
+unfoldable pub own_pref : ℤ → ℕ → ℕ
+own_pref (pos n) computed = min n longest
+own_pref (negsuc n) computed = computed
+
+-- a constraint's minimum: where it has none, the preferred length for -Infinity, which is the least number
+unfoldable pub own_min : ℤ → ℕ → ℕ → ℕ
+own_min (pos n) pref computed = min n longest
+own_min (negsuc n) pref computed = if n == 2 ^ 63 - 1 then pref else computed
+
+-- the preferred length of a track by its constraint, else by the greatest child that is alone in it
+unfoldable pub pref_alone : List Track → List ChildAxis → ℕ → ℕ
+pref_alone given children k = own_pref (track_at given k).pref (greatest_of (map (alone Preferred k) children))
+
+-- the length of this kind of a track before any child covers more than one
+unfoldable pub length_alone : Bound → List Track → List ChildAxis → ℕ → ℕ
+length_alone Preferred given children k = pref_alone given children k
+length_alone Minimum given children k =
+    own_min (track_at given k).min (pref_alone given children k) (greatest_of (map (alone Minimum k) children))
+
+abbrev pub lengths_alone : Bound → List Track → List ChildAxis → List ℕ
+lengths_alone bound given children =
+    map (length_alone bound given children) (range_with_len 0 (track_count given children))
+
+-- lengths to which what they lack is added, shared over them up to the longest length each
+unfoldable pub shared_out : ℕ → List ℕ → List ℕ
+shared_out need lengths =
+    zip2 (λ one more. one + more) lengths (share_of (need - sum lengths) (replicate (length lengths) longest))
+
+-- the tracks that a child covers share out what it needs beside the gaps between them
+unfoldable pub widened : Bound → ℕ → List ℕ → ChildAxis → List ℕ
+widened bound gap lengths child =
+    if nat_lt 1 child.span then
+    take child.index lengths
+    ++ (shared_out (outer_by bound child - gaps gap child.span) (take child.span (drop child.index lengths))
+    ++ drop (child.index + child.span) lengths)
+    else lengths
+
+-- the lengths of this kind: the children that cover more than one track come in order
+abbrev pub lengths_of : Bound → ℕ → List Track → List ChildAxis → List ℕ
+lengths_of bound gap given children = fold (widened bound gap) (lengths_alone bound given children) children
+
+-- a track by its constraint and its lengths, which are clamped: the minimum wins
+unfoldable pub part_by : Track → ℕ → ℕ → ℕ → Part
+part_by track least wish priority =
+    let low = min least longest in
+    let pref = min wish longest in
+    let high = max (limited track.max pref longest) low in
+    record { min = low; pref = max (min pref high) low; max = high; priority = priority }
+
+-- the priority of a track by its constraint, else the greatest of the children that are alone in it
+unfoldable pub priority_of : List Track → List ChildAxis → ℕ → ℕ
+priority_of given children k = unwrap_or (track_at given k).grow (greatest_of (map (alone_grow k) children))
+
+unfoldable pub track_of : List Track → List ChildAxis → List ℕ → List ℕ → ℕ → Part
+track_of given children leasts wishes k =
+    part_by (track_at given k) (slice_index leasts k) (slice_index wishes k) (priority_of given children k)
+
+-- all tracks, as the track rule takes them
+abbrev pub tracks_of : ℕ → List Track → List ChildAxis → List Part
+tracks_of gap given children =
+    map (track_of given children (lengths_of Minimum gap given children) (lengths_of Preferred gap given children))
+    (range_with_len 0 (track_count given children))
+
+-- along an axis each child stands within the tracks that a grid may have
+pub record IsCell (axis : Axis) (child : ChildSize) : Type 0 where
+  pub index : (child_axis axis child).index ≤ 255
+  pub span : (child_axis axis child).span ≤ 64
+
+-- there are so many tracks, and the child covers none behind them
+abbrev pub IsWithin : Axis → ℕ → ChildSize → Type 0
+IsWithin axis count child = (child_axis axis child).index + (child_axis axis child).span ≤ count

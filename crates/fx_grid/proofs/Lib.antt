@@ -1,3 +1,4 @@
 pub mod CountLemmas
-pub mod SharingLemmas
 pub mod GridLemmas
+pub mod GridTests
+pub mod SharingLemmas

@@ -1,6 +1,6 @@
 -- The columns or the rows of a grid, by their constraints and by the children along one axis.
 -- Cited by src/tracks.rt and by the grid.
-use Rattle.std.specs.Prelude.{ℕ, ℤ, pos, negsuc, Bool, ◌+◌, ◌-◌, ◌^◌, ◌≤◌, ◌==◌, ◌&&◌, ◌++◌, nat_lt, if◌then◌else◌, List, fold, length, map, max, min, replicate, sum, take, drop, slice_index, slice_index_or, None, unwrap_or}
+use Rattle.std.specs.Prelude.{ℕ, ℤ, pos, negsuc, Bool, ◌+◌, ◌-◌, ◌^◌, ◌≤◌, ◌==◌, ◌&&◌, ◌++◌, nat_le, nat_lt, if◌then◌else◌, List, fold, length, map, max, min, replicate, sum, take, drop, slice_index, slice_index_or, None, unwrap_or}
 use Rattle.std.specs.List.{range_with_len}
 use Rattle.std.specs.Simd.Lanes.{zip2}
 use Rattle.fx_base.specs.declared.facts.ChildSize.{ChildSize}
@@ -109,6 +109,10 @@ tracks_of gap given children =
 pub record IsCell (axis : Axis) (child : ChildSize) : Type 0 where
   pub index : (child_axis axis child).index ≤ 255
   pub span : (child_axis axis child).span ≤ 64
+
+-- the test of it
+abbrev pub is_cell : Axis → ChildSize → Bool
+is_cell axis child = nat_le (child_axis axis child).index 255 && nat_le (child_axis axis child).span 64
 
 -- there are so many tracks, and the child covers none behind them
 abbrev pub IsWithin : Axis → ℕ → ChildSize → Type 0

@@ -1,14 +1,15 @@
 //! GridPane: children in columns and rows.
 //! It stands on the tracks and on the words of all panes, below the layout of the whole tree.
-ghost use Rattle.std.specs.Prelude.{◌≡◌, ◌+◌, ◌*◌, ◌^◌, ◌<◌, ◌≤◌, All, IfOk, drop, length, map, sum, sum_by, take, unwrap_or};
+ghost use Rattle.std.specs.Prelude.{◌≡◌, ◌+◌, ◌*◌, ◌^◌, ◌<◌, ◌≤◌, ◌↔◌, All, IfOk, IsTrue, drop, length, map, sum, sum_by, take, unwrap_or};
+ghost use Rattle.std.specs.List.{list_all};
 ghost use Rattle.std.specs.Simd.Lanes.{zip2};
 ghost use Rattle.fx_panes_parts.specs.declared.axes.Axis.TheVariants.{Across, Down};
 ghost use Rattle.fx_panes_parts.specs.Axes.{IsChildAxis, IsPaneAxis, along, child_axis, pane_axis, rect_of};
 ghost use Rattle.fx_panes_parts.specs.Lengths.{length_of};
 ghost use Rattle.fx_panes_parts.specs.Sizes.{pane_extent};
 ghost use Rattle.fx_panes_parts.specs.Tracks.{tracked};
-ghost use Rattle.fx_grid.specs.Grid.{AreLengths, IsGrid, IsGridAcrossFirst, grid_extent, grid_lengths, grid_rects, grid_sizes, grid_span, grid_start, side_of};
-ghost use Rattle.fx_grid.specs.Tracks.{IsCell, IsWithin};
+ghost use Rattle.fx_grid.specs.Grid.{AreLengths, IsGrid, IsGridAcrossFirst, grid_extent, grid_lengths, grid_rects, grid_sizes, grid_span, grid_start, is_grid, side_of};
+ghost use Rattle.fx_grid.specs.Tracks.{IsCell, IsWithin, is_cell};
 
 use crate::tracks::{track_at, track_count, tracks_of};
 use fx_base::{ChildSize, Ledgers, PaneFacts, Rect, Sizes, Track, Work};
@@ -53,6 +54,36 @@ pub fn place<L: Ledgers>(
 {
     work.laid.tick();
     rects(alloc, pane, children, length_of(w), length_of(h))
+}
+
+/// Do the numbers of the children lie in their ranges, and are there few enough columns and rows?
+pub fn is_grid(pane: &PaneFacts, children: &[ChildSize]) -> bool
+    ensures { IsTrue result ↔ IsGrid pane.now children.now }
+{
+    has_cells(pane, children)
+}
+
+#[tactic(auto, unfolding(crate::specs::Grid::is_grid))]
+fn has_cells(pane: &PaneFacts, children: &[ChildSize]) -> bool
+    ensures { result ≡ is_grid pane.now children.now }
+{
+    pane.columns.as_slice().len() <= 256
+        && pane.rows.as_slice().len() <= 256
+        && are_cells(Axis::Across, children)
+        && are_cells(Axis::Down, children)
+}
+
+fn are_cells(axis: Axis, children: &[ChildSize]) -> bool
+    ensures { result ≡ list_all (is_cell axis) children.now }
+{
+    children.iter().all(|child| is_cell(axis, child))
+}
+
+fn is_cell(axis: Axis, child: &ChildSize) -> bool
+    ensures { result ≡ is_cell axis child.now }
+{
+    let child = child_axis(axis, child);
+    child.index <= 255 && child.span <= 64
 }
 
 /// What is across depends on nothing vertical.

@@ -4,4 +4,6 @@
 
 pub mod grid;
 mod sharing;
+#[cfg(test)]
+mod tests;
 mod tracks;

@@ -1,5 +1,5 @@
 -- The numbers of a grid lie in their ranges just where the test says so.
-use Rattle.std.proofs.Common.{◌≡◌, ℕ, Bool, true, List, length, All}
+use Rattle.std.proofs.Common.{◌≡◌, Bool, true, List, length, All}
 use Rattle.std.specs.Prelude.{◌&&◌, nat_le}
 use Rattle.std.specs.List.{list_all}
 use Rattle.std.proofs.lemmas.Bool.{and_from, and_parts, le-leb, leb-true}

@@ -1,4 +1,4 @@
-use Rattle.std.proofs.Common.{true, sym, ◌≡◌, ◌∙◌}
+use Rattle.std.proofs.Common.{sym, ◌∙◌}
 use Rattle.fx_grid.proofs.GridTests.{grid_from_test, test_from_grid}
 use Rattle.fx_grid.proofs.grid.is_grid.Goals as goal
 

@@ -1,0 +1,32 @@
+-- What the reader of lines finds, and what taking a line does.
+use Rattle.std.specs.Prelude.{ℕ, ◌≡◌, ◌<◌, ◌-◌, ◌^◌, ◌↔◌, Bool, min, List, ◌++◌, Option, Some, None, Result, Ok, Err, OnOk, OnErr, IsErr, IsOkAnd, length, nat_le, if◌then◌else◌}
+use Rattle.fx_delta.specs.Lines.{Item, words}
+use Rattle.fx_delta.specs.Stream.{Flaw, Screen, Step}
+use Rattle.fx_delta.specs.declared.lines.FoundItem.{FoundItem}
+
+-- the words of a line, unless there are more than so many
+abbrev pub few_words : ℕ → List ℕ → Option (List (List ℕ))
+few_words most line = if nat_le (length (words line)) most then Some (words line) else None
+
+-- a number as far as 32 bits hold it
+abbrev pub capped : ℕ → ℕ
+capped number = min number (2 ^ 32 - 1)
+
+-- a row item that is found; one of more pixels than any picture has in a row may be left out
+abbrev pub IsFound : Option FoundItem → Option Item → Type 0
+IsFound None None = Unit {0}
+IsFound None (Some item) = 2048 < length item.pixels
+IsFound (Some found) None = ⊥
+IsFound (Some found) (Some item) =
+    (found.x ≡ capped item.x) × (found.y ≡ capped item.y) × (found.pixels.items ≡ item.pixels)
+
+-- bytes behind others: all of these at Ok, and some at an error
+pub record Appends {T E : Type 0} (old new : List ℕ) (result : Result T E) (bytes : List ℕ) : Type 0 where
+  pub ok : OnOk result (new ≡ old ++ bytes)
+  pub err : OnErr result ((more : List ℕ) × (new ≡ old ++ more))
+
+-- a call that does what the step says, or answers `bad` exactly where there is none; at an error the screen stays
+pub record Takes {T E : Type 0} (bad : E) (step : Result Step Flaw) (old new : Screen) (was now : List ℕ) (result : Result T E) : Type 0 where
+  pub ok : OnOk result (IsOkAnd step (λ does. (new ≡ does.screen) × (now ≡ was ++ does.written)))
+  pub is_bad : (result ≡ Err bad) ↔ IsErr step
+  pub err : OnErr result ((new ≡ old) × ((more : List ℕ) × (now ≡ was ++ more)))

@@ -10,7 +10,7 @@ use Rattle.fx_delta.specs.Pictures.{Picture, begun, image, lies, no_picture, wit
 -- the picture that is shown, and in a frame how many rectangles are to come before its row items
 pub record Screen : Type 0 where
   pub picture : Picture
-  pub open : Option ℕ
+  pub left : Option ℕ
 
 -- why a line is bad, or the end of the stream
 pub data Flaw : Type 0 where
@@ -34,14 +34,14 @@ copied screen line = record { screen = screen; written = line ++ (line_feed ∷ 
 abbrev pub after_frame : Picture → List ℕ → Option Frame → Result Step Flaw
 after_frame picture line None = Err no_frame
 after_frame picture line (Some frame) =
-    Ok (copied (record { picture = begun frame.width frame.height picture; open = Some frame.rectangles }) line)
+    Ok (copied (record { picture = begun frame.width frame.height picture; left = Some frame.rectangles }) line)
 
 abbrev pub after_item : Picture → Option Item → Result Step Flaw
 after_item picture None = Err no_item
 after_item picture (Some item) =
     if lies picture item.x item.y (length item.pixels)
     then Ok (record {
-      screen = record { picture = with_pixels picture item.x item.y item.pixels; open = Some 0 };
+      screen = record { picture = with_pixels picture item.x item.y item.pixels; left = Some 0 };
       written = [];
     })
     else Err outside
@@ -54,17 +54,17 @@ abbrev pub after_line_at : Option ℕ → Picture → List ℕ → Result Step F
 after_line_at None picture line =
     if begins line (codes "frame") then after_frame picture line (frame_in (words line))
     else (if begins line (codes "row") || begins line (codes "endframe") then Err stray
-    else Ok (copied (record { picture = picture; open = None }) line))
+    else Ok (copied (record { picture = picture; left = None }) line))
 after_line_at (Some (suc more)) picture line =
-    if is_rectangle (words line) then Ok (copied (record { picture = picture; open = Some more }) line)
+    if is_rectangle (words line) then Ok (copied (record { picture = picture; left = Some more }) line)
     else Err no_rectangle
 after_line_at (Some zero) picture line =
     if bytes_eq line (codes "endframe")
-    then Ok (record { screen = record { picture = picture; open = None }; written = image picture })
+    then Ok (record { screen = record { picture = picture; left = None }; written = image picture })
     else after_item picture (item_in (words line))
 
 unfoldable pub after_line : Screen → List ℕ → Result Step Flaw
-after_line screen line = after_line_at screen.open screen.picture line
+after_line screen line = after_line_at screen.left screen.picture line
 
 -- all that is written for a stream, and the number of its first bad line
 pub record Shown : Type 0 where
@@ -73,7 +73,7 @@ pub record Shown : Type 0 where
 
 -- nothing may stand behind the last line feed, and no frame may be open there
 abbrev pub at_end : Option ℕ → List ℕ → Result (List ℕ) Flaw
-at_end open (c ∷ cs) = Err unended
+at_end left (c ∷ cs) = Err unended
 at_end (Some more) [] = Err unfinished
 at_end None [] = Ok []
 
@@ -88,7 +88,7 @@ told number (Err flaw) rest = record { bytes = []; bad = Some number }
 
 -- of the line with this number and the parts behind it, the last of which stands behind the last line feed
 abbrev pub shown_from : ℕ → Screen → List ℕ → List (List ℕ) → Shown
-shown_from number screen line [] = told_end number (at_end screen.open line)
+shown_from number screen line [] = told_end number (at_end screen.left line)
 shown_from number screen line (next ∷ parts) =
     told number (after_line screen line) (λ after. shown_from (number + 1) after next parts)
 
@@ -100,7 +100,7 @@ shown_parts number screen [] = record { bytes = []; bad = None }
 shown_parts number screen (line ∷ parts) = shown_from number screen line parts
 
 abbrev pub first_screen : Screen
-first_screen = record { picture = no_picture; open = None }
+first_screen = record { picture = no_picture; left = None }
 
 -- what a viewer shows of a whole stream
 unfoldable pub shown : List ℕ → Shown

@@ -155,7 +155,7 @@ fn item_in(alloc: Global, words: &[&[u8]]) -> Result<Option<FoundItem>, AllocErr
 }
 
 fn item_of(x: Option<u32>, y: Option<u32>, pixels: Option<Vec<u32>>) -> Option<FoundItem>
-    ensures { IsItemOf result x y pixels }
+    ensures { IsFound result (spec.item_of x y (option_map (λ found. found.items) pixels)) }
 {
     match (x, y, pixels) {
         (Some(x), Some(y), Some(pixels)) => Some(FoundItem { x, y, pixels }),

@@ -1,10 +1,10 @@
 //! A viewer: takes a stream line by line, and shows the picture of each frame as text.
 //! It stands between the reader of lines and the view that holds the picture.
-ghost use Rattle.std.specs.Prelude.{◌≡◌, ◌↔◌, ◌-◌, ◌++◌, ◌∷◌, [], Some, None, OnOk, OnErr, IsErr, IsErrOf, IsOkAnd, IsTrue, IsNone, suc, take, length};
+ghost use Rattle.std.specs.Prelude.{ℕ, List, Option, ◌≡◌, ◌↔◌, ◌-◌, ◌++◌, ◌∷◌, [], Some, None, OnOk, OnErr, IsErr, IsErrOf, IsOkAnd, IsTrue, IsNone, suc, take, length};
 ghost use Rattle.fx_text.specs.Characters.{line_feed};
 ghost use Rattle.fx_delta.specs.Pictures.{Picture};
-ghost use Rattle.fx_delta.specs.Lines.{is_rectangle, frame_in, item_in, words};
-ghost use Rattle.fx_delta.specs.Reading.{Appends, Takes};
+ghost use Rattle.fx_delta.specs.Lines.{Item};
+ghost use Rattle.fx_delta.specs.Reading.{Appends, IsFound, Takes};
 ghost use Rattle.fx_delta.specs.declared.viewers.StreamError.TheVariants.{Bad, Memory};
 
 use crate::lines::{FoundItem, Frame, is_rectangle, read_frame, read_item};
@@ -13,12 +13,12 @@ use std::alloc::{AllocError, AllocFailed, Global};
 use std::marker::Model;
 use thiserror::Error;
 
-/// The picture that is shown, and where in a frame the stream stands: `open` is how many rectangles are still to come, or
+/// The picture that is shown, and where in a frame the stream stands: `left` is how many rectangles are still to come, or
 /// `None` between two frames.
 #[derive(Drop)]
 pub struct Viewer {
     view: View,
-    open: Option<u32>,
+    left: Option<u32>,
 }
 
 impl Model for Viewer {
@@ -26,7 +26,7 @@ impl Model for Viewer {
 
     ghost Value = { Screen };
 
-    ghost view = { λ v. record { picture = v.view; open = v.open } };
+    ghost view = { λ v. record { picture = v.view; left = v.left } };
 }
 
 /// Why a line isn't taken.
@@ -64,7 +64,7 @@ impl Viewer {
     {
         Viewer {
             view: View::new(alloc),
-            open: None,
+            left: None,
         }
     }
 
@@ -93,9 +93,9 @@ impl Viewer {
 
     /// Is no frame open?
     pub fn is_between(&self) -> bool
-        ensures { IsTrue result ↔ IsNone self.now.open }
+        ensures { IsTrue result ↔ IsNone self.now.left }
     {
-        self.open.is_none()
+        self.left.is_none()
     }
 
     fn take_line(
@@ -104,9 +104,9 @@ impl Viewer {
         line: &[u8],
         out: &mut Vec<u8>,
     ) -> Result<(), StreamError>
-        ensures { Takes Bad (after_line_at self.old.open self.old.picture line.now) self.old self.new out.old.items out.new.items result }
+        ensures { Takes Bad (after_line_at self.old.left self.old.picture line.now) self.old self.new out.old.items out.new.items result }
     {
-        match self.open {
+        match self.left {
             None => self.take_between(alloc, line, out),
             Some(0) => self.take_item(alloc, line, out),
             Some(more) => self.take_rectangle(alloc, more - 1, line, out),
@@ -119,7 +119,7 @@ impl Viewer {
         line: &[u8],
         out: &mut Vec<u8>,
     ) -> Result<(), StreamError>
-        requires { self.old.open ≡ None }
+        requires { self.old.left ≡ None }
         ensures { Takes Bad (after_line_at None self.old.picture line.now) self.old self.new out.old.items out.new.items result }
     {
         if line.starts_with(b"frame") {
@@ -148,7 +148,7 @@ impl Viewer {
         append_line(out, line)?;
         match self.view.begin(alloc, frame.width, frame.height) {
             Ok(()) => {
-                self.open = Some(frame.rectangles);
+                self.left = Some(frame.rectangles);
                 Ok(())
             }
             Err(ViewError::Size) => Err(StreamError::Bad),
@@ -163,14 +163,14 @@ impl Viewer {
         line: &[u8],
         out: &mut Vec<u8>,
     ) -> Result<(), StreamError>
-        requires { self.old.open ≡ Some (suc more) }
+        requires { self.old.left ≡ Some (suc more) }
         ensures { Takes Bad (after_line_at (Some (suc more)) self.old.picture line.now) self.old self.new out.old.items out.new.items result }
     {
         if !is_rectangle(alloc, line)? {
             return Err(StreamError::Bad);
         }
         append_line(out, line)?;
-        self.open = Some(more);
+        self.left = Some(more);
         Ok(())
     }
 
@@ -180,12 +180,12 @@ impl Viewer {
         line: &[u8],
         out: &mut Vec<u8>,
     ) -> Result<(), StreamError>
-        requires { self.old.open ≡ Some 0 }
+        requires { self.old.left ≡ Some 0 }
         ensures { Takes Bad (after_line_at (Some 0) self.old.picture line.now) self.old self.new out.old.items out.new.items result }
     {
         if line == b"endframe".as_slice() {
             self.view.print(out)?;
-            self.open = None;
+            self.left = None;
             return Ok(());
         }
         let item = read_item(alloc, line)?;
@@ -194,8 +194,12 @@ impl Viewer {
 
     /// Shows a row item.
     fn show(&mut self, item: Option<FoundItem>) -> Result<(), StreamError>
+        requires { self.old.left ≡ Some 0 }
+        ensures { (said : Option Item) (out : List ℕ) → IsFound item said →
+            Takes Bad (after_item self.old.picture said) self.old self.new out out result }
     {
         let Some(item) = item else {
+            self.view.laws();
             return Err(StreamError::Bad);
         };
         if !self.view.holds(item.x, item.y, item.pixels.len()) {

@@ -1,9 +1,10 @@
 //! A view: the picture that a viewer shows, and which pixels are sent to it.
 //! A player begins each frame here and sends its damaged rows; what is written goes to a stream.
-ghost use Rattle.std.specs.Prelude.{◌≡◌, ◌↔◌, ◌≤◌, ◌<◌, ◌+◌, ◌*◌, ◌++◌, ◌∷◌, [], Err, IfOk, OnOk, OnErr, IsTrue, false, not, length, take, drop, replicate, if◌then◌else◌};
+ghost use Rattle.std.specs.Prelude.{◌≡◌, ◌↔◌, ◌≤◌, ◌<◌, ◌+◌, ◌-◌, ◌*◌, ◌++◌, ◌∷◌, [], Err, IfOk, OnOk, OnErr, IsTrue, false, not, length, take, drop, replicate, if◌then◌else◌};
 ghost use Rattle.fx_base.specs.Pixel.{white};
 ghost use Rattle.fx_text.specs.Characters.{line_feed};
-ghost use Rattle.fx_delta.specs.Lines.{Item, item_line};
+ghost use Rattle.fx_delta.specs.Lines.{item_line};
+ghost use Rattle.fx_delta.specs.Pictures.{is_size};
 ghost use Rattle.fx_delta.specs.Reading.{Appends};
 ghost use Rattle.fx_delta.specs.declared.views.ViewError.TheVariants.{Memory};
 
@@ -63,7 +64,7 @@ pub fn is_size(width: u32, height: u32) -> bool
 }
 
 impl View {
-    ghost use Rattle.fx_delta.specs.Pictures.{Lies, begun, image, is_size, no_picture, row_of, shows, start_of, with_pixels};
+    ghost use Rattle.fx_delta.specs.Pictures.{Lies, begun, image, lies, no_picture, row_of, shows, start_of, with_pixels};
 
     /// A view before its first frame.
     pub fn new(alloc: Global) -> View
@@ -143,6 +144,13 @@ impl View {
         ensures { result ≡ lies self.now x y count }
     {
         y < self.height && x <= self.width && count <= (self.width - x) as usize
+    }
+
+    /// What is true of every view.
+    pub(crate) fn laws(&self)
+        ensures { self.now.width ≤ 2048 }
+    {
+        let _width = self.width;
     }
 
     /// Appends all rows as text.

@@ -1,2 +1,3 @@
 pub mod PictureLemmas
+pub mod ReadingLemmas
 pub mod RowLemmas

@@ -1,9 +1,10 @@
 //! The lines of a stream, read by their words: frame lines, rectangles and row items.
 //! A viewer asks here what a line says; what it does with the line is decided there.
-ghost use Rattle.std.specs.Prelude.{◌≡◌, ◌≤◌, ◌<◌, ◌-◌, ◌^◌, ◌&&◌, ◌==◌, List, Bor, ℕ, IfOk, IsTrue, codes, length, map, min, not};
+ghost use Rattle.std.specs.Prelude.{◌≡◌, ◌&&◌, ◌∷◌, ◌++◌, [], IfOk, IsTrue, codes, length, map};
 ghost use Rattle.std.specs.Char.{is_ascii_digit};
 ghost use Rattle.std.specs.List.{list_all};
 ghost use Rattle.std.specs.Option.{option_map};
+ghost use Rattle.std.specs.Str.{bytes_eq};
 ghost use Rattle.fx_text.specs.Digits.{number_of_digits};
 ghost use Rattle.fx_delta.specs.Lines as spec;
 ghost use Rattle.fx_delta.specs.Reading.{IsFound, capped, few_words};
@@ -91,22 +92,42 @@ fn frame_in(words: &[&[u8]]) -> Option<Frame>
 {
     match words {
         [word, number, width, height, damage, count] => {
-            if *word == b"frame".as_slice() && *damage == b"damage".as_slice() {
-                frame_of(
-                    number_of(number),
-                    number_of(width),
-                    number_of(height),
-                    number_of(count),
-                )
-            } else {
-                None
-            }
+            frame_said(word, number, width, height, damage, count)
         }
         _ => None,
     }
 }
 
-fn frame_of(
+fn frame_said(
+    word: &[u8],
+    number: &[u8],
+    width: &[u8],
+    height: &[u8],
+    damage: &[u8],
+    count: &[u8],
+) -> Option<Frame>
+    ensures { result ≡ spec.frame_in
+        (word.now ∷ number.now ∷ width.now ∷ height.now ∷ damage.now ∷ count.now ∷ []) }
+{
+    if are_frame_words(word, damage) {
+        capped_frame(
+            number_of(number),
+            number_of(width),
+            number_of(height),
+            number_of(count),
+        )
+    } else {
+        None
+    }
+}
+
+fn are_frame_words(first: &[u8], fifth: &[u8]) -> bool
+    ensures { result ≡ (bytes_eq first.now (codes "frame") && bytes_eq fifth.now (codes "damage")) }
+{
+    first == b"frame".as_slice() && fifth == b"damage".as_slice()
+}
+
+fn capped_frame(
     number: Option<u32>,
     width: Option<u32>,
     height: Option<u32>,
@@ -142,16 +163,57 @@ fn are_rectangle(words: &[&[u8]]) -> bool
 fn item_in(alloc: Global, words: &[&[u8]]) -> Result<Option<FoundItem>, AllocError>
     ensures { IfOk result (λ item. IsFound item (spec.item_in (map (λ word. word.now) words.now))) }
 {
-    match words {
-        [word, x, y, pixels @ ..] => {
-            if *word != b"row".as_slice() || pixels.is_empty() {
-                return Ok(None);
-            }
-            let pixels = pixels_of(alloc, pixels)?;
-            Ok(item_of(number_of(x), number_of(y), pixels))
-        }
-        _ => Ok(None),
+    if words.len() < 4 {
+        return Ok(None);
     }
+    let (head, pixels) = words.split_at(4);
+    head_item(alloc, head, pixels)
+}
+
+fn head_item(
+    alloc: Global,
+    head: &[&[u8]],
+    pixels: &[&[u8]],
+) -> Result<Option<FoundItem>, AllocError>
+    requires { length head.now ≡ 4 }
+    ensures { IfOk result (λ item. IsFound item (spec.item_in
+        (map (λ word. word.now) head.now ++ map (λ word. word.now) pixels.now))) }
+{
+    match head {
+        [word, x, y, first] => words_item(alloc, word, x, y, first, pixels),
+        _ => unreachable!(),
+    }
+}
+
+fn words_item(
+    alloc: Global,
+    word: &[u8],
+    x: &[u8],
+    y: &[u8],
+    first: &[u8],
+    pixels: &[&[u8]],
+) -> Result<Option<FoundItem>, AllocError>
+    ensures { IfOk result (λ item. IsFound item (spec.item_in
+        (word.now ∷ x.now ∷ y.now ∷ first.now ∷ map (λ word. word.now) pixels.now))) }
+{
+    if !is_row_word(word) {
+        return Ok(None);
+    }
+    let pixels = first_pixels(alloc, first, pixels)?;
+    Ok(item_said(x, y, pixels))
+}
+
+fn is_row_word(word: &[u8]) -> bool
+    ensures { result ≡ bytes_eq word.now (codes "row") }
+{
+    word == b"row".as_slice()
+}
+
+fn item_said(x: &[u8], y: &[u8], pixels: Option<Vec<u32>>) -> Option<FoundItem>
+    ensures { IsFound result (spec.item_of (spec.number_of x.now) (spec.number_of y.now)
+        (option_map (λ found. found.items) pixels)) }
+{
+    item_of(number_of(x), number_of(y), pixels)
 }
 
 fn item_of(x: Option<u32>, y: Option<u32>, pixels: Option<Vec<u32>>) -> Option<FoundItem>
@@ -163,11 +225,15 @@ fn item_of(x: Option<u32>, y: Option<u32>, pixels: Option<Vec<u32>>) -> Option<F
     }
 }
 
-fn pixels_of(alloc: Global, words: &[&[u8]]) -> Result<Option<Vec<u32>>, AllocError>
+fn first_pixels(alloc: Global, first: &[u8], words: &[&[u8]]) -> Result<Option<Vec<u32>>, AllocError>
     ensures { IfOk result (λ pixels.
-        option_map (λ found. found.items) pixels ≡ spec.pixels_of (map (λ word. word.now) words.now)) }
+        option_map (λ found. found.items) pixels ≡ spec.pixels_of (first.now ∷ map (λ word. word.now) words.now)) }
 {
-    let mut pixels = Vec::with_capacity(alloc, words.len())?;
+    let Some(pixel) = pixel_of(first) else {
+        return Ok(None);
+    };
+    let mut pixels = Vec::with_capacity(alloc, words.len().saturating_add(1))?;
+    pixels.push(pixel)?;
     for word in words {
         let Some(pixel) = pixel_of(word) else {
             return Ok(None);
@@ -207,10 +273,15 @@ fn is_number(word: &[u8]) -> bool
     ensures { result ≡ spec.is_number word.now }
 {
     match word {
-        [b'0'] => true,
-        [b'0', ..] | [] => false,
-        digits => digits.iter().all(|digit| digit.is_ascii_digit()),
+        [first, rest @ ..] => are_digits(word) && (*first != b'0' || rest.is_empty()),
+        [] => false,
     }
+}
+
+fn are_digits(word: &[u8]) -> bool
+    ensures { result ≡ list_all is_ascii_digit word.now }
+{
+    word.iter().all(|byte| byte.is_ascii_digit())
 }
 
 fn capped_number(digits: &[u8]) -> u32

@@ -1,9 +1,9 @@
 //! A viewer: takes a stream line by line, and shows the picture of each frame as text.
 //! It stands between the reader of lines and the view that holds the picture.
-ghost use Rattle.std.specs.Prelude.{ℕ, List, Option, ◌≡◌, ◌↔◌, ◌-◌, ◌++◌, ◌∷◌, [], Some, None, OnOk, OnErr, IsErr, IsErrOf, IsOkAnd, IsTrue, IsNone, suc, take, length};
+ghost use Rattle.std.specs.Prelude.{ℕ, List, Option, ◌≡◌, ◌↔◌, ◌++◌, ◌∷◌, [], Some, None, OnOk, OnErr, IsErr, IsErrOf, IsOkAnd, IsTrue, IsNone, codes, suc};
+ghost use Rattle.std.specs.Str.{bytes_eq};
 ghost use Rattle.fx_text.specs.Characters.{line_feed};
-ghost use Rattle.fx_delta.specs.Pictures.{Picture};
-ghost use Rattle.fx_delta.specs.Lines.{Item};
+ghost use Rattle.fx_delta.specs.Lines.{Item, frame_in, words};
 ghost use Rattle.fx_delta.specs.Reading.{Appends, IsFound, Takes};
 ghost use Rattle.fx_delta.specs.declared.viewers.StreamError.TheVariants.{Bad, Memory};
 
@@ -78,7 +78,8 @@ impl Viewer {
     ) -> Result<(), StreamError>
         ensures ok { OnOk result (IsOkAnd (after_line self.old line.now) (λ step.
             (self.new ≡ step.screen) × (out.new.items ≡ out.old.items ++ step.written))) }
-        ensures bad { (IsErrOf result StreamError.Bad) ↔ IsErr (after_line self.old line.now) }
+        // So a bad line is never taken, and is told as such unless memory is wanting.
+        ensures bad { IsErrOf result StreamError.Bad → IsErr (after_line self.old line.now) }
         ensures err { OnErr result ((self.new ≡ self.old) × (out.new.items ≡ out.old.items)) }
     {
         let before = out.len();
@@ -140,6 +141,7 @@ impl Viewer {
         line: &[u8],
         out: &mut Vec<u8>,
     ) -> Result<(), StreamError>
+        requires { frame ≡ frame_in (words line.now) }
         ensures { Takes Bad (after_frame self.old.picture line.now frame) self.old self.new out.old.items out.new.items result }
     {
         let Some(frame) = frame else {
@@ -183,7 +185,7 @@ impl Viewer {
         requires { self.old.left ≡ Some 0 }
         ensures { Takes Bad (after_line_at (Some 0) self.old.picture line.now) self.old self.new out.old.items out.new.items result }
     {
-        if line == b"endframe".as_slice() {
+        if is_end(line) {
             self.view.print(out)?;
             self.left = None;
             return Ok(());
@@ -198,8 +200,8 @@ impl Viewer {
         ensures { (said : Option Item) (out : List ℕ) → IsFound item said →
             Takes Bad (after_item self.old.picture said) self.old self.new out out result }
     {
+        self.view.laws();
         let Some(item) = item else {
-            self.view.laws();
             return Err(StreamError::Bad);
         };
         if !self.view.holds(item.x, item.y, item.pixels.len()) {
@@ -208,6 +210,12 @@ impl Viewer {
         self.view.put(item.x, item.y, item.pixels.as_slice());
         Ok(())
     }
+}
+
+fn is_end(line: &[u8]) -> bool
+    ensures { result ≡ bytes_eq line.now (codes "endframe") }
+{
+    line == b"endframe".as_slice()
 }
 
 /// Appends the line and a line feed.

@@ -148,7 +148,8 @@ impl View {
 
     /// What is true of every view.
     pub(crate) fn laws(&self)
-        ensures { self.now.width ≤ 2048 }
+        ensures narrow { self.now.width ≤ 2048 }
+        ensures low { self.now.height ≤ 2048 }
     {
         let _width = self.width;
     }

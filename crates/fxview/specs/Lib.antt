@@ -1,0 +1,4 @@
+pub mod Exits
+pub mod Ends
+pub mod Showing
+pub mod Viewing

@@ -1,7 +1,6 @@
 -- Pixels in a picture: what stays when the same are put there, and the image row by row.
-use Rattle.std.proofs.Common.{◌≡◌, ◌+◌, suc, zero, ℕ, true, List, [], ◌∷◌, ◌++◌, length, take, drop, refl, sym, ◌∙◌, ap, arith, append_assoc, append-nil}
+use Rattle.std.proofs.Common.{◌≡◌, ◌+◌, suc, zero, ℕ, true, List, [], ◌∷◌, ◌++◌, length, take, drop, sym, ◌∙◌, ap, arith, append_assoc, append-nil}
 use Rattle.std.specs.List.{flat_map, range_with_len}
-use Rattle.std.specs.Str.{bytes_eq}
 use Rattle.std.proofs.lemmas.List.{take-append-drop, drop-drop}
 use Rattle.std.proofs.lemmas.Grind.{flat_map-append}
 use Rattle.std.proofs.lemmas.Slice.Eq.{bytes_eq-Decides}
@@ -38,6 +37,6 @@ rows_text-more picture y old mid new before more =
     let text : ℕ → List ℕ = λ y. row_text (row_of picture y) in
     let one : y + 1 ≡ suc y = omega arith in
     let is : rows_text picture (y + 1) ≡ rows_text picture y ++ text y =
-        ap (rows_text picture) one ∙ ap (flat_map text) (range_more 0 y) ∙ flat_map-append text (range_with_len 0 y) ((0 + y) ∷ [])
-        ∙ ap (λ (l : List ℕ). rows_text picture y ++ l) (ap (λ (n : ℕ). text n ++ []) (omega arith) ∙ append-nil (text y)) in
+    ap (rows_text picture) one ∙ ap (flat_map text) (range_more 0 y) ∙ flat_map-append text (range_with_len 0 y) ((0 + y) ∷ [])
+    ∙ ap (λ (l : List ℕ). rows_text picture y ++ l) (ap (λ (n : ℕ). text n ++ []) (omega arith) ∙ append-nil (text y)) in
     more ∙ ap (λ (l : List ℕ). l ++ text y) before ∙ append_assoc old (rows_text picture y) (text y) ∙ ap (λ (l : List ℕ). old ++ l) (sym is)

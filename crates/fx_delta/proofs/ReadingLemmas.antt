@@ -21,14 +21,13 @@ frame w h k = record { width = w; height = h; rectangles = k }
 abbrev pub screen : Picture → Option ℕ → Screen
 screen picture left = record { picture = picture; left = left }
 
-
 -- one digit more
 pub capped-digit : (digits : List ℕ) (i before times after : ℕ) → i < length digits → before ≡ capped (number_of_digits (take i digits))
     → times ≡ min (before * 10) (2 ^ 32 - 1) → after ≡ min (times + (get_or digits i 0 - 48)) (2 ^ 32 - 1)
     → after ≡ capped (number_of_digits (take (i + 1) digits))
 capped-digit digits i before times after within b t a =
     let more : number_of_digits (take (i + 1) digits) ≡ number_of_digits (take i digits) * 10 + (get_or digits i 0 - 48) =
-        ap number_of_digits (take_more digits i 0 within) ∙ number-append (take i digits) (get_or digits i 0 ∷ []) ∙ omega arith in
+    ap number_of_digits (take_more digits i 0 within) ∙ number-append (take i digits) (get_or digits i 0 ∷ []) ∙ omega arith in
     omega (arith, more)
 
 capped-capped : (n : ℕ) → capped (capped n) ≡ capped n
@@ -78,9 +77,9 @@ IsFound-many (w ∷ x ∷ y ∷ p ∷ ps) h =
 -- more words than were asked for
 pub many_words : (most : ℕ) (line : List ℕ) → few_words most line ≡ None → most < length (words line)
 many_words most line e = elim (leb_tells (length (words line)) most) [
-    | inl t ↦ absurd (differs (ap (λ b. cond b (Some (words line)) None) (sym t.0) ∙ e))
-    | inr t ↦ omega (arith, t.1)
-  ]
+  | inl t ↦ absurd (differs (ap (λ b. cond b (Some (words line)) None) (sym t.0) ∙ e))
+  | inr t ↦ omega (arith, t.1)
+]
   where
     differs : Some (words line) ≡ None → ⊥
     differs e = cc
@@ -154,7 +153,7 @@ pub IsFound-joined : {E : Type 0} (n : ℕ) (ws head rest : List (Bor (List ℕ)
     → IfOk result (λ item. IsFound item (item_in (now_of head ++ now_of rest))) → IfOk result (λ item. IsFound item (item_in (now_of ws)))
 IsFound-joined {E} n ws head rest result front back h =
     let same : now_of head ++ now_of rest ≡ now_of ws =
-        sym (map-append head rest) ∙ ap now_of (rw (front, back) (take-append-drop n ws)) in
+    sym (map-append head rest) ∙ ap now_of (rw (front, back) (take-append-drop n ws)) in
     let Found : List (List ℕ) → Type 0 = λ words. IfOk result (λ item. IsFound item (item_in words)) in
     subst Found same h
 
@@ -201,13 +200,13 @@ Takes-item {E} bad old before after left (Some item) found count pixels out view
     let at_places : lies before (capped item.x) (capped item.y) count ≡ true = rw (← h.0, ← h.1) within in
     let parts = lies_parts before (capped item.x) (capped item.y) count at_places in
     let inside : lies before item.x item.y (length item.pixels) ≡ true =
-        sym (lies-capped before item.x item.y (length item.pixels) narrow low)
-        ∙ ap (λ (n : ℕ). lies before (capped item.x) (capped item.y) n) (sym long) ∙ at_places in
+    sym (lies-capped before item.x item.y (length item.pixels) narrow low)
+    ∙ ap (λ (n : ℕ). lies before (capped item.x) (capped item.y) n) (sym long) ∙ at_places in
     let at_x : found.x ≡ item.x = h.0 ∙ small_x parts.0 in
     let at_y : found.y ≡ item.y = h.1 ∙ small_y parts.1 in
     let same : after ≡ with_pixels before item.x item.y item.pixels =
-        is ∙ ap (λ (x : ℕ). with_pixels before x found.y pixels) at_x ∙ ap (λ (y : ℕ). with_pixels before item.x y pixels) at_y
-        ∙ ap (λ (l : List ℕ). with_pixels before item.x item.y l) px in
+    is ∙ ap (λ (x : ℕ). with_pixels before x found.y pixels) at_x ∙ ap (λ (y : ℕ). with_pixels before item.x y pixels) at_y
+    ∙ ap (λ (l : List ℕ). with_pixels before item.x item.y l) px in
     let none : left ≡ Some 0 = ap (λ (s : Screen). s.left) view ∙ items_left in
     let shown : Step = record { screen = screen (with_pixels before item.x item.y item.pixels) (Some 0); written = [] } in
     let step : after_item before (Some item) ≡ Ok shown = ap (λ b. cond b (Ok shown) (Err outside)) inside in

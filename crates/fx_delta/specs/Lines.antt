@@ -1,9 +1,9 @@
 -- The lines of a stream of changed rows: what each is written as, and what a line says by its words.
-use Rattle.std.specs.Prelude.{ℕ, Bool, true, false, ◌+◌, ◌*◌, ◌==◌, ◌&&◌, ◌||◌, List, [], ◌∷◌, ◌++◌, Option, Some, None, codes, nat_le, not, length, if◌then◌else◌}
+use Rattle.std.specs.Prelude.{ℕ, Bool, false, ◌+◌, ◌*◌, ◌==◌, ◌&&◌, ◌||◌, List, [], ◌∷◌, ◌++◌, Option, Some, None, codes, nat_le, not, length, if◌then◌else◌}
 use Rattle.std.specs.Char.{is_ascii_digit}
 use Rattle.std.specs.Fmt.{decimal}
 use Rattle.std.specs.List.{list_all, slice_split}
-use Rattle.std.specs.Option.{option_and_then, option_map, is_some}
+use Rattle.std.specs.Option.{option_and_then, option_map}
 use Rattle.std.specs.Str.{bytes_eq}
 use Rattle.fx_text.specs.Characters.{digit_zero, space}
 use Rattle.fx_text.specs.Classes.{hex_value}
@@ -69,7 +69,8 @@ pixel_of _ = None
 
 abbrev pub pixels_of : List (List ℕ) → Option (List ℕ)
 pixels_of [] = Some []
-pixels_of (word ∷ words) = option_and_then (λ pixel. option_map (λ more. pixel ∷ more) (pixels_of words)) (pixel_of word)
+pixels_of (word ∷ words) =
+    option_and_then (λ pixel. option_map (λ more. pixel ∷ more) (pixels_of words)) (pixel_of word)
 
 abbrev pub item_of : Option ℕ → Option ℕ → Option (List ℕ) → Option Item
 item_of (Some x) (Some y) (Some pixels) = Some (record { x = x; y = y; pixels = pixels })

@@ -1,5 +1,5 @@
 -- What the reader of lines finds, and what taking a line does.
-use Rattle.std.specs.Prelude.{ℕ, ◌≡◌, ◌<◌, ◌-◌, ◌^◌, Bool, min, List, ◌++◌, Option, Some, None, Result, Ok, Err, OnOk, OnErr, IsErr, IsOkAnd, length, nat_le, if◌then◌else◌}
+use Rattle.std.specs.Prelude.{ℕ, ◌≡◌, ◌<◌, ◌-◌, ◌^◌, min, List, ◌++◌, Option, Some, None, Result, Ok, Err, OnOk, OnErr, IsErr, IsOkAnd, length, nat_le, if◌then◌else◌}
 use Rattle.fx_delta.specs.Lines.{Item, words}
 use Rattle.fx_delta.specs.Stream.{Flaw, Screen, Step}
 use Rattle.fx_delta.specs.declared.lines.FoundItem.{FoundItem}
@@ -26,7 +26,8 @@ pub record Appends {T E : Type 0} (old new : List ℕ) (result : Result T E) (by
   pub err : OnErr result ((more : List ℕ) × (new ≡ old ++ more))
 
 -- a call that does what the step says, and answers `bad` only where there is none; at an error the screen stays
-pub record Takes {T E : Type 0} (bad : E) (step : Result Step Flaw) (old new : Screen) (was now : List ℕ) (result : Result T E) : Type 0 where
+pub record Takes {T E : Type 0} (bad : E) (step : Result Step Flaw) (old new : Screen) (was now : List ℕ)
+    (result : Result T E) : Type 0 where
   pub ok : OnOk result (IsOkAnd step (λ does. (new ≡ does.screen) × (now ≡ was ++ does.written)))
   pub is_bad : result ≡ Err bad → IsErr step
   pub err : OnErr result ((new ≡ old) × ((more : List ℕ) × (now ≡ was ++ more)))

@@ -1,5 +1,5 @@
 -- What a viewer shows of a stream: a fold over its lines.
-use Rattle.std.specs.Prelude.{ℕ, Bool, true, false, ◌+◌, ◌==◌, ◌&&◌, ◌||◌, List, [], ◌∷◌, ◌++◌, Option, Some, None, Result, Ok, Err, codes, nat_eq, suc, zero, length, if◌then◌else◌}
+use Rattle.std.specs.Prelude.{ℕ, Bool, ◌+◌, ◌==◌, ◌||◌, List, [], ◌∷◌, ◌++◌, Option, Some, None, Result, Ok, Err, codes, nat_eq, suc, zero, length, if◌then◌else◌}
 use Rattle.std.specs.List.{slice_split, starts_with}
 use Rattle.std.specs.Str.{bytes_eq}
 use Rattle.fx_text.specs.Characters.{line_feed}
@@ -14,13 +14,13 @@ pub record Screen : Type 0 where
 
 -- why a line is bad, or the end of the stream
 pub data Flaw : Type 0 where
-  no_frame : Flaw           -- begins with `frame`, and isn't a frame line
-  stray : Flaw              -- begins with `row` or `endframe`, and no frame is open
-  no_rectangle : Flaw       -- isn't one of the rectangles that are to come
-  no_item : Flaw            -- is neither a row item nor `endframe`, where one of these must stand
-  outside : Flaw            -- a row item that doesn't lie within the picture
-  unfinished : Flaw         -- the stream ends, and a frame is open
-  unended : Flaw            -- the last line has no line feed
+  no_frame : Flaw  -- begins with `frame`, and isn't a frame line
+  stray : Flaw  -- begins with `row` or `endframe`, and no frame is open
+  no_rectangle : Flaw  -- isn't one of the rectangles that are to come
+  no_item : Flaw  -- is neither a row item nor `endframe`, where one of these must stand
+  outside : Flaw  -- a row item that doesn't lie within the picture
+  unfinished : Flaw  -- the stream ends, and a frame is open
+  unended : Flaw  -- the last line has no line feed
 
 -- what a line makes of the screen, and what is written for it
 pub record Step : Type 0 where

@@ -21,8 +21,8 @@ pub struct Frame {
     pub rectangles: u32,
 }
 
-/// What a row item says: pixels, and where the first of them goes. A greater number than 32 bits hold is the greatest of
-/// these.
+/// What a row item says: pixels, and where the first of them goes. A greater number than 32 bits hold is the
+/// greatest of these.
 #[derive(Drop)]
 pub struct FoundItem {
     pub x: u32,
@@ -225,7 +225,11 @@ fn item_of(x: Option<u32>, y: Option<u32>, pixels: Option<Vec<u32>>) -> Option<F
     }
 }
 
-fn first_pixels(alloc: Global, first: &[u8], words: &[&[u8]]) -> Result<Option<Vec<u32>>, AllocError>
+fn first_pixels(
+    alloc: Global,
+    first: &[u8],
+    words: &[&[u8]],
+) -> Result<Option<Vec<u32>>, AllocError>
     ensures { IfOk result (λ pixels.
         option_map (λ found. found.items) pixels ≡ spec.pixels_of (first.now ∷ map (λ word. word.now) words.now)) }
 {
@@ -290,7 +294,9 @@ fn capped_number(digits: &[u8]) -> u32
 {
     let mut number: u32 = 0;
     for digit in digits {
-        number = number.saturating_mul(10).saturating_add(u32::from(*digit - b'0'));
+        number = number
+            .saturating_mul(10)
+            .saturating_add(u32::from(*digit - b'0'));
     }
     number
 }

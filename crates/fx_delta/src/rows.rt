@@ -4,7 +4,7 @@ ghost use Rattle.std.specs.Prelude.{◌≡◌, ◌<◌, ◌++◌, ◌∷◌, [],
 ghost use Rattle.std.specs.Fmt.{decimal, digit_glyph};
 ghost use Rattle.std.specs.List.{flat_map};
 ghost use Rattle.fx_text.specs.Characters.{line_feed, space};
-ghost use Rattle.fx_delta.specs.Lines.{Item, item_line};
+ghost use Rattle.fx_delta.specs.Lines.{item_line};
 ghost use Rattle.fx_delta.specs.Reading.{Appends};
 ghost use Rattle.fx_delta.specs.Rows.{pixel_text, pixels_text, row_text};
 ghost use Rattle.fx_delta.specs.Runs.{IsRun};
@@ -14,7 +14,8 @@ use std::alloc::{AllocError, Global};
 /// The line of the row item that starts at this place, with its line feed.
 #[tactic(auto, unfolding(crate::specs::Lines::item_line))]
 pub fn item_text(alloc: Global, x: u32, y: u32, pixels: &[u32]) -> Result<Vec<u8>, AllocError>
-    ensures { IfOk result (λ text. text.items ≡ item_line (record { x = x; y = y; pixels = pixels.now }) ++ line_feed ∷ []) }
+    ensures { IfOk result (λ text.
+        text.items ≡ item_line (record { x = x; y = y; pixels = pixels.now }) ++ line_feed ∷ []) }
 {
     let mut text = item_head(alloc, x, y)?;
     print_row(&mut text, pixels)?;

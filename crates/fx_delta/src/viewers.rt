@@ -13,8 +13,8 @@ use std::alloc::{AllocError, AllocFailed, Global};
 use std::marker::Model;
 use thiserror::Error;
 
-/// The picture that is shown, and where in a frame the stream stands: `left` is how many rectangles are still to come, or
-/// `None` between two frames.
+/// The picture that is shown, and where in a frame the stream stands: `left` is how many rectangles are still to
+/// come, or `None` between two frames.
 #[derive(Drop)]
 pub struct Viewer {
     view: View,
@@ -56,7 +56,7 @@ impl<T: Drop> From<AllocFailed<T>> for StreamError {
 }
 
 impl Viewer {
-    ghost use Rattle.fx_delta.specs.Stream.{after_frame, after_item, after_line, after_line_at, copied, first_screen, no_rectangle};
+    ghost use Rattle.fx_delta.specs.Stream.{after_frame, after_item, after_line, after_line_at, first_screen};
 
     /// A viewer before the first line.
     pub fn new(alloc: Global) -> Viewer
@@ -70,12 +70,7 @@ impl Viewer {
 
     /// Takes one line, which is given without its line feed, and appends what is written for it.
     #[tactic(auto, unfolding(crate::specs::Stream::after_line))]
-    pub fn take(
-        &mut self,
-        alloc: Global,
-        line: &[u8],
-        out: &mut Vec<u8>,
-    ) -> Result<(), StreamError>
+    pub fn take(&mut self, alloc: Global, line: &[u8], out: &mut Vec<u8>) -> Result<(), StreamError>
         ensures ok { OnOk result (IsOkAnd (after_line self.old line.now) (λ step.
             (self.new ≡ step.screen) × (out.new.items ≡ out.old.items ++ step.written))) }
         // So a bad line is never taken, and is told as such unless memory is wanting.
@@ -105,7 +100,8 @@ impl Viewer {
         line: &[u8],
         out: &mut Vec<u8>,
     ) -> Result<(), StreamError>
-        ensures { Takes Bad (after_line_at self.old.left self.old.picture line.now) self.old self.new out.old.items out.new.items result }
+        ensures { Takes Bad (after_line_at self.old.left self.old.picture line.now)
+            self.old self.new out.old.items out.new.items result }
     {
         match self.left {
             None => self.take_between(alloc, line, out),
@@ -121,7 +117,8 @@ impl Viewer {
         out: &mut Vec<u8>,
     ) -> Result<(), StreamError>
         requires { self.old.left ≡ None }
-        ensures { Takes Bad (after_line_at None self.old.picture line.now) self.old self.new out.old.items out.new.items result }
+        ensures { Takes Bad (after_line_at None self.old.picture line.now)
+            self.old self.new out.old.items out.new.items result }
     {
         if line.starts_with(b"frame") {
             let frame = read_frame(alloc, line)?;
@@ -142,7 +139,8 @@ impl Viewer {
         out: &mut Vec<u8>,
     ) -> Result<(), StreamError>
         requires { frame ≡ frame_in (words line.now) }
-        ensures { Takes Bad (after_frame self.old.picture line.now frame) self.old self.new out.old.items out.new.items result }
+        ensures { Takes Bad (after_frame self.old.picture line.now frame)
+            self.old self.new out.old.items out.new.items result }
     {
         let Some(frame) = frame else {
             return Err(StreamError::Bad);
@@ -166,7 +164,8 @@ impl Viewer {
         out: &mut Vec<u8>,
     ) -> Result<(), StreamError>
         requires { self.old.left ≡ Some (suc more) }
-        ensures { Takes Bad (after_line_at (Some (suc more)) self.old.picture line.now) self.old self.new out.old.items out.new.items result }
+        ensures { Takes Bad (after_line_at (Some (suc more)) self.old.picture line.now)
+            self.old self.new out.old.items out.new.items result }
     {
         if !is_rectangle(alloc, line)? {
             return Err(StreamError::Bad);
@@ -183,7 +182,8 @@ impl Viewer {
         out: &mut Vec<u8>,
     ) -> Result<(), StreamError>
         requires { self.old.left ≡ Some 0 }
-        ensures { Takes Bad (after_line_at (Some 0) self.old.picture line.now) self.old self.new out.old.items out.new.items result }
+        ensures { Takes Bad (after_line_at (Some 0) self.old.picture line.now)
+            self.old self.new out.old.items out.new.items result }
     {
         if is_end(line) {
             self.view.print(out)?;

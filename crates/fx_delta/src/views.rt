@@ -1,6 +1,6 @@
 //! A view: the picture that a viewer shows, and which pixels are sent to it.
 //! A player begins each frame here and sends its damaged rows; what is written goes to a stream.
-ghost use Rattle.std.specs.Prelude.{◌≡◌, ◌↔◌, ◌≤◌, ◌<◌, ◌+◌, ◌-◌, ◌*◌, ◌++◌, ◌∷◌, [], Err, IfOk, OnOk, OnErr, IsTrue, false, not, length, take, drop, replicate, if◌then◌else◌};
+ghost use Rattle.std.specs.Prelude.{◌≡◌, ◌↔◌, ◌≤◌, ◌<◌, ◌+◌, ◌-◌, ◌*◌, ◌++◌, ◌∷◌, [], Err, IfOk, OnOk, OnErr, false, not, length, take, drop, replicate, if◌then◌else◌};
 ghost use Rattle.fx_base.specs.Pixel.{white};
 ghost use Rattle.fx_text.specs.Characters.{line_feed};
 ghost use Rattle.fx_delta.specs.Lines.{item_line};
@@ -95,8 +95,8 @@ impl View {
         Ok(())
     }
 
-    /// Shows the pixels, as 0x00RRGGBB, from column `x` of row `y` on. Appends the row item, with its line feed, exactly
-    /// where they differ from what the view shows there, and answers whether it did.
+    /// Shows the pixels, as 0x00RRGGBB, from column `x` of row `y` on. Appends the row item, with its line feed,
+    /// exactly where they differ from what the view shows there, and answers whether it did.
     pub fn send(
         &mut self,
         alloc: Global,

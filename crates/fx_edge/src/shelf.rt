@@ -1,6 +1,6 @@
 //! The shelf of real files: a name is a path, seen from the folder that the program was started in.
 //! It is the program's edge: no contract says what the files hold.
-ghost use Rattle.std.specs.Prelude.{◌≡◌, ◌↔◌, ◌⊎◌, ◌≤◌, None, IfOk, IfSome, Ok, Some, Err};
+ghost use Rattle.std.specs.Prelude.{◌≡◌, None, IfOk, IfSome, Ok, Some, Err};
 ghost use Rattle.std.specs.IoError.{error_kind};
 ghost use Rattle.fx_port.specs.Causes.{HasCause, next_count};
 ghost use Rattle.fx_port.specs.Files.{IsWithin, found_by, found_of_bytes};

@@ -1,13 +1,13 @@
 -- The lines of a stream one by one, and what is written for them.
-use Rattle.std.proofs.Common.{◌≡◌, ◌≤◌, ◌<◌, ◌+◌, suc, ℕ, Bool, true, false, ◌⊎◌, inl, inr, not, List, [], ◌∷◌, ◌++◌, length, take, drop, length-drop, ◌-◌, Option, Some, None, Result, Ok, Err, refl, sym, ◌∙◌, ap, subst, arith, append-nil, cond}
+use Rattle.std.proofs.Common.{◌≡◌, ◌≤◌, ◌<◌, ◌+◌, suc, ℕ, Bool, true, false, inl, inr, not, List, [], ◌∷◌, ◌++◌, length, take, drop, length-drop, ◌-◌, Option, Some, None, Result, Ok, Err, refl, sym, ◌∙◌, ap, arith, append-nil, cond}
 use Rattle.std.specs.Result.{IsErr, IsOkAnd}
-use Rattle.std.specs.List.{slice_split, prefix_len, position, position_or_len, before_first, after_first, onto_first}
+use Rattle.std.specs.List.{slice_split, position, position_or_len, before_first, after_first, onto_first}
 use Rattle.std.proofs.Math.Seq.{take_all}
 use Rattle.std.proofs.lemmas.Bool.Decides.{leb_tells}
 use Rattle.std.proofs.lemmas.List.Splits.{length-slice_split, slice_split_first}
-use Rattle.fx_delta.specs.Stream.{Flaw, first_screen, Screen, Shown, Step, after_line, is_line_feed, shown, shown_from, shown_parts, told}
-use Rattle.fx_port.specs.Pieces.{GrewByPrefix, GrewUpTo, Writes, grown}
-use Rattle.fx_port.proofs.Growth.{goes_on, reaches_end, stops_between, stops_within, up_to_start}
+use Rattle.fx_delta.specs.Stream.{Flaw, first_screen, Screen, Shown, Step, after_line, is_line_feed, shown, shown_parts, told}
+use Rattle.fx_port.specs.Pieces.{Writes, grown}
+use Rattle.fx_port.proofs.Growth.{goes_on, reaches_end, stops_within, up_to_start}
 use Rattle.fxview.specs.Showing.{written_for}
 
 -- where no element passes there is one part
@@ -22,9 +22,9 @@ one_part p (x ∷ xs) h = go (p x) (λ h. one_part p xs h) h
 
 pub split-none : (text : List ℕ) → position is_line_feed text ≡ None → slice_split is_line_feed text ≡ text ∷ []
 split-none text e = elim (leb_tells (suc (position_or_len is_line_feed text)) (length text)) [
-    | inl t ↦ absurd (some (ap (λ b. cond b (Some (position_or_len is_line_feed text)) None) (sym t.0) ∙ e))
-    | inr t ↦ one_part is_line_feed text (omega (arith, t.1))
-  ]
+  | inl t ↦ absurd (some (ap (λ b. cond b (Some (position_or_len is_line_feed text)) None) (sym t.0) ∙ e))
+  | inr t ↦ one_part is_line_feed text (omega (arith, t.1))
+]
   where
     some : Some (position_or_len is_line_feed text) ≡ None → ⊥
     some e = cc
@@ -32,9 +32,9 @@ split-none text e = elim (leb_tells (suc (position_or_len is_line_feed text)) (l
 pub split-some : (text : List ℕ) (end : ℕ) → position is_line_feed text ≡ Some end
     → (end ≡ position_or_len is_line_feed text) × (slice_split is_line_feed text ≡ before_first is_line_feed text ∷ slice_split is_line_feed (after_first is_line_feed text))
 split-some text end e = elim (leb_tells (suc (position_or_len is_line_feed text)) (length text)) [
-    | inl t ↦ (same (ap (λ b. cond b (Some (position_or_len is_line_feed text)) None) (sym t.0) ∙ e), slice_split_first is_line_feed text 0 (omega (arith, t.1)))
-    | inr t ↦ absurd (none (ap (λ b. cond b (Some (position_or_len is_line_feed text)) None) (sym t.0) ∙ e))
-  ]
+  | inl t ↦ (same (ap (λ b. cond b (Some (position_or_len is_line_feed text)) None) (sym t.0) ∙ e), slice_split_first is_line_feed text 0 (omega (arith, t.1)))
+  | inr t ↦ absurd (none (ap (λ b. cond b (Some (position_or_len is_line_feed text)) None) (sym t.0) ∙ e))
+]
   where
     same : Some (position_or_len is_line_feed text) ≡ Some end → end ≡ position_or_len is_line_feed text
     same e = cc
@@ -84,7 +84,7 @@ left_of-good mid new number viewer after line rest behind split good =
     go (Err flaw) is good = absurd good
     go (Ok does) is good =
         let same : left_of (number + 1) does.screen behind ≡ left_of (number + 1) after behind =
-            ap (λ (s : Screen). left_of (number + 1) s behind) (sym good.0) in
+        ap (λ (s : Screen). left_of (number + 1) s behind) (sym good.0) in
         record {
           given = does.written;
           bytes = ap (λ (s : Shown). s.bytes) is ∙ ap (λ (s : Shown). does.written ++ s.bytes) same;
@@ -137,8 +137,7 @@ pub parts_at : (text : List ℕ) (end : ℕ) → position is_line_feed text ≡ 
 parts_at text end e within =
     let is = split-some text end e in
     let whole : take (length text - (end + 1)) (drop (end + 1) text) ≡ drop (end + 1) text =
-        take_all (length text - (end + 1)) (drop (end + 1) text) (omega (arith, length-drop (end + 1) text)) in
-    (
+    take_all (length text - (end + 1)) (drop (end + 1) text) (omega (arith, length-drop (end + 1) text)) in (
       is.1 ∙ ap (λ (n : ℕ). take n text ∷ slice_split is_line_feed (drop (n + 1) text)) (sym is.0)
           ∙ ap (λ (l : List ℕ). take end text ∷ slice_split is_line_feed l) (sym whole),
       omega (arith, ap length whole, length-drop (end + 1) text),

@@ -9,7 +9,8 @@ written_for (Ok step) = step.written
 written_for (Err flaw) = []
 
 -- a good line gave what its step says, a bad one nothing; at an error a part of that was written
-abbrev pub GaveLine : {E : Type 0} → Option (List ℕ) → Option (List ℕ) → Screen → Result Step Flaw → Result Bool E → Type 0
+abbrev pub GaveLine : {E : Type 0}
+    → Option (List ℕ) → Option (List ℕ) → Screen → Result Step Flaw → Result Bool E → Type 0
 GaveLine old new after step (Ok true) = IsOkAnd step (λ does. (after ≡ does.screen) × (new ≡ grown old does.written))
 GaveLine old new after step (Ok false) = IsErr step × (new ≡ old)
 GaveLine old new after step (Err e) = GrewByPrefix old new (written_for step)

@@ -3,7 +3,7 @@ use Rattle.std.specs.Prelude.{◌≡◌, ℕ, List, [], ◌∷◌, ◌++◌, Opt
 use Rattle.std.specs.Fmt.{decimal}
 use Rattle.std.specs.List.{starts_with}
 use Rattle.fx_text.specs.Characters.{space}
-use Rattle.fx_delta.specs.Stream.{Shown, shown}
+use Rattle.fx_delta.specs.Stream.{shown}
 use Rattle.fx_port.specs.Files.{Files, Found, whole, absent, longer, found_in}
 use Rattle.fx_port.specs.Pieces.{grown}
 use Rattle.fxview.specs.declared.answers.ViewStatus.{ViewStatus}

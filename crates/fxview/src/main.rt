@@ -4,6 +4,8 @@
 
 mod answers;
 mod streams;
+#[cfg(test)]
+mod tests;
 mod top;
 
 use answers::{ViewStatus, exit_code};

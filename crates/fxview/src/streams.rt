@@ -1,6 +1,6 @@
 //! Showing a stream: its lines one by one, and what a viewer gives for each to the sink.
 //! It stands between the held bytes and the viewer; what is wrong is told above.
-ghost use Rattle.std.specs.Prelude.{◌≡◌, ◌≤◌, ◌<◌, ◌∷◌, [], IfOk, IfSome, IsErr, MatchOption, MatchBool, MatchResult, OnErr, length};
+ghost use Rattle.std.specs.Prelude.{◌≡◌, ◌≤◌, ◌<◌, ◌∷◌, [], IfOk, IfSome, MatchOption, length};
 ghost use Rattle.std.specs.List.{position, slice_split};
 ghost use Rattle.fx_delta.specs.Stream.{after_line, is_line_feed, shown};
 ghost use Rattle.fx_port.specs.Causes.{HasCause};
@@ -13,7 +13,11 @@ use fx_port::{PutError, Sink};
 use std::alloc::Global;
 
 /// Writes what is shown of the stream, and answers the number of its first bad line, counted from 1.
-pub fn put_shown<O: Sink>(alloc: Global, stream: &[u8], out: &mut O) -> Result<Option<u64>, PutError>
+pub fn put_shown<O: Sink>(
+    alloc: Global,
+    stream: &[u8],
+    out: &mut O,
+) -> Result<Option<u64>, PutError>
     requires { length stream.now ≤ 268435456 }
     ensures cause { HasCause Failed (O.faults out.old) (O.faults out.new) result }
     ensures writes { Writes (O.written out.old) (O.written out.new) result (shown stream.now).bytes }

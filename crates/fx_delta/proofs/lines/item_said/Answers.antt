@@ -1,8 +1,7 @@
 -- the numbers are capped alone
-use Rattle.std.proofs.Common.{ℕ, Option, subst, Vec}
-use Rattle.std.specs.Option.{option_map}
+
 use Rattle.fx_delta.specs.Lines.{item_of, number_of}
-use Rattle.fx_delta.specs.Reading.{IsFound, capped}
+use Rattle.fx_delta.specs.Reading.{capped}
 use Rattle.fx_delta.proofs.ReadingLemmas.{IsFound-capped}
 use Rattle.fx_delta.proofs.lines.item_said.Goals as goal
 

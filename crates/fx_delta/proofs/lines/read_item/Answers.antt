@@ -1,6 +1,5 @@
 -- too many words for a picture
-use Rattle.std.proofs.Common.{◌∙◌, ap, sym}
-use Rattle.std.specs.Option.{option_map}
+use Rattle.std.proofs.Common.{sym}
 use Rattle.fx_delta.specs.Lines.{words}
 use Rattle.fx_delta.proofs.ReadingLemmas.{IsFound-many, many_words}
 use Rattle.fx_delta.proofs.lines.read_item.Goals as goal

@@ -22,7 +22,7 @@ pub loop-line-preserved : goal.loop-line-preserved
 loop-line-preserved g c =
     let sink = g.O.Sink in
     let gave = left_of-good (sink.written c.loop-line.out) (sink.written c.put_line.new.out) c.loop-line.number c.loop-line.viewer c.put_line.new.viewer
-        c.in-Some.line.now c.loop-line.rest.now c.in-Some.behind.now c.in-Some.ensures.0 (rw c.if-not-good.false at c.in_ok-good.ensures.gave) in
+    c.in-Some.line.now c.loop-line.rest.now c.in-Some.behind.now c.in-Some.ensures.0 (rw c.if-not-good.false at c.in_ok-good.ensures.gave) in
     record {
       later = omega (arith, c.in_ok-good.ensures.cause.later);
       written = goes_on gave.given (left_of (c.loop-line.number + 1) c.put_line.new.viewer c.in-Some.behind.now).bytes c.loop-line.invariant.written gave.bytes gave.grew;

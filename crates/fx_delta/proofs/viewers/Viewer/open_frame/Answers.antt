@@ -8,7 +8,7 @@ use Rattle.fx_delta.proofs.viewers.Viewer.open_frame.Goals as goal
 pub returns-in-Err-Size : goal.returns-in-Err-Size
 returns-in-Err-Size c =
     let fits : is_size c.in-Some.frame.width c.in-Some.frame.height ≡ true =
-        frame_in-is_size (words c.args.line.now) c.in-Some.frame (sym c.requires ∙ c.in-Some.is) in
+    frame_in-is_size (words c.args.line.now) c.in-Some.frame (sym c.requires ∙ c.in-Some.is) in
     let fails : is_size c.in-Some.frame.width c.in-Some.frame.height ≡ false =
-        c.in-Err-Size.ensures.size.0 (ap Err c.in-Err-Size.field-0-is) in
+    c.in-Err-Size.ensures.size.0 (ap Err c.in-Err-Size.field-0-is) in
     absurd (cc)

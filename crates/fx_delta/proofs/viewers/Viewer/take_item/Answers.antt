@@ -1,5 +1,5 @@
 -- no end, but a row item
-use Rattle.std.proofs.Common.{sym, ◌∙◌, ap, ◌≡◌, false, codes}
+use Rattle.std.proofs.Common.{sym, ◌∙◌, ◌≡◌, false, codes}
 use Rattle.std.specs.Str.{bytes_eq}
 use Rattle.fx_delta.specs.Lines.{item_in, words}
 use Rattle.fx_delta.proofs.viewers.Viewer.take_item.Goals as goal

@@ -1,0 +1,4 @@
+pub mod NumberLemmas
+pub mod AskingLemmas
+pub mod ReadingLemmas
+pub mod SortLemmas

@@ -1,0 +1,4 @@
+pub mod Asking
+pub mod Held
+pub mod Reading
+pub mod Values

@@ -1,0 +1,100 @@
+//! What the values of options say, and the number of a demo.
+//! Each is found from the bytes of a word or of what is behind a `=`.
+ghost use Rattle.std.specs.Prelude.{◌≡◌, ◌≤◌, ◌<◌, ◌&&◌, IsTrue, length, nat_le};
+ghost use Rattle.std.specs.Char.{is_ascii_digit};
+ghost use Rattle.std.specs.List.{list_all, prefix_len};
+ghost use Rattle.fx_text.specs.Digits.{number_of_digits};
+ghost use Rattle.fx_words.specs.Values as spec;
+
+use crate::runs::{Frames, Size};
+
+/// `WxH`.
+#[tactic(auto, unfolding(crate::specs::Values::size_of))]
+pub(crate) fn size_of(text: &[u8]) -> Option<Size>
+    ensures { result ≡ spec.size_of text.now }
+{
+    let (width, behind) = text.split_at(x_in(text));
+    sized(number_up_to(2048, width), height_of(behind))
+}
+
+fn sized(width: Option<u32>, height: Option<u32>) -> Option<Size>
+    ensures { result ≡ spec.sized width height }
+{
+    match (width, height) {
+        (Some(width), Some(height)) => Some(Size { width, height }),
+        _ => None,
+    }
+}
+
+fn height_of(text: &[u8]) -> Option<u32>
+    ensures { result ≡ spec.height_of text.now }
+{
+    match text {
+        [_, digits @ ..] => number_up_to(2048, digits),
+        [] => None,
+    }
+}
+
+fn x_in(text: &[u8]) -> usize
+    ensures len { result ≡ prefix_len spec.before_x text.now }
+    ensures within { result ≤ length text.now }
+{
+    text.iter().take_while(|c| **c != b'x').count()
+}
+
+#[tactic(auto, unfolding(crate::specs::Values::frames_of))]
+pub(crate) fn frames_of(text: &[u8]) -> Option<Frames>
+    ensures { result ≡ spec.frames_of text.now }
+{
+    if text == b"text".as_slice() {
+        Some(Frames::Text)
+    } else if text == b"ppm".as_slice() {
+        Some(Frames::Ppm)
+    } else if text == b"none".as_slice() {
+        Some(Frames::Nothing)
+    } else if text == b"delta".as_slice() {
+        Some(Frames::Delta)
+    } else {
+        None
+    }
+}
+
+/// A decimal number without sign or leading zero, of four digits at most.
+#[tactic(auto, using(crate::proofs::NumberLemmas::long_is_none), unfolding(crate::specs::Values::number_up_to))]
+pub(crate) fn number_up_to(most: u32, text: &[u8]) -> Option<u32>
+    requires { most < 10000 }
+    ensures { result ≡ spec.number_up_to most text.now }
+{
+    if text.len() > 4 || !is_decimal(text) {
+        return None;
+    }
+    let number = number_of_digits(text);
+    if number <= most { Some(number) } else { None }
+}
+
+fn is_decimal(text: &[u8]) -> bool
+    ensures { result ≡ spec.is_decimal text.now }
+{
+    match text {
+        [first, ..] => *first != b'0' && are_digits(text),
+        [] => false,
+    }
+}
+
+fn are_digits(text: &[u8]) -> bool
+    ensures { result ≡ list_all is_ascii_digit text.now }
+{
+    text.iter().all(|c| c.is_ascii_digit())
+}
+
+fn number_of_digits(digits: &[u8]) -> u32
+    requires digits { IsTrue (list_all is_ascii_digit digits.now) }
+    requires few { length digits.now ≤ 4 }
+    ensures { result ≡ number_of_digits digits.now }
+{
+    let mut number = 0;
+    for digit in digits {
+        number = number * 10 + u32::from(*digit - b'0');
+    }
+    number
+}

@@ -54,6 +54,7 @@ impl<'a> Words<'a> {
     }
 
     /// The first word, which is empty where none is left.
+    #[tactic(auto, unfolding(crate::specs::Taking::word_in, crate::specs::Taking::behind_word))]
     fn next(&mut self) -> &'a str
         ensures word { result.now ≡ spec.word_in self.old.left.now }
         ensures left { self.new.left.now ≡ spec.behind_word self.old.left.now }
@@ -120,17 +121,24 @@ fn char_count(text: &str) -> usize
 }
 
 /// The identifiers between the dots of a word.
-#[tactic(auto, unfolding(crate::specs::Taking::names))]
 fn names(alloc: Global, word: &str) -> Result<List<Text>, Stop>
     ensures { Gives result (spec.names word.now) }
 {
     let mut names = Vec::new(alloc);
     let mut rest = word;
     while let Some((name, others)) = cut_at_dot(rest) {
-        names.push(read_name(alloc, name)?)?;
+        let name = match read_name(alloc, name) {
+            Ok(name) => name,
+            Err(stop) => return Err(stop),
+        };
+        names.push(name)?;
         rest = others;
     }
-    names.push(read_name(alloc, rest)?)?;
+    let last = match read_name(alloc, rest) {
+        Ok(name) => name,
+        Err(stop) => return Err(stop),
+    };
+    names.push(last)?;
     Ok(List::from_vec(names))
 }
 

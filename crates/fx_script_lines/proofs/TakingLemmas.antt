@@ -59,11 +59,12 @@ pub name_turn : (done new : List (List ℕ)) (text word name others t : List ℕ
     → (list_all is_name new ≡ true) × (new ++ names_in others ≡ names_in word)
 name_turn done new text word name others t cut read is good all =
     let named = name_is name t read in
-    let front : t ≡ before_first is_dot text = sym named.1 ∙ cut.0 in
-    (ap (list_all is_name) is ∙ all_more done t good named.0,
-    ap (λ ns. ns ++ names_in others) (is ∙ ap (λ (n : List ℕ). done ++ (n ∷ [])) front)
-    ∙ ap (λ (o : List ℕ). (done ++ (before_first is_dot text ∷ [])) ++ names_in o) cut.1
-    ∙ one_more_name done text cut.2 ∙ all)
+    let front : t ≡ before_first is_dot text = sym named.1 ∙ cut.0 in (
+      ap (list_all is_name) is ∙ all_more done t good named.0,
+      ap (λ ns. ns ++ names_in others) (is ∙ ap (λ (n : List ℕ). done ++ (n ∷ [])) front)
+          ∙ ap (λ (o : List ℕ). (done ++ (before_first is_dot text ∷ [])) ++ names_in o) cut.1
+          ∙ one_more_name done text cut.2 ∙ all,
+    )
 
 -- the last name
 pub names_end : (done new : List (List ℕ)) (text word t : List ℕ) → CutsAtDot text None → name_of text ≡ Some t
@@ -73,7 +74,7 @@ unfolding names
 names_end done new text word t cut read is good all =
     let named = name_is text t read in
     let whole : names_in word ≡ new =
-        sym all ∙ ap (λ ns. done ++ ns) (last_name text cut ∙ ap (λ (n : List ℕ). n ∷ []) named.1) ∙ sym is in
+    sym all ∙ ap (λ ns. done ++ ns) (last_name text cut ∙ ap (λ (n : List ℕ). n ∷ []) named.1) ∙ sym is in
     let fine : list_all is_name new ≡ true = ap (list_all is_name) is ∙ all_more done t good named.0 in
     rw (whole, fine) refl
 

@@ -1,7 +1,8 @@
 -- What a line asks for, by its first word and what is behind that and one space.
-use Rattle.std.specs.Prelude.{ℕ, List, Option}
+use Rattle.std.specs.Prelude.{ℕ, List, Option, None, Some}
 use Rattle.std.specs.Option.{option_map}
-use Rattle.fx_script_lines.specs.Taking.{alone, ended, label, pair, path, quadruple, rest, reverse, triple, word}
+use Rattle.fx_script_lines.specs.Taking.{alone, behind_word, ended, label, pair, path, quadruple, rest, reverse, triple, word, word_in}
+use Rattle.fx_script_lines.specs.Keywords.{event_word, node_word, property_word, time_word}
 use Rattle.fx_script_lines.specs.declared.instructions.Instruction.{Instruction}
 use Rattle.fx_script_lines.specs.declared.instructions.Instruction.TheVariants as line
 use Rattle.fx_script_lines.specs.declared.shapes.Shape.TheVariants.{Any, Identifier, Ident, Integer, Place, Count, Notice, Kind, Switch}
@@ -61,3 +62,19 @@ time time_word.Keyframe text = option_map (λ a. line.Keyframe a.0 a.1 a.2 a.3) 
 time time_word.Play text = option_map line.Play (alone (word Identifier) text)
 time time_word.Stop text = option_map line.Stop (alone (word Identifier) text)
 time time_word.Tick text = option_map line.Tick (alone (word Integer) text)
+
+-- by a first word, if it is one of these, or else otherwise
+abbrev pub by_word : {K : Type 0} → (K → List ℕ → Option Instruction) → Option K → List ℕ → Option Instruction
+    → Option Instruction
+by_word form None text other = other
+by_word form (Some keyword) text other = form keyword text
+
+-- by the first word and what is behind it
+unfoldable pub instruction_behind : List ℕ → List ℕ → Option Instruction
+instruction_behind first text =
+    by_word property (property_word first) text (by_word node (node_word first) text
+    (by_word event (event_word first) text (by_word time (time_word first) text None)))
+
+-- what a line asks for, where its form has words, paths and texts alone
+abbrev pub instruction_of : List ℕ → Option Instruction
+instruction_of text = instruction_behind (word_in text) (behind_word text)

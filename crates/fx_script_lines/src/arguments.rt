@@ -52,7 +52,11 @@ impl Words<'_> {
         Ok((one, other))
     }
 
-    pub(crate) fn path_and_word(&mut self, alloc: Global, form: Shape) -> Result<(List<Text>, Text), Stop>
+    pub(crate) fn path_and_word(
+        &mut self,
+        alloc: Global,
+        form: Shape,
+    ) -> Result<(List<Text>, Text), Stop>
         ensures { Gives result (pair path (word form) self.old.left.now) }
     {
         let path = self.path(alloc)?;
@@ -61,7 +65,12 @@ impl Words<'_> {
         Ok((path, word))
     }
 
-    pub(crate) fn two_words(&mut self, alloc: Global, first: Shape, second: Shape) -> Result<(Text, Text), Stop>
+    pub(crate) fn two_words(
+        &mut self,
+        alloc: Global,
+        first: Shape,
+        second: Shape,
+    ) -> Result<(Text, Text), Stop>
         ensures { Gives result (pair (word first) (word second) self.old.left.now) }
     {
         let one = self.word(alloc, first)?;
@@ -70,7 +79,12 @@ impl Words<'_> {
         Ok((one, other))
     }
 
-    pub(crate) fn two_words_and_rest(&mut self, alloc: Global, first: Shape, second: Shape) -> Result<(Text, Text, Str), Stop>
+    pub(crate) fn two_words_and_rest(
+        &mut self,
+        alloc: Global,
+        first: Shape,
+        second: Shape,
+    ) -> Result<(Text, Text, Str), Stop>
         ensures { Gives result (triple (word first) (word second) rest self.old.left.now) }
     {
         let one = self.word(alloc, first)?;
@@ -80,7 +94,10 @@ impl Words<'_> {
         Ok((one, other, rest))
     }
 
-    pub(crate) fn path_word_and_rest(&mut self, alloc: Global) -> Result<(List<Text>, Text, Str), Stop>
+    pub(crate) fn path_word_and_rest(
+        &mut self,
+        alloc: Global,
+    ) -> Result<(List<Text>, Text, Str), Stop>
         ensures { Gives result (triple path (word shape.Any) rest self.old.left.now) }
     {
         let path = self.path(alloc)?;
@@ -90,7 +107,11 @@ impl Words<'_> {
         Ok((path, word, rest))
     }
 
-    pub(crate) fn path_and_two_words(&mut self, alloc: Global, second: Shape) -> Result<(List<Text>, Text, Text), Stop>
+    pub(crate) fn path_and_two_words(
+        &mut self,
+        alloc: Global,
+        second: Shape,
+    ) -> Result<(List<Text>, Text, Text), Stop>
         ensures { Gives result (triple path (word shape.Any) (word second) self.old.left.now) }
     {
         let path = self.path(alloc)?;
@@ -100,7 +121,10 @@ impl Words<'_> {
         Ok((path, one, other))
     }
 
-    pub(crate) fn two_paths_and_place(&mut self, alloc: Global) -> Result<(List<Text>, List<Text>, Text), Stop>
+    pub(crate) fn two_paths_and_place(
+        &mut self,
+        alloc: Global,
+    ) -> Result<(List<Text>, List<Text>, Text), Stop>
         ensures { Gives result (triple path path (word shape.Place) self.old.left.now) }
     {
         let parent = self.path(alloc)?;
@@ -110,7 +134,10 @@ impl Words<'_> {
         Ok((parent, child, place))
     }
 
-    pub(crate) fn notice_of(&mut self, alloc: Global) -> Result<(Text, List<Text>, Option<Text>), Stop>
+    pub(crate) fn notice_of(
+        &mut self,
+        alloc: Global,
+    ) -> Result<(Text, List<Text>, Option<Text>), Stop>
         ensures { Gives result (triple (word shape.Notice) path label self.old.left.now) }
     {
         let notice = self.word(alloc, Shape::Notice)?;
@@ -120,7 +147,10 @@ impl Words<'_> {
         Ok((notice, path, label))
     }
 
-    pub(crate) fn watch_of(&mut self, alloc: Global) -> Result<(Text, List<Text>, Text, Option<Text>), Stop>
+    pub(crate) fn watch_of(
+        &mut self,
+        alloc: Global,
+    ) -> Result<(Text, List<Text>, Text, Option<Text>), Stop>
         ensures { Gives result (quadruple (word shape.Notice) path (word shape.Identifier) label self.old.left.now) }
     {
         let notice = self.word(alloc, Shape::Notice)?;
@@ -141,7 +171,10 @@ impl Words<'_> {
         Ok((name, count, reverse))
     }
 
-    pub(crate) fn keyframe_of(&mut self, alloc: Global) -> Result<(Text, Text, List<Text>, Str), Stop>
+    pub(crate) fn keyframe_of(
+        &mut self,
+        alloc: Global,
+    ) -> Result<(Text, Text, List<Text>, Str), Stop>
         ensures { Gives result (quadruple (word shape.Identifier) (word shape.Integer) path rest self.old.left.now) }
     {
         let name = self.word(alloc, Shape::Identifier)?;

@@ -4,18 +4,52 @@ ghost use Rattle.fx_script_lines.specs.Forms as spec;
 ghost use Rattle.fx_script_lines.specs.Taking.{Gives};
 
 use crate::instructions::Instruction;
-use crate::keywords::{EventWord, NodeWord, PropertyWord, TimeWord};
+use crate::keywords::{
+    EventWord, NodeWord, PropertyWord, TimeWord, event_word, node_word, property_word, time_word,
+};
 use crate::shapes::Shape;
 use crate::stops::Stop;
 use crate::words::Words;
 use std::alloc::Global;
 
-pub(crate) fn property_line(words: &mut Words<'_>, alloc: Global, keyword: PropertyWord) -> Result<Instruction, Stop>
+/// What the words behind the first one ask for.
+#[tactic(auto, unfolding(crate::specs::Forms::instruction_behind))]
+pub(crate) fn instruction(
+    words: &mut Words<'_>,
+    alloc: Global,
+    first: &[u8],
+) -> Result<Instruction, Stop>
+    ensures { Gives result (spec.instruction_behind first.now words.old.left.now) }
+{
+    if let Some(keyword) = property_word(first) {
+        return property_line(words, alloc, keyword);
+    }
+    if let Some(keyword) = node_word(first) {
+        return node_line(words, alloc, keyword);
+    }
+    if let Some(keyword) = event_word(first) {
+        return event_line(words, alloc, keyword);
+    }
+    if let Some(keyword) = time_word(first) {
+        return time_line(words, alloc, keyword);
+    }
+    Err(Stop::Form)
+}
+
+pub(crate) fn property_line(
+    words: &mut Words<'_>,
+    alloc: Global,
+    keyword: PropertyWord,
+) -> Result<Instruction, Stop>
     ensures { Gives result (spec.property keyword words.old.left.now) }
 {
     match keyword {
         PropertyWord::Prop => {
-            let (name, kind, rest) = words.two_words_and_rest(alloc, Shape::Identifier, Shape::Kind)?;
+            let (name, kind, rest) = words.two_words_and_rest(
+                alloc,
+                Shape::Identifier,
+                Shape::Kind,
+            )?;
             Ok(Instruction::Prop(name, kind, rest))
         }
         PropertyWord::Set => {
@@ -33,7 +67,10 @@ pub(crate) fn property_line(words: &mut Words<'_>, alloc: Global, keyword: Prope
             Ok(Instruction::Unpair(one, other))
         }
         PropertyWord::Owner => Ok(Instruction::Owner(words.word_alone(alloc, Shape::Identifier)?)),
-        PropertyWord::Release => Ok(Instruction::Release(words.word_alone(alloc, Shape::Identifier)?)),
+        PropertyWord::Release => Ok(Instruction::Release(words.word_alone(
+            alloc,
+            Shape::Identifier,
+        )?)),
         PropertyWord::Listen => {
             let (notice, path, label) = words.notice_of(alloc)?;
             Ok(Instruction::Listen(notice, path, label))
@@ -53,7 +90,11 @@ pub(crate) fn property_line(words: &mut Words<'_>, alloc: Global, keyword: Prope
     }
 }
 
-pub(crate) fn node_line(words: &mut Words<'_>, alloc: Global, keyword: NodeWord) -> Result<Instruction, Stop>
+pub(crate) fn node_line(
+    words: &mut Words<'_>,
+    alloc: Global,
+    keyword: NodeWord,
+) -> Result<Instruction, Stop>
     ensures { Gives result (spec.node keyword words.old.left.now) }
 {
     match keyword {
@@ -102,7 +143,11 @@ pub(crate) fn node_line(words: &mut Words<'_>, alloc: Global, keyword: NodeWord)
     }
 }
 
-pub(crate) fn event_line(words: &mut Words<'_>, alloc: Global, keyword: EventWord) -> Result<Instruction, Stop>
+pub(crate) fn event_line(
+    words: &mut Words<'_>,
+    alloc: Global,
+    keyword: EventWord,
+) -> Result<Instruction, Stop>
     ensures { Gives result (spec.event keyword words.old.left.now) }
 {
     match keyword {
@@ -144,7 +189,11 @@ pub(crate) fn event_line(words: &mut Words<'_>, alloc: Global, keyword: EventWor
     }
 }
 
-pub(crate) fn time_line(words: &mut Words<'_>, alloc: Global, keyword: TimeWord) -> Result<Instruction, Stop>
+pub(crate) fn time_line(
+    words: &mut Words<'_>,
+    alloc: Global,
+    keyword: TimeWord,
+) -> Result<Instruction, Stop>
     ensures { Gives result (spec.time keyword words.old.left.now) }
 {
     match keyword {

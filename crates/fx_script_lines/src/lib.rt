@@ -1,6 +1,9 @@
-//! The lines of a script: what each asks for, as a definition, and their reader.
-//! It stands between a script's bytes and the world that its lines change.
+//! The lines of a script whose forms have words, paths and texts alone: what each asks for, as a definition, and the
+//! reader that finds it. It stands between the text of a line and the world that lines change.
 #![tactic(auto)]
+
+ghost use Rattle.std.specs.Prelude.{◌≡◌, IfOk};
+ghost use Rattle.fx_script_lines.specs.Forms.{instruction_of};
 
 mod arguments;
 mod forms;
@@ -10,4 +13,24 @@ mod shapes;
 mod stops;
 mod words;
 
+use crate::forms::instruction;
+use crate::stops::Stop;
+use crate::words::Words;
 pub use instructions::Instruction;
+use std::alloc::{AllocError, Global};
+
+/// What the line asks for, if it is of one of these forms. Words are separated by spaces alone.
+pub fn read_instruction(alloc: Global, line: &str) -> Result<Option<Instruction>, AllocError>
+    ensures { IfOk result (λ found. found ≡ instruction_of line.now) }
+{
+    let mut words = Words { left: line };
+    let first = words.next();
+    match instruction(&mut words, alloc, first.as_bytes()) {
+        Ok(instruction) => Ok(Some(instruction)),
+        Err(Stop::Form) => Ok(None),
+        Err(Stop::Memory) => Err(AllocError),
+    }
+}
+
+#[cfg(test)]
+mod tests;

@@ -50,12 +50,16 @@ impl<'a> Words<'a> {
     pub(crate) fn end(&self) -> Result<(), Stop>
         ensures { Gives result (spec.ended tt self.now.left.now) }
     {
-        if self.is_over() { Ok(()) } else { Err(Stop::Form) }
+        if self.is_over() {
+            Ok(())
+        } else {
+            Err(Stop::Form)
+        }
     }
 
     /// The first word, which is empty where none is left.
     #[tactic(auto, unfolding(crate::specs::Taking::word_in, crate::specs::Taking::behind_word))]
-    fn next(&mut self) -> &'a str
+    pub(crate) fn next(&mut self) -> &'a str
         ensures word { result.now ≡ spec.word_in self.old.left.now }
         ensures left { self.new.left.now ≡ spec.behind_word self.old.left.now }
     {

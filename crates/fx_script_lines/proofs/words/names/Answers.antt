@@ -11,9 +11,9 @@ returns-in-Err c =
 pub loop-name-preserved : goal.loop-name-preserved
 loop-name-preserved c =
     let turn = name_turn c.loop-name.names.items c.push.new.self.items c.loop-name.rest.now c.args.word.now
-        c.in-Some.name.now c.in-Some.others.now c.in-Ok.name c.in-Some.ensures c.in-Ok.ensures
-        c.in_ok-push.ensures.items c.loop-name.invariant.good c.loop-name.invariant.all in
-    record { good = turn.0; all = turn.1; utf8 = search rules; }
+    c.in-Some.name.now c.in-Some.others.now c.in-Ok.name c.in-Some.ensures c.in-Ok.ensures
+    c.in_ok-push.ensures.items c.loop-name.invariant.good c.loop-name.invariant.all in
+    record { good = turn.0; all = turn.1; utf8 = search rules }
 
 pub returns-in-Err-read_name : goal.returns-in-Err-read_name
 returns-in-Err-read_name c =

@@ -204,7 +204,7 @@ pub fn place_of(
 /// Takes the dead out where they are more than half.
 fn prune(listeners: &mut Vec<Listener>, owners: &Owners, live: usize)
     requires { live ≡ length (spec.living_in owners.now.living listeners.old.items) }
-    ensures spec.pruned { listeners.new.items ≡ spec.pruned owners.now.living listeners.old.items }
+    ensures pruned { listeners.new.items ≡ spec.pruned owners.now.living listeners.old.items }
     ensures room { vec_capacity listeners.new ≡ vec_capacity listeners.old }
     ensures fewer { vec_len listeners.new ≤ vec_len listeners.old }
 {

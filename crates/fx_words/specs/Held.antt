@@ -6,7 +6,12 @@ use Rattle.fx_words.specs.declared.sorts.Awaits.{Awaits}
 
 abbrev pub arguments_in : Held → Arguments
 arguments_in a =
-    record { positionals = a.positionals.items; sizes = a.sizes.items; frames = a.frames.items; summaries = a.summaries }
+    record {
+      positionals = a.positionals.items;
+      sizes = a.sizes.items;
+      frames = a.frames.items;
+      summaries = a.summaries;
+    }
 
 abbrev pub state_in : Held → Awaits → State
 state_in a awaits = record { arguments = arguments_in a; awaits = awaits }

@@ -1,5 +1,5 @@
 -- The greatest level is what a search finds, and what it gives out is a share.
-use Rattle.std.proofs.Common.{◌≡◌, ℕ, zero, suc, Bool, true, false, cond, ◌+◌, ◌-◌, ◌^◌, ◌<◌, ◌≤◌, ◌⊎◌, List, [], ◌∷◌, length, map, drop, get_or, min, All, refl, sym, ◌∙◌, ap, inl, inr, arith, drop-cons, add-one}
+use Rattle.std.proofs.Common.{◌≡◌, ℕ, zero, suc, Bool, true, false, cond, ◌+◌, ◌-◌, ◌^◌, ◌<◌, ◌≤◌, ◌⊎◌, List, [], ◌∷◌, length, map, drop, get_or, min, refl, sym, ◌∙◌, ap, inl, inr, arith, drop-cons, add-one}
 use Rattle.std.specs.Prelude.{nat_le}
 use Rattle.std.proofs.lemmas.Bool.{cases_lt, le-leb, leb-false, leb-true, lt-leb}
 use Rattle.fx_share.specs.Levels.{filled, levelled}

@@ -1,4 +1,4 @@
-use Rattle.std.proofs.Common.{◌≡◌, ◌-◌, ◌^◌, ◌<◌, ◌≤◌, ◌∙◌, arith, map, min}
+use Rattle.std.proofs.Common.{◌-◌, ◌^◌, ◌<◌, arith, map, min}
 use Rattle.fx_share.specs.Levels.{filled}
 use Rattle.fx_share.proofs.Levels.{filled-zero}
 use Rattle.fx_panes_parts.specs.Parts.{rooms}

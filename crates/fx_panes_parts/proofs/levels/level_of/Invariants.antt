@@ -1,4 +1,4 @@
-use Rattle.std.proofs.Common.{◌≡◌, ◌+◌, ◌-◌, ◌<◌, ◌≤◌, map}
+use Rattle.std.proofs.Common.{◌+◌, ◌-◌, ◌<◌, ◌≤◌, map}
 use Rattle.fx_share.specs.Levels.{filled}
 use Rattle.fx_panes_parts.specs.Parts.{rooms}
 use Rattle.fx_panes_parts.proofs.levels.level_of.Given as goal

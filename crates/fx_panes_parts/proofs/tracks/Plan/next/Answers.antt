@@ -1,4 +1,3 @@
-use Rattle.std.proofs.Common.{◌≡◌, ◌+◌, ◌-◌}
 use Rattle.fx_panes_parts.proofs.TrackLemmas.{next_length}
 use Rattle.fx_panes_parts.proofs.tracks.Plan.next.Goals as goal
 

@@ -1,5 +1,5 @@
--- A pane whose children stand in columns and rows: JavaFX 21 API, javafx.scene.layout.GridPane. Columns and rows are one
--- rule for the two axes. Cited by src/grid.rt.
+-- A pane whose children stand in columns and rows: JavaFX 21 API, javafx.scene.layout.GridPane.
+-- Columns and rows are one rule for the two axes. Cited by src/grid.rt.
 use Rattle.std.specs.Prelude.{◌≡◌, ◌&&◌, Bool, nat_le, ℕ, ◌+◌, ◌-◌, ◌*◌, ◌^◌, ◌<◌, ◌≤◌, All, List, length, map, sum, sum_by, take, drop, unwrap_or}
 use Rattle.std.specs.List.{list_all}
 use Rattle.fx_base.specs.declared.facts.ChildSize.{ChildSize}
@@ -81,8 +81,8 @@ pub record AreLengths (axis : Axis) (lengths : List ℕ) (children : List ChildS
   pub short : All (λ n. n < 2 ^ 34) lengths
   pub within : All (IsWithin axis (length lengths)) children
 
--- Grids that have the same columns and are the same across have the same widths, and their children stand at the same places
--- across, whatever the rows and the heights are.
+-- Grids that have the same columns and are the same across have the same widths, and their children stand at the
+-- same places across, whatever the rows and the heights are.
 pub record IsGridAcrossFirst : Type 0 where
   pub widths : (p q : PaneFacts) (cs ds : List ChildSize) → pane_axis Across p ≡ pane_axis Across q
       → p.columns ≡ q.columns → along Across cs ≡ along Across ds

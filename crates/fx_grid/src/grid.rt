@@ -100,7 +100,8 @@ fn extent(
 ) -> Result<Extent, AllocError>
     requires given { length given.now ≤ 256 }
     requires cells { All (IsCell axis) children.now }
-    ensures { IfOk result (λ extent. extent ≡ grid_extent given.now (pane_axis axis pane.now) (along axis children.now)) }
+    ensures { IfOk result (λ extent. extent
+        ≡ grid_extent given.now (pane_axis axis pane.now) (along axis children.now)) }
 {
     let facts = pane_axis(axis, pane);
     let tracks = tracks_of(alloc, axis, facts.gap, given, children)?;

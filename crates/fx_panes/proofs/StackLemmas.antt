@@ -1,5 +1,5 @@
 -- The children of a stack as parts.
-use Rattle.std.proofs.Common.{◌≡◌, ℕ, ◌+◌, List, [], ◌∷◌, map, refl, ap}
+use Rattle.std.proofs.Common.{◌≡◌, ℕ, ◌+◌, List, map, refl}
 use Rattle.std.proofs.lemmas.Simd.{map-map}
 use Rattle.fx_base.specs.declared.facts.ChildSize.{ChildSize}
 use Rattle.fx_panes_parts.specs.declared.axes.Axis.{Axis}

@@ -1,6 +1,6 @@
--- A pane with children at its edges and in its centre: JavaFX 21 API, javafx.scene.layout.BorderPane. Along an axis two of
--- the edges stand at its head and its tail, and what is left lies in the middle. Across, the top and the bottom have the
--- whole content; down, all but these two have the middle. Cited by src/border.rt.
+-- A pane with children at its edges and in its centre: JavaFX 21 API, javafx.scene.layout.BorderPane.
+-- Along an axis two of the edges stand at its head and its tail, and what is left lies in the middle. Across, the top
+-- and the bottom have the whole content; down, all but these two have the middle. Cited by src/border.rt.
 use Rattle.std.specs.Prelude.{ℕ, ◌+◌, ◌-◌, ◌≤◌, ◌==◌, if◌then◌else◌, List, fold, map, max, unwrap_or, Option, Some, None}
 use Rattle.fx_base.specs.declared.facts.ChildSize.{ChildSize}
 use Rattle.fx_base.specs.declared.facts.PaneFacts.{PaneFacts}
@@ -27,7 +27,8 @@ use Rattle.fx_panes.specs.Rules.{extent_by, inner, outer_by}
 -- the edge of this number; a child of a BorderPane has one, and the centre stands in for none
 unfoldable pub edge_of : Option ℕ → Edge
 edge_of (Some number) =
-    if number == 0 then Top else (if number == 1 then Right else (if number == 2 then Bottom else (if number == 3 then Left else Center)))
+    if number == 0 then Top else (if number == 1 then Right
+    else (if number == 2 then Bottom else (if number == 3 then Left else Center)))
 edge_of None = Center
 
 unfoldable pub area_of : Axis → Edge → Area

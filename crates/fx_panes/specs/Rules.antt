@@ -24,4 +24,5 @@ outer_by bound child = outer child (length_by bound child)
 
 -- a pane's extent, from what a rule computes for its minimum and for its preferred length
 abbrev pub extent_by : (Bound → PaneAxis → List ChildAxis → ℕ) → PaneAxis → List ChildAxis → Extent
-extent_by computed pane children = pane_extent pane.own (computed Minimum pane children) (computed Preferred pane children)
+extent_by computed pane children =
+    pane_extent pane.own (computed Minimum pane children) (computed Preferred pane children)

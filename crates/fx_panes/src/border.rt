@@ -70,7 +70,8 @@ pub fn place<L: Ledgers>(
     h: i64,
     work: &mut Work<L>,
 ) -> Result<Vec<Rect>, AllocError>
-    ensures rects { IfOk result (λ rects. rects.items ≡ border_rects pane.now children.now (length_of w) (length_of h)) }
+    ensures rects { IfOk result (λ rects. rects.items
+        ≡ border_rects pane.now children.now (length_of w) (length_of h)) }
     ensures each { IfOk result (λ rects. length rects.items ≡ length children.now) }
     ensures work { work.new ≡ record work.old { laid = work.old.laid + 1 } }
 {

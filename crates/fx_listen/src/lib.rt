@@ -70,7 +70,7 @@ impl Model for Listeners {
 
     ghost view = { λ l. record { entries = l.entries.items; given = l.given } };
 
-    ghost invariant = { λ l. spec.IsSound (record { entries = l.entries.items; given = l.given }) };
+    ghost invariant = { λ l. IsSound (record { entries = l.entries.items; given = l.given }) };
 }
 
 impl Listeners {

@@ -1,16 +1,13 @@
 //! The program: plays a script on a scene over real files and standard output, and ends with the run's exit
-//! status. What it decides is decided by `fx_play`; here stand the words, the two adapters and the statuses.
+//! status. What it decides is decided by `fx_play`; here stand the words and the statuses.
 #![tactic(auto)]
 
 mod exits;
-mod shelf;
-mod sink;
 mod start;
 
 use exits::exit_code;
+use fx_edge::{FileShelf, OutSink};
 use fx_play::Status;
-use shelf::FileShelf;
-use sink::OutSink;
 use start::start;
 use std::alloc::AllocError;
 use std::marker::Brand;

@@ -139,9 +139,11 @@ pair r s text = option_and_then (λ x. option_and_then (λ y. ended (x.0, y.0) y
 
 abbrev pub triple : {A B C : Type 0} → Reader A → Reader B → Reader C → List ℕ → Option (A × B × C)
 triple r s t text =
-    option_and_then (λ x. option_and_then (λ y. option_and_then (λ z. ended (x.0, y.0, z.0) z.1) (t y.1)) (s x.1)) (r text)
+    option_and_then (λ x. option_and_then (λ y. option_and_then (λ z. ended (x.0, y.0, z.0) z.1) (t y.1))
+    (s x.1)) (r text)
 
-abbrev pub quadruple : {A B C D : Type 0} → Reader A → Reader B → Reader C → Reader D → List ℕ → Option (A × B × C × D)
+abbrev pub quadruple : {A B C D : Type 0} → Reader A → Reader B → Reader C → Reader D → List ℕ
+    → Option (A × B × C × D)
 quadruple r s t u text =
     option_and_then (λ w. option_and_then (λ x. option_and_then (λ y. option_and_then (λ z.
     ended (w.0, x.0, y.0, z.0) z.1) (u y.1)) (t x.1)) (s w.1)) (r text)

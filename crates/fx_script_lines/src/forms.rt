@@ -4,9 +4,7 @@ ghost use Rattle.fx_script_lines.specs.Forms as spec;
 ghost use Rattle.fx_script_lines.specs.Taking.{Gives};
 
 use crate::instructions::Instruction;
-use crate::keywords::{
-    EventWord, NodeWord, PropertyWord, TimeWord, event_word, node_word, property_word, time_word,
-};
+use crate::keywords::{BondWord, FocusWord, FrameWord, InputWord, Keyword, ListenerWord, LookWord, NodeWord, PropertyWord, TimeWord, TreeWord, keyword_of};
 use crate::shapes::Shape;
 use crate::stops::Stop;
 use crate::words::Words;
@@ -21,22 +19,35 @@ pub(crate) fn instruction(
 ) -> Result<Instruction, Stop>
     ensures { Gives result (spec.instruction_behind first.now words.old.left.now) }
 {
-    if let Some(keyword) = property_word(first) {
-        return property_line(words, alloc, keyword);
+    match keyword_of(first) {
+        Some(keyword) => form(words, alloc, keyword),
+        None => Err(Stop::Form),
     }
-    if let Some(keyword) = node_word(first) {
-        return node_line(words, alloc, keyword);
-    }
-    if let Some(keyword) = event_word(first) {
-        return event_line(words, alloc, keyword);
-    }
-    if let Some(keyword) = time_word(first) {
-        return time_line(words, alloc, keyword);
-    }
-    Err(Stop::Form)
 }
 
-pub(crate) fn property_line(
+fn form(
+    words: &mut Words<'_>,
+    alloc: Global,
+    keyword: Keyword,
+) -> Result<Instruction, Stop>
+    ensures { Gives result (spec.form keyword words.old.left.now) }
+{
+    match keyword {
+        Keyword::Property(keyword) => property_line(words, alloc, keyword),
+        Keyword::Bond(keyword) => bond_line(words, alloc, keyword),
+        Keyword::Listener(keyword) => listener_line(words, alloc, keyword),
+        Keyword::Tree(keyword) => tree_line(words, alloc, keyword),
+        Keyword::Look(keyword) => look_line(words, alloc, keyword),
+        Keyword::Node(keyword) => node_line(words, alloc, keyword),
+        Keyword::Input(keyword) => input_line(words, alloc, keyword),
+        Keyword::Focus(keyword) => focus_line(words, alloc, keyword),
+        Keyword::Frame(keyword) => frame_line(words, alloc, keyword),
+        Keyword::Time(keyword) => time_line(words, alloc, keyword),
+    }
+}
+
+#[tactic(auto, unfolding(crate::specs::Forms::property))]
+fn property_line(
     words: &mut Words<'_>,
     alloc: Global,
     keyword: PropertyWord,
@@ -58,39 +69,114 @@ pub(crate) fn property_line(
         }
         PropertyWord::Get => Ok(Instruction::Get(words.path_alone(alloc)?)),
         PropertyWord::Unbind => Ok(Instruction::Unbind(words.path_alone(alloc)?)),
-        PropertyWord::Pair => {
+    }
+}
+
+#[tactic(auto, unfolding(crate::specs::Forms::bond))]
+fn bond_line(
+    words: &mut Words<'_>,
+    alloc: Global,
+    keyword: BondWord,
+) -> Result<Instruction, Stop>
+    ensures { Gives result (spec.bond keyword words.old.left.now) }
+{
+    match keyword {
+        BondWord::Pair => {
             let (one, other) = words.two_paths(alloc)?;
             Ok(Instruction::Pair(one, other))
         }
-        PropertyWord::Unpair => {
+        BondWord::Unpair => {
             let (one, other) = words.two_paths(alloc)?;
             Ok(Instruction::Unpair(one, other))
         }
-        PropertyWord::Owner => Ok(Instruction::Owner(words.word_alone(alloc, Shape::Identifier)?)),
-        PropertyWord::Release => Ok(Instruction::Release(words.word_alone(
+        BondWord::Owner => Ok(Instruction::Owner(words.word_alone(alloc, Shape::Identifier)?)),
+        BondWord::Release => Ok(Instruction::Release(words.word_alone(
             alloc,
             Shape::Identifier,
         )?)),
-        PropertyWord::Listen => {
+    }
+}
+
+#[tactic(auto, unfolding(crate::specs::Forms::listener))]
+fn listener_line(
+    words: &mut Words<'_>,
+    alloc: Global,
+    keyword: ListenerWord,
+) -> Result<Instruction, Stop>
+    ensures { Gives result (spec.listener keyword words.old.left.now) }
+{
+    match keyword {
+        ListenerWord::Listen => {
             let (notice, path, label) = words.notice_of(alloc)?;
             Ok(Instruction::Listen(notice, path, label))
         }
-        PropertyWord::Unlisten => {
+        ListenerWord::Unlisten => {
             let (notice, path, label) = words.notice_of(alloc)?;
             Ok(Instruction::Unlisten(notice, path, label))
         }
-        PropertyWord::Watch => {
+        ListenerWord::Watch => {
             let (notice, path, action, label) = words.watch_of(alloc)?;
             Ok(Instruction::Watch(notice, path, action, label))
         }
-        PropertyWord::Unwatch => {
+        ListenerWord::Unwatch => {
             let (notice, path, action, label) = words.watch_of(alloc)?;
             Ok(Instruction::Unwatch(notice, path, action, label))
         }
     }
 }
 
-pub(crate) fn node_line(
+#[tactic(auto, unfolding(crate::specs::Forms::tree))]
+fn tree_line(
+    words: &mut Words<'_>,
+    alloc: Global,
+    keyword: TreeWord,
+) -> Result<Instruction, Stop>
+    ensures { Gives result (spec.tree keyword words.old.left.now) }
+{
+    match keyword {
+        TreeWord::New => {
+            let (first, second) = words.two_words(alloc, Shape::Any, Shape::Identifier)?;
+            Ok(Instruction::New(first, second))
+        }
+        TreeWord::Attach => {
+            let (parent, child, place) = words.two_paths_and_place(alloc)?;
+            Ok(Instruction::Attach(parent, child, place))
+        }
+        TreeWord::Detach => Ok(Instruction::Detach(words.path_alone(alloc)?)),
+        TreeWord::Drop => Ok(Instruction::Drop(words.path_alone(alloc)?)),
+    }
+}
+
+#[tactic(auto, unfolding(crate::specs::Forms::look))]
+fn look_line(
+    words: &mut Words<'_>,
+    alloc: Global,
+    keyword: LookWord,
+) -> Result<Instruction, Stop>
+    ensures { Gives result (spec.look keyword words.old.left.now) }
+{
+    match keyword {
+        LookWord::Class => {
+            let (path, word) = words.path_and_word(alloc, Shape::Any)?;
+            Ok(Instruction::Class(path, word))
+        }
+        LookWord::Unclass => {
+            let (path, word) = words.path_and_word(alloc, Shape::Any)?;
+            Ok(Instruction::Unclass(path, word))
+        }
+        LookWord::Style => {
+            let (path, rest) = words.path_and_rest(alloc)?;
+            Ok(Instruction::Style(path, rest))
+        }
+        LookWord::Pseudo => {
+            let (path, word, last) = words.path_and_two_words(alloc, Shape::Switch)?;
+            Ok(Instruction::Pseudo(path, word, last))
+        }
+    }
+}
+
+#[tactic(auto, unfolding(crate::specs::Forms::node))]
+fn node_line(
     words: &mut Words<'_>,
     alloc: Global,
     keyword: NodeWord,
@@ -98,32 +184,6 @@ pub(crate) fn node_line(
     ensures { Gives result (spec.node keyword words.old.left.now) }
 {
     match keyword {
-        NodeWord::New => {
-            let (first, second) = words.two_words(alloc, Shape::Any, Shape::Identifier)?;
-            Ok(Instruction::New(first, second))
-        }
-        NodeWord::Attach => {
-            let (parent, child, place) = words.two_paths_and_place(alloc)?;
-            Ok(Instruction::Attach(parent, child, place))
-        }
-        NodeWord::Detach => Ok(Instruction::Detach(words.path_alone(alloc)?)),
-        NodeWord::Drop => Ok(Instruction::Drop(words.path_alone(alloc)?)),
-        NodeWord::Class => {
-            let (path, word) = words.path_and_word(alloc, Shape::Any)?;
-            Ok(Instruction::Class(path, word))
-        }
-        NodeWord::Unclass => {
-            let (path, word) = words.path_and_word(alloc, Shape::Any)?;
-            Ok(Instruction::Unclass(path, word))
-        }
-        NodeWord::Style => {
-            let (path, rest) = words.path_and_rest(alloc)?;
-            Ok(Instruction::Style(path, rest))
-        }
-        NodeWord::Pseudo => {
-            let (path, word, last) = words.path_and_two_words(alloc, Shape::Switch)?;
-            Ok(Instruction::Pseudo(path, word, last))
-        }
         NodeWord::Constrain => {
             let (path, word, rest) = words.path_word_and_rest(alloc)?;
             Ok(Instruction::Constrain(path, word, rest))
@@ -143,53 +203,79 @@ pub(crate) fn node_line(
     }
 }
 
-pub(crate) fn event_line(
+#[tactic(auto, unfolding(crate::specs::Forms::input))]
+fn input_line(
     words: &mut Words<'_>,
     alloc: Global,
-    keyword: EventWord,
+    keyword: InputWord,
 ) -> Result<Instruction, Stop>
-    ensures { Gives result (spec.event keyword words.old.left.now) }
+    ensures { Gives result (spec.input keyword words.old.left.now) }
 {
     match keyword {
-        EventWord::Move => {
+        InputWord::Move => {
             let (first, second) = words.two_words(alloc, Shape::Integer, Shape::Integer)?;
             Ok(Instruction::Move(first, second))
         }
-        EventWord::Press => {
+        InputWord::Press => {
             words.end()?;
             Ok(Instruction::Press)
         }
-        EventWord::ReleaseButton => {
+        InputWord::ReleaseButton => {
             words.end()?;
             Ok(Instruction::ReleaseButton)
         }
-        EventWord::Key => Ok(Instruction::Key(words.word_alone(alloc, Shape::Any)?)),
-        EventWord::Focus => Ok(Instruction::Focus(words.path_alone(alloc)?)),
-        EventWord::Tab => {
+        InputWord::Key => Ok(Instruction::Key(words.word_alone(alloc, Shape::Any)?)),
+    }
+}
+
+#[tactic(auto, unfolding(crate::specs::Forms::focus))]
+fn focus_line(
+    words: &mut Words<'_>,
+    alloc: Global,
+    keyword: FocusWord,
+) -> Result<Instruction, Stop>
+    ensures { Gives result (spec.focus keyword words.old.left.now) }
+{
+    match keyword {
+        FocusWord::Focus => Ok(Instruction::Focus(words.path_alone(alloc)?)),
+        FocusWord::Tab => {
             words.end()?;
             Ok(Instruction::Tab)
         }
-        EventWord::Backtab => {
+        FocusWord::Backtab => {
             words.end()?;
             Ok(Instruction::Backtab)
         }
-        EventWord::Resize => {
+    }
+}
+
+#[tactic(auto, unfolding(crate::specs::Forms::frame))]
+fn frame_line(
+    words: &mut Words<'_>,
+    alloc: Global,
+    keyword: FrameWord,
+) -> Result<Instruction, Stop>
+    ensures { Gives result (spec.frame keyword words.old.left.now) }
+{
+    match keyword {
+        FrameWord::Resize => {
             let (first, second) = words.two_words(alloc, Shape::Integer, Shape::Integer)?;
             Ok(Instruction::Resize(first, second))
         }
-        EventWord::Pulse => {
+        FrameWord::Pulse => {
             words.end()?;
             Ok(Instruction::Pulse)
         }
-        EventWord::Say => Ok(Instruction::Say(words.rest_alone(alloc)?)),
-        EventWord::Consume => {
+        FrameWord::Say => Ok(Instruction::Say(words.rest_alone(alloc)?)),
+        FrameWord::Consume => {
             words.end()?;
             Ok(Instruction::Consume)
         }
     }
 }
 
-pub(crate) fn time_line(
+#[tactic(auto, unfolding(crate::specs::Forms::time))]
+fn time_line(
     words: &mut Words<'_>,
     alloc: Global,
     keyword: TimeWord,

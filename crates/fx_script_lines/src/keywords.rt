@@ -1,52 +1,100 @@
 //! The first words of lines, by what the lines are about.
 //! Each word is looked up once; forms.rt reads what is behind it.
-ghost use Rattle.std.specs.Prelude.{◌≡◌};
+ghost use Rattle.std.specs.Prelude.{◌≡◌, map};
+ghost use Rattle.std.specs.List.{find};
+ghost use Rattle.std.specs.Option.{option_map};
+ghost use Rattle.std.specs.Str.{bytes_eq};
 ghost use Rattle.fx_script_lines.specs.Keywords as spec;
 
-/// About properties, listeners and owners.
+/// The first word of a line, by what the line is about.
+#[derive(Clone, Copy)]
+pub(crate) enum Keyword {
+    Property(PropertyWord),
+    Bond(BondWord),
+    Listener(ListenerWord),
+    Tree(TreeWord),
+    Look(LookWord),
+    Node(NodeWord),
+    Input(InputWord),
+    Focus(FocusWord),
+    Frame(FrameWord),
+    Time(TimeWord),
+}
+
+/// About the values of properties.
 #[derive(Clone, Copy)]
 pub(crate) enum PropertyWord {
     Prop,
     Set,
     Get,
     Unbind,
+}
+
+/// About pairs of properties, and owners.
+#[derive(Clone, Copy)]
+pub(crate) enum BondWord {
     Pair,
     Unpair,
     Owner,
     Release,
+}
+
+/// About listeners.
+#[derive(Clone, Copy)]
+pub(crate) enum ListenerWord {
     Listen,
     Unlisten,
     Watch,
     Unwatch,
 }
 
-/// About nodes.
+/// About nodes and their parents.
 #[derive(Clone, Copy)]
-pub(crate) enum NodeWord {
+pub(crate) enum TreeWord {
     New,
     Attach,
     Detach,
     Drop,
+}
+
+/// About what nodes look like.
+#[derive(Clone, Copy)]
+pub(crate) enum LookWord {
     Class,
     Unclass,
     Style,
     Pseudo,
+}
+
+/// About constraints, where a value came from, and handlers.
+#[derive(Clone, Copy)]
+pub(crate) enum NodeWord {
     Constrain,
     Explain,
     Handle,
     Filter,
 }
 
-/// About input, frames, and what is said.
+/// About the pointer and the keys.
 #[derive(Clone, Copy)]
-pub(crate) enum EventWord {
+pub(crate) enum InputWord {
     Move,
     Press,
     ReleaseButton,
     Key,
+}
+
+/// About the focus.
+#[derive(Clone, Copy)]
+pub(crate) enum FocusWord {
     Focus,
     Tab,
     Backtab,
+}
+
+/// About frames, and what handlers do.
+#[derive(Clone, Copy)]
+pub(crate) enum FrameWord {
     Resize,
     Pulse,
     Say,
@@ -63,118 +111,65 @@ pub(crate) enum TimeWord {
     Tick,
 }
 
-#[tactic(auto, unfolding(crate::specs::Keywords::property_word))]
-pub(crate) fn property_word(word: &[u8]) -> Option<PropertyWord>
-    ensures { result ≡ spec.property_word word.now }
+/// Each first word with what it says.
+const KEYWORDS: [(&str, Keyword); 40] = [
+    ("prop", Keyword::Property(PropertyWord::Prop)),
+    ("set", Keyword::Property(PropertyWord::Set)),
+    ("get", Keyword::Property(PropertyWord::Get)),
+    ("unbind", Keyword::Property(PropertyWord::Unbind)),
+    ("pair", Keyword::Bond(BondWord::Pair)),
+    ("unpair", Keyword::Bond(BondWord::Unpair)),
+    ("owner", Keyword::Bond(BondWord::Owner)),
+    ("release", Keyword::Bond(BondWord::Release)),
+    ("listen", Keyword::Listener(ListenerWord::Listen)),
+    ("unlisten", Keyword::Listener(ListenerWord::Unlisten)),
+    ("watch", Keyword::Listener(ListenerWord::Watch)),
+    ("unwatch", Keyword::Listener(ListenerWord::Unwatch)),
+    ("new", Keyword::Tree(TreeWord::New)),
+    ("attach", Keyword::Tree(TreeWord::Attach)),
+    ("detach", Keyword::Tree(TreeWord::Detach)),
+    ("drop", Keyword::Tree(TreeWord::Drop)),
+    ("class", Keyword::Look(LookWord::Class)),
+    ("unclass", Keyword::Look(LookWord::Unclass)),
+    ("style", Keyword::Look(LookWord::Style)),
+    ("pseudo", Keyword::Look(LookWord::Pseudo)),
+    ("constrain", Keyword::Node(NodeWord::Constrain)),
+    ("explain", Keyword::Node(NodeWord::Explain)),
+    ("handle", Keyword::Node(NodeWord::Handle)),
+    ("filter", Keyword::Node(NodeWord::Filter)),
+    ("move", Keyword::Input(InputWord::Move)),
+    ("press", Keyword::Input(InputWord::Press)),
+    ("release-button", Keyword::Input(InputWord::ReleaseButton)),
+    ("key", Keyword::Input(InputWord::Key)),
+    ("focus", Keyword::Focus(FocusWord::Focus)),
+    ("tab", Keyword::Focus(FocusWord::Tab)),
+    ("backtab", Keyword::Focus(FocusWord::Backtab)),
+    ("resize", Keyword::Frame(FrameWord::Resize)),
+    ("pulse", Keyword::Frame(FrameWord::Pulse)),
+    ("say", Keyword::Frame(FrameWord::Say)),
+    ("consume", Keyword::Frame(FrameWord::Consume)),
+    ("timeline", Keyword::Time(TimeWord::Timeline)),
+    ("keyframe", Keyword::Time(TimeWord::Keyframe)),
+    ("play", Keyword::Time(TimeWord::Play)),
+    ("stop", Keyword::Time(TimeWord::Stop)),
+    ("tick", Keyword::Time(TimeWord::Tick)),
+];
+
+/// What this first word says, if a line can begin with it.
+pub(crate) fn keyword_of(word: &[u8]) -> Option<Keyword>
+    ensures { result ≡ spec.keyword_of word.now }
 {
-    if word == b"prop".as_slice() {
-        Some(PropertyWord::Prop)
-    } else if word == b"set".as_slice() {
-        Some(PropertyWord::Set)
-    } else if word == b"get".as_slice() {
-        Some(PropertyWord::Get)
-    } else if word == b"unbind".as_slice() {
-        Some(PropertyWord::Unbind)
-    } else if word == b"pair".as_slice() {
-        Some(PropertyWord::Pair)
-    } else if word == b"unpair".as_slice() {
-        Some(PropertyWord::Unpair)
-    } else if word == b"owner".as_slice() {
-        Some(PropertyWord::Owner)
-    } else if word == b"release".as_slice() {
-        Some(PropertyWord::Release)
-    } else if word == b"listen".as_slice() {
-        Some(PropertyWord::Listen)
-    } else if word == b"unlisten".as_slice() {
-        Some(PropertyWord::Unlisten)
-    } else if word == b"watch".as_slice() {
-        Some(PropertyWord::Watch)
-    } else if word == b"unwatch".as_slice() {
-        Some(PropertyWord::Unwatch)
-    } else {
-        None
-    }
+    keyword_at(&KEYWORDS, word)
 }
 
-#[tactic(auto, unfolding(crate::specs::Keywords::node_word))]
-pub(crate) fn node_word(word: &[u8]) -> Option<NodeWord>
-    ensures { result ≡ spec.node_word word.now }
+fn keyword_at(table: &[(&str, Keyword)], word: &[u8]) -> Option<Keyword>
+    ensures { result ≡ spec.keyword_at (map (λ row. (row.0.now, row.1)) table.now) word.now }
 {
-    if word == b"new".as_slice() {
-        Some(NodeWord::New)
-    } else if word == b"attach".as_slice() {
-        Some(NodeWord::Attach)
-    } else if word == b"detach".as_slice() {
-        Some(NodeWord::Detach)
-    } else if word == b"drop".as_slice() {
-        Some(NodeWord::Drop)
-    } else if word == b"class".as_slice() {
-        Some(NodeWord::Class)
-    } else if word == b"unclass".as_slice() {
-        Some(NodeWord::Unclass)
-    } else if word == b"style".as_slice() {
-        Some(NodeWord::Style)
-    } else if word == b"pseudo".as_slice() {
-        Some(NodeWord::Pseudo)
-    } else if word == b"constrain".as_slice() {
-        Some(NodeWord::Constrain)
-    } else if word == b"explain".as_slice() {
-        Some(NodeWord::Explain)
-    } else if word == b"handle".as_slice() {
-        Some(NodeWord::Handle)
-    } else if word == b"filter".as_slice() {
-        Some(NodeWord::Filter)
-    } else {
-        None
-    }
+    find_row(table, word)
 }
 
-#[tactic(auto, unfolding(crate::specs::Keywords::event_word))]
-pub(crate) fn event_word(word: &[u8]) -> Option<EventWord>
-    ensures { result ≡ spec.event_word word.now }
+fn find_row(table: &[(&str, Keyword)], word: &[u8]) -> Option<Keyword>
+    ensures { result ≡ option_map (λ row. row.1) (find (λ row. bytes_eq row.0.now word.now) table.now) }
 {
-    if word == b"move".as_slice() {
-        Some(EventWord::Move)
-    } else if word == b"press".as_slice() {
-        Some(EventWord::Press)
-    } else if word == b"release-button".as_slice() {
-        Some(EventWord::ReleaseButton)
-    } else if word == b"key".as_slice() {
-        Some(EventWord::Key)
-    } else if word == b"focus".as_slice() {
-        Some(EventWord::Focus)
-    } else if word == b"tab".as_slice() {
-        Some(EventWord::Tab)
-    } else if word == b"backtab".as_slice() {
-        Some(EventWord::Backtab)
-    } else if word == b"resize".as_slice() {
-        Some(EventWord::Resize)
-    } else if word == b"pulse".as_slice() {
-        Some(EventWord::Pulse)
-    } else if word == b"say".as_slice() {
-        Some(EventWord::Say)
-    } else if word == b"consume".as_slice() {
-        Some(EventWord::Consume)
-    } else {
-        None
-    }
-}
-
-#[tactic(auto, unfolding(crate::specs::Keywords::time_word))]
-pub(crate) fn time_word(word: &[u8]) -> Option<TimeWord>
-    ensures { result ≡ spec.time_word word.now }
-{
-    if word == b"timeline".as_slice() {
-        Some(TimeWord::Timeline)
-    } else if word == b"keyframe".as_slice() {
-        Some(TimeWord::Keyframe)
-    } else if word == b"play".as_slice() {
-        Some(TimeWord::Play)
-    } else if word == b"stop".as_slice() {
-        Some(TimeWord::Stop)
-    } else if word == b"tick".as_slice() {
-        Some(TimeWord::Tick)
-    } else {
-        None
-    }
+    table.iter().find(|row| row.0.as_bytes() == word).map(|row| row.1)
 }

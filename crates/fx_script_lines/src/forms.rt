@@ -4,7 +4,10 @@ ghost use Rattle.fx_script_lines.specs.Forms as spec;
 ghost use Rattle.fx_script_lines.specs.Taking.{Gives};
 
 use crate::instructions::Instruction;
-use crate::keywords::{BondWord, FocusWord, FrameWord, InputWord, Keyword, ListenerWord, LookWord, NodeWord, PropertyWord, TimeWord, TreeWord, keyword_of};
+use crate::keywords::{
+    BondWord, FocusWord, FrameWord, InputWord, Keyword, ListenerWord, LookWord, NodeWord,
+    PropertyWord, TimeWord, TreeWord, keyword_of,
+};
 use crate::shapes::Shape;
 use crate::stops::Stop;
 use crate::words::Words;
@@ -25,11 +28,7 @@ pub(crate) fn instruction(
     }
 }
 
-fn form(
-    words: &mut Words<'_>,
-    alloc: Global,
-    keyword: Keyword,
-) -> Result<Instruction, Stop>
+fn form(words: &mut Words<'_>, alloc: Global, keyword: Keyword) -> Result<Instruction, Stop>
     ensures { Gives result (spec.form keyword words.old.left.now) }
 {
     match keyword {
@@ -73,11 +72,7 @@ fn property_line(
 }
 
 #[tactic(auto, unfolding(crate::specs::Forms::bond))]
-fn bond_line(
-    words: &mut Words<'_>,
-    alloc: Global,
-    keyword: BondWord,
-) -> Result<Instruction, Stop>
+fn bond_line(words: &mut Words<'_>, alloc: Global, keyword: BondWord) -> Result<Instruction, Stop>
     ensures { Gives result (spec.bond keyword words.old.left.now) }
 {
     match keyword {
@@ -90,10 +85,7 @@ fn bond_line(
             Ok(Instruction::Unpair(one, other))
         }
         BondWord::Owner => Ok(Instruction::Owner(words.word_alone(alloc, Shape::Identifier)?)),
-        BondWord::Release => Ok(Instruction::Release(words.word_alone(
-            alloc,
-            Shape::Identifier,
-        )?)),
+        BondWord::Release => Ok(Instruction::Release(words.word_alone(alloc, Shape::Identifier)?)),
     }
 }
 
@@ -126,11 +118,7 @@ fn listener_line(
 }
 
 #[tactic(auto, unfolding(crate::specs::Forms::tree))]
-fn tree_line(
-    words: &mut Words<'_>,
-    alloc: Global,
-    keyword: TreeWord,
-) -> Result<Instruction, Stop>
+fn tree_line(words: &mut Words<'_>, alloc: Global, keyword: TreeWord) -> Result<Instruction, Stop>
     ensures { Gives result (spec.tree keyword words.old.left.now) }
 {
     match keyword {
@@ -148,11 +136,7 @@ fn tree_line(
 }
 
 #[tactic(auto, unfolding(crate::specs::Forms::look))]
-fn look_line(
-    words: &mut Words<'_>,
-    alloc: Global,
-    keyword: LookWord,
-) -> Result<Instruction, Stop>
+fn look_line(words: &mut Words<'_>, alloc: Global, keyword: LookWord) -> Result<Instruction, Stop>
     ensures { Gives result (spec.look keyword words.old.left.now) }
 {
     match keyword {
@@ -176,11 +160,7 @@ fn look_line(
 }
 
 #[tactic(auto, unfolding(crate::specs::Forms::node))]
-fn node_line(
-    words: &mut Words<'_>,
-    alloc: Global,
-    keyword: NodeWord,
-) -> Result<Instruction, Stop>
+fn node_line(words: &mut Words<'_>, alloc: Global, keyword: NodeWord) -> Result<Instruction, Stop>
     ensures { Gives result (spec.node keyword words.old.left.now) }
 {
     match keyword {
@@ -204,11 +184,7 @@ fn node_line(
 }
 
 #[tactic(auto, unfolding(crate::specs::Forms::input))]
-fn input_line(
-    words: &mut Words<'_>,
-    alloc: Global,
-    keyword: InputWord,
-) -> Result<Instruction, Stop>
+fn input_line(words: &mut Words<'_>, alloc: Global, keyword: InputWord) -> Result<Instruction, Stop>
     ensures { Gives result (spec.input keyword words.old.left.now) }
 {
     match keyword {
@@ -229,11 +205,7 @@ fn input_line(
 }
 
 #[tactic(auto, unfolding(crate::specs::Forms::focus))]
-fn focus_line(
-    words: &mut Words<'_>,
-    alloc: Global,
-    keyword: FocusWord,
-) -> Result<Instruction, Stop>
+fn focus_line(words: &mut Words<'_>, alloc: Global, keyword: FocusWord) -> Result<Instruction, Stop>
     ensures { Gives result (spec.focus keyword words.old.left.now) }
 {
     match keyword {
@@ -250,11 +222,7 @@ fn focus_line(
 }
 
 #[tactic(auto, unfolding(crate::specs::Forms::frame))]
-fn frame_line(
-    words: &mut Words<'_>,
-    alloc: Global,
-    keyword: FrameWord,
-) -> Result<Instruction, Stop>
+fn frame_line(words: &mut Words<'_>, alloc: Global, keyword: FrameWord) -> Result<Instruction, Stop>
     ensures { Gives result (spec.frame keyword words.old.left.now) }
 {
     match keyword {
@@ -275,11 +243,7 @@ fn frame_line(
 }
 
 #[tactic(auto, unfolding(crate::specs::Forms::time))]
-fn time_line(
-    words: &mut Words<'_>,
-    alloc: Global,
-    keyword: TimeWord,
-) -> Result<Instruction, Stop>
+fn time_line(words: &mut Words<'_>, alloc: Global, keyword: TimeWord) -> Result<Instruction, Stop>
     ensures { Gives result (spec.time keyword words.old.left.now) }
 {
     match keyword {

@@ -171,5 +171,8 @@ fn keyword_at(table: &[(&str, Keyword)], word: &[u8]) -> Option<Keyword>
 fn find_row(table: &[(&str, Keyword)], word: &[u8]) -> Option<Keyword>
     ensures { result ≡ option_map (λ row. row.1) (find (λ row. bytes_eq row.0.now word.now) table.now) }
 {
-    table.iter().find(|row| row.0.as_bytes() == word).map(|row| row.1)
+    table
+        .iter()
+        .find(|row| row.0.as_bytes() == word)
+        .map(|row| row.1)
 }

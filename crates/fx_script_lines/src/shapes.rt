@@ -1,6 +1,6 @@
 //! What a word of a line looks like.
 //! Words are told apart by their bytes, before they are kept as texts.
-ghost use Rattle.std.specs.Prelude.{◌≡◌, ◌==◌, ◌||◌, ◌&&◌, codes};
+ghost use Rattle.std.specs.Prelude.{◌≡◌};
 ghost use Rattle.std.specs.Char.{is_ascii_digit};
 ghost use Rattle.std.specs.List.{list_all};
 ghost use Rattle.fx_script_lines.specs.Taking as spec;

@@ -1,10 +1,8 @@
 //! The words of a line, taken from the left.
 //! Between a line's text and the forms of lines.
-ghost use Rattle.std.specs.Prelude.{◌≡◌, ◌==◌, ◌&&◌, ◌≤◌, IsTrue, IfOk, length, map, nat_le, not, vec_len};
-ghost use Rattle.std.specs.List.{list_all, prefix_len};
+ghost use Rattle.std.specs.Prelude.{◌≡◌, codes, length, nat_le};
 ghost use Rattle.std.specs.Option.{option_map};
-ghost use Rattle.std.specs.Str.{chars};
-ghost use Rattle.fx_text.specs.Classes.{is_identifier};
+ghost use Rattle.std.specs.Str.{bytes_eq, chars};
 ghost use Rattle.fx_text.specs.Fronts.{behind};
 ghost use Rattle.fx_script_lines.specs.Taking as spec;
 ghost use Rattle.fx_script_lines.specs.Taking.{Gives, Takes};
@@ -13,7 +11,7 @@ use crate::shapes::{Shape, has_shape};
 use crate::stops::Stop;
 use fx_base::{List, Str, Text, TextError};
 use fx_text::is_identifier;
-use std::alloc::{AllocError, Global};
+use std::alloc::Global;
 
 /// What is left of a line behind a word and one space.
 #[derive(Clone, Copy)]
@@ -73,9 +71,13 @@ impl<'a> Words<'a> {
     pub(crate) fn rest(&mut self, alloc: Global) -> Result<Str, Stop>
         ensures { Takes result (spec.rest self.old.left.now) self.new.left.now }
     {
-        let rest = String::from_str(alloc, self.left)?;
-        self.left = "";
-        Ok(Str::from_string(rest))
+        match String::from_str(alloc, self.left) {
+            Ok(rest) => {
+                self.left = "";
+                Ok(Str::from_string(rest))
+            }
+            Err(_) => Err(Stop::Memory),
+        }
     }
 
     /// Is nothing left but spaces?
@@ -105,11 +107,18 @@ impl<'a> Words<'a> {
         if self.is_over() {
             return Ok(false);
         }
-        if self.next().as_bytes() == b"reverse".as_slice() {
-            return Ok(true);
+        if is_reverse(self.next()) {
+            Ok(true)
+        } else {
+            Err(Stop::Form)
         }
-        Err(Stop::Form)
     }
+}
+
+fn is_reverse(word: &str) -> bool
+    ensures { result ≡ bytes_eq word.now (codes "reverse") }
+{
+    word.as_bytes() == b"reverse".as_slice()
 }
 
 fn is_short(word: &str) -> bool

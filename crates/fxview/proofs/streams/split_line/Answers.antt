@@ -1,6 +1,5 @@
 -- no line feed, or the first one
 use Rattle.std.proofs.Common.{◌-◌, sym}
-
 use Rattle.fxview.proofs.ShowLemmas.{split-none, parts_at}
 use Rattle.fxview.proofs.streams.split_line.Goals as goal
 

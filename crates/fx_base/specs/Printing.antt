@@ -21,6 +21,15 @@ kind_of (Choice family place) = kind.Choice family
 kind_of (Color color) = kind.Color
 kind_of (Sides sides) = kind.Sides
 
+-- a text alone is held in memory of its own
+abbrev pub is_plain : Value → Bool
+is_plain (Int n) = true
+is_plain (Truth b) = true
+is_plain (Text t) = false
+is_plain (Choice family place) = true
+is_plain (Color color) = true
+is_plain (Sides sides) = true
+
 -- a byte of a text: a backslash, a line feed and a carriage return are written as two characters
 abbrev pub escaped : ℕ → List ℕ
 escaped byte =

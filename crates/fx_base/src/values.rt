@@ -1,8 +1,8 @@
 //! Values of properties, and how they are printed.
-ghost use Rattle.std.specs.Prelude.{◌≡◌, ◌++◌, ◌<◌, IfOk, OnOk, OnErr, false, IsTrue, ◌↔◌};
+ghost use Rattle.std.specs.Prelude.{◌≡◌, ◌++◌, ◌<◌, IfOk, IsOk, OnOk, OnErr, false, true, IsTrue, ◌↔◌};
 ghost use Rattle.std.specs.List.{flat_map};
 ghost use Rattle.std.specs.Fmt.{digit_glyph, signed_decimal};
-ghost use Rattle.fx_base.specs.Printing.{printed, kind_of, escaped, hexadecimal, constant_at, sides_text};
+ghost use Rattle.fx_base.specs.Printing.{printed, kind_of, is_plain, escaped, hexadecimal, constant_at, sides_text};
 
 use crate::color::Color;
 use crate::geometry::Sides;
@@ -52,9 +52,10 @@ impl Value {
         }
     }
 
-    /// A value of the same contents.
+    /// A value of the same contents. A copy takes memory for a text alone.
     pub fn copy(&self, alloc: Global) -> Result<Value, AllocError>
-        ensures { IfOk result (λ copy. copy ≡ self.now) }
+        ensures value { IfOk result (λ copy. copy ≡ self.now) }
+        ensures firm { is_plain self.now ≡ true → IsOk result }
     {
         match self {
             Value::Int(number) => Ok(Value::Int(*number)),

@@ -19,6 +19,3 @@ pub use errors::SheetError;
 pub use inline::read_inline;
 pub use laws::{every_text_is_read, texts_are_read_in_one_way};
 pub use sheets::read_sheet;
-
-#[cfg(test)]
-mod tests;

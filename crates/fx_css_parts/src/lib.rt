@@ -34,6 +34,3 @@ pub struct ReadDeclaration {
     /// The place in the text, in bytes, of the ninth layer of a list of paints or of sides.
     pub past: Option<usize>,
 }
-
-#[cfg(test)]
-mod tests;

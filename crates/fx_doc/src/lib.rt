@@ -19,6 +19,3 @@ mod values;
 pub use bytes::place_behind;
 pub use document::{Attribute, Content, DocError, Document, Element};
 pub use reader::read_document;
-
-#[cfg(test)]
-mod tests;

@@ -135,6 +135,3 @@ pub fn each_phase_has_at_most_64()
 pub fn each_type_has_one_convenience()
     ensures { OneConvenience }
 {}
-
-#[cfg(test)]
-mod tests;

@@ -13,8 +13,6 @@ mod reading;
 mod scanning;
 mod signs;
 mod stops;
-#[cfg(test)]
-mod tests;
 mod tokens;
 mod tree;
 mod typing;

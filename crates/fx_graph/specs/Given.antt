@@ -1,23 +1,14 @@
 -- Pairs of a name and a value that it is given.
 use Rattle.std.specs.Prelude.{ℕ, ◌≡◌, ◌≤◌, ◌<◌, Bool, true, false, List, slice_index_or, All}
-use Rattle.fx_base.specs.Printing.{kind_of}
+use Rattle.fx_base.specs.Printing.{kind_of, is_plain}
 use Rattle.fx_base.specs.declared.keys.Name.{Name}
 use Rattle.fx_base.specs.declared.values.Value.{Value}
-use Rattle.fx_base.specs.declared.values.Value.TheVariants.{Int, Bool as Truth, Text, Choice, Color, Sides}
 use Rattle.fx_expr.specs.Meaning.{no_value}
 use Rattle.fx_graph_model.specs.declared.entries.Entry.{Entry}
 use Rattle.fx_graph_model.specs.Uses.{bound_in, unknown_in}
 use Rattle.fx_graph_model.specs.Refusals.{kind_at, read_only_in}
 
--- all values but texts are copied without memory
-abbrev pub is_plain : Value → Bool
-is_plain (Int n) = true
-is_plain (Truth b) = true
-is_plain (Text t) = false
-is_plain (Choice family place) = true
-is_plain (Color color) = true
-is_plain (Sides sides) = true
-
+-- no value is a text
 abbrev pub ArePlain : List (Name × Value) → Type 0
 ArePlain pairs = All (λ (pair : Name × Value). is_plain pair.1 ≡ true) pairs
 

@@ -14,7 +14,7 @@ ghost use Rattle.fx_graph_model.specs.Unread.{unmarked, after_marking, newly_mar
 ghost use Rattle.fx_graph_model.specs.Marking.{MarksAll};
 ghost use Rattle.fx_graph_model.specs.Users.{Mirrors};
 ghost use Rattle.fx_graph_model.specs.Changes.{given, with_values, changed, after_values};
-ghost use Rattle.fx_graph.specs.Given.{is_plain, ArePlain, AreBase, ArePrepared};
+ghost use Rattle.fx_graph.specs.Given.{ArePlain, AreBase, ArePrepared};
 ghost use Rattle.fx_graph.specs.Store.{Holds, shown};
 
 use crate::lists::Lists;
@@ -24,21 +24,6 @@ use fx_graph_edges::mark_one;
 use fx_graph_model::{Definition, Entry, Origin, are_same};
 use std::alloc::{AllocError, Global};
 use std::mem;
-
-/// A copy, which takes memory for a text alone.
-fn copied(alloc: Global, value: &Value) -> Result<Value, AllocError>
-    ensures value { IfOk result (λ copy. copy ≡ value.now) }
-    ensures firm { is_plain value.now ≡ true → IsOk result }
-{
-    match value {
-        Value::Int(number) => Ok(Value::Int(*number)),
-        Value::Bool(truth) => Ok(Value::Bool(*truth)),
-        Value::Text(text) => Ok(Value::Text(text.copy(alloc)?)),
-        Value::Choice(family, place) => Ok(Value::Choice(*family, *place)),
-        Value::Color(color) => Ok(Value::Color(*color)),
-        Value::Sides(sides) => Ok(Value::Sides(*sides)),
-    }
-}
 
 fn put(fresh: &mut [Value], place: usize, value: Value)
     requires { place < length fresh.old }
@@ -56,7 +41,7 @@ fn prepare(alloc: Global, fresh: &mut [Value], pairs: &[(Name, Value)]) -> Resul
     ensures firm { ArePlain pairs.now → IsOk result }
 {
     for pair in pairs {
-        let value = copied(alloc, &pair.1)?;
+        let value = pair.1.copy(alloc)?;
         put(fresh, pair.0.0 as usize, value);
     }
     Ok(())

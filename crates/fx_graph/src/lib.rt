@@ -108,17 +108,10 @@ impl Graph {
             return Err(GraphError::Full);
         }
         let kept = value.copy(alloc)?;
-        room::reserve_two(&mut self.lists.entries, &mut self.lists.users)?;
-        room::reserve_three(
-            &mut self.lists.unread,
-            &mut self.lists.spare,
-            &mut self.lists.newly,
-        )?;
-        room::reserve_three(
-            &mut self.lists.cache,
-            &mut self.lists.fresh,
-            &mut self.lists.work,
-        )?;
+        let lists = &mut self.lists;
+        room::reserve_two(&mut lists.entries, &mut lists.users)?;
+        room::reserve_three(&mut lists.unread, &mut lists.spare, &mut lists.newly)?;
+        room::reserve_three(&mut lists.cache, &mut lists.fresh, &mut lists.work)?;
         let entry = Entry {
             kind,
             read_only,
@@ -126,27 +119,14 @@ impl Graph {
             definition: Definition::Base(value),
         };
         room::push_two(
-            &mut self.lists.entries,
+            &mut lists.entries,
             entry,
-            &mut self.lists.users,
+            &mut lists.users,
             Users::new(alloc),
         );
-        room::push_three(
-            &mut self.lists.unread,
-            false,
-            &mut self.lists.spare,
-            false,
-            &mut self.lists.newly,
-            Name(0),
-        );
-        room::push_three(
-            &mut self.lists.cache,
-            kept,
-            &mut self.lists.fresh,
-            Value::Bool(false),
-            &mut self.lists.work,
-            0,
-        );
+        room::push_two(&mut lists.unread, false, &mut lists.spare, false);
+        room::push_two(&mut lists.newly, Name(0), &mut lists.cache, kept);
+        room::push_two(&mut lists.fresh, Value::Bool(false), &mut lists.work, 0);
         Ok(Name(place as u32))
     }
 
@@ -441,8 +421,3 @@ impl Graph {
         let _count = self.lists.operand_count;
     }
 }
-
-#[cfg(test)]
-mod forget_tests;
-#[cfg(test)]
-mod tests;

@@ -50,22 +50,3 @@ pub fn push_two<A: Drop, B: Drop>(first: &mut Vec<A>, a: A, second: &mut Vec<B>,
     push_reserved(first, a);
     push_reserved(second, b);
 }
-
-pub fn push_three<A: Drop, B: Drop, C: Drop>(
-    first: &mut Vec<A>,
-    a: A,
-    second: &mut Vec<B>,
-    b: B,
-    third: &mut Vec<C>,
-    c: C,
-)
-    requires first_room { vec_len first.old < vec_capacity first.old }
-    requires second_room { vec_len second.old < vec_capacity second.old }
-    requires third_room { vec_len third.old < vec_capacity third.old }
-    ensures first_items { first.new.items ≡ first.old.items ++ a ∷ [] }
-    ensures second_items { second.new.items ≡ second.old.items ++ b ∷ [] }
-    ensures third_items { third.new.items ≡ third.old.items ++ c ∷ [] }
-{
-    push_two(first, a, second, b);
-    push_reserved(third, c);
-}

@@ -24,6 +24,3 @@ pub use property_table::{
     Property, each_styled, initial, initial_alignment, one_property, properties, property_named,
     styled_back,
 };
-
-#[cfg(test)]
-mod tests;

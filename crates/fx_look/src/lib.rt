@@ -21,6 +21,3 @@ pub use readings::{one_value, read_value};
 pub use styles::{
     CodeValue, Style, StyleForm, StyleKey, StyleName, each_named, style_named, style_table,
 };
-
-#[cfg(test)]
-mod tests;

@@ -13,6 +13,3 @@ pub use index::{RuleIndex, all_matched, inline_styles_change_no_index};
 pub use lists::SelectorAt;
 pub use matching::matches;
 pub use weights::specificity;
-
-#[cfg(test)]
-mod tests;

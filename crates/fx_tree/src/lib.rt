@@ -270,6 +270,3 @@ pub fn subtrees_meet_each_node_once()
 pub fn paths_meet_each_node_once()
     ensures { PathsMeetOnce }
 {}
-
-#[cfg(test)]
-mod tests;

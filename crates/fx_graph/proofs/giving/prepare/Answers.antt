@@ -1,7 +1,7 @@
 use Rattle.std.proofs.Common.{◌≡◌, ◌<◌, true, length, arith}
 use Rattle.fx_base.specs.declared.keys.Name.{Name}
 use Rattle.fx_base.specs.declared.values.Value.{Value}
-use Rattle.fx_graph.specs.Given.{is_plain}
+use Rattle.fx_base.specs.Printing.{is_plain}
 use Rattle.fx_graph.proofs.GivenLemmas.{at_item, prepared_more}
 use Rattle.fx_graph.proofs.giving.prepare.Goals as goal
 

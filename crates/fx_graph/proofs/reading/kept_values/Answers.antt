@@ -14,4 +14,4 @@ loop-operand-preserved c =
     let n = (get_or c.args.operands.now c.loop-operand.operand-index (name_of 0)).0 in
     let h : n < length c.args.cache.now = c.requires n (number_at c.args.operands.now c.loop-operand.operand-index (name_of 0) c.loop-operand-test.true) in
     kept_more c.args.cache.now c.args.operands.now c.loop-operand.operand-index c.loop-operand-test.true _ c.in_ok-copy.field-0 c.loop-operand.invariant
-    (c.in_ok-copy.ensures ∙ get_or_read c.args.cache.now n c.index-cache-operand.result h c.index-cache-operand.is no_value) _ c.in_ok-push.ensures.items
+    (c.in_ok-copy.ensures.value ∙ get_or_read c.args.cache.now n c.index-cache-operand.result h c.index-cache-operand.is no_value) _ c.in_ok-push.ensures.items

@@ -1,8 +1,8 @@
 //! Expressions with what they mean, and refusals at the limits.
 ghost use Rattle.std.specs.Prelude.{◌≡◌, IfOk, length};
 
-use crate::*;
 use fx_base::{Kind, Ledgers, List, Text, Value, Work};
+use fx_expr::*;
 use std::alloc::{AllocError, Global};
 use std::marker::Brand;
 use std::process::Abort;

@@ -1,7 +1,7 @@
 //! Selectors and declarations, good and bad, with the readings of a player of the same rules in Python.
 //! Limits are tried at their first part past them.
-use super::*;
 use fx_base::{Color, List, Sides, Text, Value};
+use fx_css_parts::*;
 use fx_css_types::{Combinator, Compound, Declared, Paint, Selector};
 use std::alloc::{AllocError, Global};
 use std::test::Fail;

@@ -5,10 +5,10 @@ ghost use Rattle.fx_select.specs.Chains.{ParentsStandBefore};
 ghost use Rattle.fx_css_types.specs.Limits.{AreShort, AreShortRules, AreShortSelectors};
 ghost use Rattle.fx_css_types.specs.Specificity.{part_count};
 
-use crate::*;
 use fx_base::{List, NodeKey, Text};
 use fx_css_types::{Candidate, Combinator, Compound, Rule, Selector, Sheet, SheetAt, SheetOrigin};
 use fx_kinds::{Class, StyleFacts, class_of};
+use fx_select::*;
 use std::alloc::Global;
 use std::process::Abort;
 use std::test::Fail;

@@ -1,6 +1,6 @@
 //! Sheets and styles are read as a plain reader outside this repository reads them.
-use crate::*;
 use fx_base::{Color, Sides, Text, Value};
+use fx_css::*;
 use fx_css_types::{Combinator, Compound, Declared, Paint, Rule, Selector, Sheet};
 use read::{SHEETS, STYLES};
 use std::alloc::{AllocError, Global};

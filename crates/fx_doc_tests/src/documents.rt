@@ -1,6 +1,6 @@
 //! Documents with the answers of the reference reader, and the limits.
 //! A document's outline is one line: tags with their places, attributes and runs in brackets.
-use crate::{Content, DocError, Document, Element, read_document};
+use fx_doc::{Content, DocError, Document, Element, read_document};
 use std::alloc::Global;
 use std::fmt::Write;
 use std::test::Fail;

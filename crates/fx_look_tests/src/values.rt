@@ -1,9 +1,9 @@
 //! Readings of every reader against those of an independent implementation, and each other call on one value.
-use crate::{
+use fx_base::{Color, Family, Kind, Same, Sides, Value};
+use fx_look::{
     CodeValue, Look, StyleForm, StyleKey, StyleName, blend, one_color, one_number, one_sides,
     one_size, one_value, read_color, read_number, read_sides, read_size, read_value, style_named,
 };
-use fx_base::{Color, Family, Kind, Same, Sides, Value};
 use std::alloc::{AllocError, Global};
 use std::process::Abort;
 use std::test::Fail;

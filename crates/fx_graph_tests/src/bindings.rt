@@ -1,8 +1,11 @@
 //! Bindings as they are read and refused.
 ghost use Rattle.std.specs.Prelude.{◌≡◌, ◌≤◌, ◌+◌, OnOk, length};
 
-use super::*;
+use fx_base::{Kind, Ledgers, Name, Value, Work};
 use fx_expr::read_expr;
+use fx_graph::*;
+use fx_graph_model::GraphError;
+use std::alloc::Global;
 use std::marker::Brand;
 use std::process::Abort;
 use std::sync::ledger::Blank;

@@ -1,6 +1,8 @@
 //! Tests of handlers and routes: the calls of one small scene in their order, and the limit of 64.
-use super::*;
+use fx_base::{NodeKey, Text};
+use fx_events::*;
 use fx_tree::Tree;
+use std::alloc::Global;
 use std::test::Fail;
 
 /// What is registered in turn: at the node in this slot, and what runs.
@@ -95,7 +97,7 @@ fn ends_at_the_limit(rt: HostRuntime) -> Result<(), Fail> {
     let alloc = rt.alloc();
     let on = EventKind::KeyPressed;
     let mut handlers = Handlers::new(alloc);
-    for _ in 0..registrations::MOST_REGISTERED {
+    for _ in 0..64 {
         handlers.add(alloc, R, on, Phase::Handler, Text::new(alloc))?;
     }
     let more = handlers.add(alloc, R, on, Phase::Handler, Text::new(alloc));

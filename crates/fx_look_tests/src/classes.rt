@@ -1,11 +1,11 @@
 //! The tables against those of an independent implementation, and each other call on one value.
-use crate::{
+use fx_base::{Family, Kind, List, NodeKey, Same, Text, Value};
+use fx_kinds::{
     BoxFacts, Class, Constraint, Property, StyleFacts, birth_style, class_of, constraint_of,
     constraint_table, constraint_value, each_constraint_named, each_styled, ignored_names, initial,
     initial_alignment, is_control, is_ignored, is_node, name_of, one_class, one_constraint_value,
     one_property, package_of, properties, property_named, styled_back, takes_children, value_kind,
 };
-use fx_base::{Family, Kind, List, NodeKey, Same, Text, Value};
 use fx_look::{CodeValue, StyleKey, StyleName};
 use std::alloc::{AllocError, Global};
 use std::process::Abort;

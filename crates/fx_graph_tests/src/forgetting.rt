@@ -1,7 +1,11 @@
 //! The end of a binding, and names that are given back.
 ghost use Rattle.std.specs.Prelude.{◌≡◌};
 
-use super::*;
+use fx_base::{Kind, Ledgers, Name, Value, Work};
+use fx_expr::Expr;
+use fx_graph::*;
+use fx_graph_model::{GraphError, Origin};
+use std::alloc::Global;
 use std::marker::Brand;
 use std::process::Abort;
 use std::sync::ledger::Blank;

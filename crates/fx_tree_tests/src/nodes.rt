@@ -1,6 +1,8 @@
 //! Tests of the tree: the refusals in their order, the limit of depth, and a list of commands whose
 //! answers and lists were computed by a second tree, written in another language.
-use super::*;
+use fx_base::NodeKey;
+use fx_tree::*;
+use std::alloc::Global;
 use std::test::Fail;
 
 /// Each command is what it does (`+` attaches, `-` detaches, `x` drops and `r` makes the root), one or two nodes, the
@@ -125,7 +127,7 @@ fn ends_at_the_deepest(rt: HostRuntime) -> Result<(), Fail> {
     let alloc = rt.alloc();
     let mut tree = Tree::new(alloc);
     let mut upper = tree.make(alloc)?;
-    for _ in 1..nodes::MOST_DEEP {
+    for _ in 1..64 {
         let lower = tree.make(alloc)?;
         tree.attach(alloc, upper, lower, 0)?;
         upper = lower;

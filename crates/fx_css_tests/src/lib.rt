@@ -1,0 +1,7 @@
+//! Tests of what reads style sheets. They stand apart, so that a test that changes has nothing else proved anew.
+#![tactic(auto)]
+
+#[cfg(test)]
+mod parts;
+#[cfg(test)]
+mod sheets;

@@ -1,0 +1,115 @@
+//! Insets of looks, side by side.
+ghost use Rattle.std.specs.Prelude.{◌≡◌, ◌+ℤ◌, pos};
+ghost use Rattle.std.specs.Option.{ForSome};
+ghost use Rattle.fx_insets.specs.Insets.{IsNear, border_end, border_reach, greater, inset_on, insets_of, layer_at, on};
+ghost use Rattle.fx_panes_parts.specs.Lengths.{length_of};
+
+use fx_base::Sides;
+use fx_look::Look;
+use fx_panes_parts::{length_of, pixels, place_of};
+
+/// One of the four sides of a rectangle.
+#[derive(Clone, Copy, PartialEq, Eq, Debug)]
+pub enum Side {
+    Top,
+    Right,
+    Bottom,
+    Left,
+}
+
+/// The insets of a node of this look, in pixels from 0 to 100,000.
+pub fn insets_of(look: &Look) -> Sides
+    ensures { result ≡ insets_of look.now }
+{
+    Sides {
+        top: pixels(inset_on(Side::Top, look)),
+        right: pixels(inset_on(Side::Right, look)),
+        bottom: pixels(inset_on(Side::Bottom, look)),
+        left: pixels(inset_on(Side::Left, look)),
+    }
+}
+
+/// The number of this side.
+pub fn on(side: Side, sides: Sides) -> i64
+    ensures { result ≡ on side sides }
+{
+    match side {
+        Side::Top => sides.top,
+        Side::Right => sides.right,
+        Side::Bottom => sides.bottom,
+        Side::Left => sides.left,
+    }
+}
+
+/// The numbers of a layer. Where there are fewer than layers, the last ones count again (JavaFX CSS Reference Guide,
+/// lists of insets and widths).
+pub fn layer_at(layers: &[Sides], i: usize) -> Sides
+    ensures { result ≡ layer_at layers.now i }
+{
+    match layers.get(i.min(layers.len().saturating_sub(1))) {
+        Some(sides) => *sides,
+        None => Sides {
+            top: 0,
+            right: 0,
+            bottom: 0,
+            left: 0,
+        },
+    }
+}
+
+#[tactic(auto, unfolding(crate::specs::Insets::inset_on))]
+fn inset_on(side: Side, look: &Look) -> u64
+    ensures { result ≡ inset_on side look.now }
+{
+    clamped(border_reach(side, look) + i128::from(length_of(on(side, look.padding))))
+}
+
+/// A number as a length.
+fn clamped(n: i128) -> u64
+    ensures { result ≡ length_of n }
+{
+    n.clamp(0, 100_000) as u64
+}
+
+#[tactic(auto, using(crate::proofs::Folding::fold_next), unfolding(crate::specs::Insets::border_reach))]
+fn border_reach(side: Side, look: &Look) -> i128
+    ensures value { result ≡ border_reach side look.now }
+    ensures bounds { IsNear result }
+{
+    let mut best = None;
+    for i in 0..look.border_color.as_slice().len() {
+        best = greater(best, border_end(side, look, i));
+    }
+    best.unwrap_or(0)
+}
+
+#[tactic(auto, unfolding(crate::specs::Insets::border_end))]
+fn border_end(side: Side, look: &Look, i: usize) -> i128
+    ensures value { result ≡ border_end side look.now i }
+    ensures bounds { IsNear result }
+{
+    behind(
+        length_of(on(side, layer_at(look.border_width.as_slice(), i))),
+        place_of(on(side, layer_at(look.border_insets.as_slice(), i))),
+    )
+}
+
+/// So far behind the end of a length.
+fn behind(length: u64, place: i64) -> i128
+    ensures value { result ≡ pos length +ℤ place }
+    ensures bounds { IsNear result }
+{
+    i128::from(length) + i128::from(place)
+}
+
+fn greater(best: Option<i128>, n: i128) -> Option<i128>
+    requires near { IsNear n }
+    requires best { ForSome best IsNear }
+    ensures value { result ≡ greater best n }
+    ensures near { ForSome result IsNear }
+{
+    match best {
+        None => Some(n),
+        Some(best) => Some(best.max(n)),
+    }
+}

@@ -1,0 +1,13 @@
+//! What a node is laid out by: the facts that its pane is asked with, what a pane sees of a child, and the rule of each
+//! class. Adding a pane is one arm in each of these tables. It stands on the panes, below the layout of a whole tree.
+#![tactic(auto)]
+
+mod boxes;
+mod children;
+mod constraints;
+mod rules;
+
+pub use boxes::box_of;
+pub use children::child_of;
+pub use rules::{NodeBox, Rule, across_half, across_span, down_half, down_span, rule_of};
+pub use rules::{measure, measure_in, place};

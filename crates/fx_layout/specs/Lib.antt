@@ -1,0 +1,3 @@
+pub mod Nodes
+pub mod Sweeps
+pub mod Updates

@@ -1,0 +1,74 @@
+-- Measuring from the leaves and placing from the root, along one axis. Only some of the nodes are worked out; the others
+-- keep what was kept. Cited by src/measuring.rt, src/placing.rt and by `Layouts`.
+use Rattle.std.specs.Prelude.{◌≡◌, ℕ, ◌+◌, ◌<◌, Bool, true, false, ◌||◌, not, nat_eq, MatchBool, if◌then◌else◌, List, [], ◌∷◌, count_by, length, map, slice_index_or}
+use Rattle.std.specs.List.{range_with_len}
+use Rattle.fx_base.specs.declared.facts.ChildSize.{ChildSize}
+use Rattle.fx_kinds.specs.declared.facts.BoxFacts.{BoxFacts}
+use Rattle.fx_look.specs.declared.looks.Look.{Look}
+use Rattle.fx_panes_parts.specs.declared.axes.Axis.{Axis}
+use Rattle.fx_panes_parts.specs.declared.axes.Axis.TheVariants.{Across, Down}
+use Rattle.fx_panes_parts.specs.declared.axes.Extent.{Extent}
+use Rattle.fx_panes_parts.specs.declared.axes.Span.{Span}
+use Rattle.fx_layout_parts.specs.declared.rules.NodeBox.{NodeBox}
+use Rattle.fx_layout_parts.specs.declared.rules.Rule.{Rule}
+use Rattle.fx_panes_parts.specs.Lengths.{length_of, pixels}
+use Rattle.fx_layout_parts.specs.Rules.{IsHigh, IsWide, across_in, down_in}
+use Rattle.fx_layout.specs.Nodes.{box_at, extent_at, nowhere, places_at, seen, span_at}
+
+-- a length, of which none is greater than the longest
+abbrev pub held_length : ℕ → ℕ
+held_length n = length_of (pixels n)
+
+-- the marks of places, of which those that aren't there are unset
+abbrev pub flag_in : List Bool → ℕ → Bool
+flag_in flags p = slice_index_or flags p false
+
+-- a node's lengths along an axis over its children; down they are those in its width
+abbrev pub IsMeasured : Axis → NodeBox → List ChildSize → ℕ → Extent → Type 0
+IsMeasured Across node children width lengths = IsWide node children lengths
+IsMeasured Down node children width lengths = IsHigh node children (held_length width) lengths
+
+-- children as they are seen along an axis: across nothing is known of their heights
+abbrev pub seen_along : Axis → Rule → List BoxFacts → List Extent → List Extent → List ℕ → List ChildSize
+seen_along Across pane nodes widths lengths places = seen pane nodes lengths [] places
+seen_along Down pane nodes widths lengths places = seen pane nodes widths lengths places
+
+-- Nodes measured from the leaves: where a node is listed its lengths are those that its pane measures over the lengths
+-- of its children, and else those that were kept.
+abbrev pub AreMeasured : Axis → List BoxFacts → List Look → List (List ℕ) → (ℕ → Bool) → List Extent → List Span
+    → (ℕ → Extent) → List Extent → Type 0
+AreMeasured axis nodes looks children listed widths spans kept lengths = (p : ℕ) → p < length nodes
+    → MatchBool (listed p)
+        (IsMeasured axis (box_at nodes looks p)
+        (seen_along axis (box_at nodes looks p).rule nodes widths lengths (places_at children p))
+        (span_at spans p).length (extent_at lengths p))
+        (extent_at lengths p ≡ kept p)
+
+-- where the children of a node stand along an axis in its length
+abbrev pub spans_along : Axis → NodeBox → List ChildSize → ℕ → List Span
+spans_along Across node children length = across_in node children (held_length length)
+spans_along Down node children length = down_in node children (held_length length)
+
+-- a place for each of so many children; one for which there is none stands nowhere
+abbrev pub fitted : ℕ → List Span → List Span
+fitted count spans = map (span_at spans) (range_with_len 0 count)
+
+-- a node's children are placed anew where it is listed or its length is another than the last
+abbrev pub is_worked : (ℕ → Bool) → (ℕ → Span) → List Span → ℕ → Bool
+is_worked listed last spans p = listed p || not (nat_eq (span_at spans p).length (last p).length)
+
+-- Children placed from the root: where a node is worked on they stand where its pane puts them in its length, and else
+-- where they were kept.
+abbrev pub ArePlaced : Axis → List BoxFacts → List Look → List (List ℕ) → (ℕ → Bool) → List Extent → List Extent
+    → (ℕ → Span) → (ℕ → List Span) → List Span → Type 0
+ArePlaced axis nodes looks children listed widths heights last kept spans = (p : ℕ) → p < length nodes
+    → map (span_at spans) (places_at children p)
+    ≡ fitted (length (places_at children p))
+        (if is_worked listed last spans p then
+            spans_along axis (box_at nodes looks p)
+            (seen (box_at nodes looks p).rule nodes widths heights (places_at children p)) (span_at spans p).length
+            else kept p)
+
+-- how many of so many places pass a test
+abbrev pub tally : (ℕ → Bool) → ℕ → ℕ
+tally test n = count_by test (range_with_len 0 n)

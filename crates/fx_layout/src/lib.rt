@@ -1,0 +1,10 @@
+//! The layout of a whole tree in four sweeps: widths from the leaves, places across from the root, heights in these widths
+//! from the leaves, places down from the root. What didn't change is kept. It stands on the panes, and gives the
+//! rectangles that are painted.
+#![tactic(auto)]
+
+mod lengths;
+mod nodes;
+mod places;
+
+pub use places::Places;

@@ -1,2 +1,5 @@
+pub mod Asking
+pub mod Below
 pub mod Children
 pub mod Reading
+pub mod Turns

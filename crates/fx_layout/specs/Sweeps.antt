@@ -33,16 +33,21 @@ abbrev pub seen_along : Axis → Rule → List BoxFacts → List Extent → List
 seen_along Across pane nodes widths lengths places = seen pane nodes lengths [] places
 seen_along Down pane nodes widths lengths places = seen pane nodes widths lengths places
 
--- Nodes measured from the leaves: where a node is listed its lengths are those that its pane measures over the lengths
--- of its children, and else those that were kept.
+-- Where a node is listed its lengths are those that its pane measures over the lengths of its children, and else those
+-- that were kept.
+abbrev pub IsSettled : Axis → List BoxFacts → List Look → List (List ℕ) → (ℕ → Bool) → List Extent → List Span
+    → (ℕ → Extent) → List Extent → ℕ → Type 0
+IsSettled axis nodes looks children listed widths spans kept lengths p = MatchBool (listed p)
+    (IsMeasured axis (box_at nodes looks p)
+    (seen_along axis (box_at nodes looks p).rule nodes widths lengths (places_at children p))
+    (span_at spans p).length (extent_at lengths p))
+    (extent_at lengths p ≡ kept p)
+
+-- nodes measured from the leaves
 abbrev pub AreMeasured : Axis → List BoxFacts → List Look → List (List ℕ) → (ℕ → Bool) → List Extent → List Span
     → (ℕ → Extent) → List Extent → Type 0
-AreMeasured axis nodes looks children listed widths spans kept lengths = (p : ℕ) → p < length nodes
-    → MatchBool (listed p)
-        (IsMeasured axis (box_at nodes looks p)
-        (seen_along axis (box_at nodes looks p).rule nodes widths lengths (places_at children p))
-        (span_at spans p).length (extent_at lengths p))
-        (extent_at lengths p ≡ kept p)
+AreMeasured axis nodes looks children listed widths spans kept lengths =
+    (p : ℕ) → p < length nodes → IsSettled axis nodes looks children listed widths spans kept lengths p
 
 -- where the children of a node stand along an axis in its length
 abbrev pub spans_along : Axis → NodeBox → List ChildSize → ℕ → List Span

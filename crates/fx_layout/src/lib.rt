@@ -4,6 +4,7 @@
 #![tactic(auto)]
 
 mod lengths;
+mod measuring;
 mod nodes;
 mod places;
 

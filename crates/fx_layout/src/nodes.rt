@@ -1,8 +1,9 @@
 //! Nodes as the sweeps look at them.
 ghost use Rattle.std.specs.Prelude.{◌≡◌, ◌<◌, All, IfOk, length, map};
-ghost use Rattle.fx_layout.specs.Nodes.{box_at, child_at, seen};
+ghost use Rattle.fx_layout.specs.Nodes.{AreNodes, box_at, child_at, children_lists, parents, places_at, seen};
 
 use crate::lengths::extent_at;
+use crate::places::Places;
 use fx_base::ChildSize;
 use fx_kinds::BoxFacts;
 use fx_layout_parts::{NodeBox, Rule, box_of, child_of};
@@ -23,6 +24,25 @@ pub fn box_in(
     ensures { IfOk result (λ made. made ≡ box_at nodes.now looks.now place) }
 {
     box_of(alloc, &nodes[place], &looks[place])
+}
+
+/// The places of a node's children.
+#[tactic(auto, using(crate::proofs::Asking::lists_long))]
+pub fn children_in<'a>(nodes: &[BoxFacts], children: &'a [Places], place: usize) -> &'a [usize]
+    requires nodes { AreNodes nodes.now }
+    requires children { children.now ≡ children_lists (parents nodes.now) }
+    requires place { place < length nodes.now }
+    ensures value { result.now ≡ places_at children.now place }
+    ensures below { All (λ j. j < length nodes.now) result.now }
+{
+    places_in(children, place)
+}
+
+fn places_in(children: &[Places], place: usize) -> &[usize]
+    requires { place < length children.now }
+    ensures { result.now ≡ places_at children.now place }
+{
+    children[place].as_slice()
 }
 
 /// The children at these places, as a pane of this rule sees them.

@@ -61,3 +61,14 @@ pub asked : (nodes : List BoxFacts) (looks : List Look) (children : List (List �
     → CanBeAsked node seen_children
 asked nodes looks children p widths heights node places seen_children are same within is_node are_places are_seen =
     rw (are_seen, are_places, is_node, same) (can_be_asked nodes looks p widths heights are within)
+
+pub lists_behind : (nodes : List BoxFacts) (children : List (List ℕ)) → AreNodes nodes
+    → children ≡ children_lists (parents nodes) → (p : ℕ) → p < length nodes → All (λ j. p < j) (places_at children p)
+lists_behind nodes children are same p within =
+    let ups = parents nodes in
+    let many : length ups ≡ length nodes = length-map nodes _ in
+    let known : All (λ j. p < j) (children_of ups p) =
+    All-weaker (λ j. IsChild ups p j) (λ j. p < j) (λ j child. child.behind)
+    (children_of ups p) (children_known ups are.tree p) in
+    subst (λ (l : List ℕ). All (λ j. p < j) l)
+    (sym (ap (λ (l : List (List ℕ)). places_at l p) same ∙ lists_at ups p (subst (λ n. p < n) (sym many) within))) known

@@ -2,4 +2,5 @@ pub mod Asking
 pub mod Below
 pub mod Children
 pub mod Reading
+pub mod Tallies
 pub mod Turns

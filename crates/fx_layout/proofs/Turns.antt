@@ -48,6 +48,16 @@ pub record IsSwept (axis : Axis) (nodes : List BoxFacts) (looks : List Look) (ch
   pub back : (q : ℕ) → p ≤ q → q < length nodes
       → IsSettled axis nodes looks children listed widths spans (extent_at start) lengths q
 
+pub swept_start : (axis : Axis) (nodes : List BoxFacts) (looks : List Look) (children : List (List ℕ)) (listed : ℕ → Bool)
+    (widths : List Extent) (spans : List Span) (start : List Extent) → length start ≡ length nodes
+    → IsSwept axis nodes looks children listed widths spans start start (length nodes)
+swept_start axis nodes looks children listed widths spans start each =
+    record {
+      each = each;
+      front = λ q before. refl;
+      back = λ q from within. absurd (omega (arith, from, within));
+    }
+
 -- what is made of a place
 abbrev pub IsMade : Axis → List BoxFacts → List Look → List (List ℕ) → (ℕ → Bool) → List Extent → List Span
     → List Extent → ℕ → Extent → Type 0

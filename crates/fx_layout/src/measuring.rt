@@ -27,6 +27,31 @@ pub struct Measuring<'a> {
     pub spans: &'a [Span],
 }
 
+/// The lengths of each node along the axis: of one that is listed those that its pane measures, and of any other those
+/// that are there.
+pub fn measure_nodes<L: Ledgers>(
+    alloc: Global,
+    sweep: Measuring<'_>,
+    lengths: &mut Vec<Extent>,
+    work: &mut Work<L>,
+) -> Result<(), AllocError>
+    requires looks { length sweep.looks.now ≡ length sweep.nodes.now }
+    requires nodes { AreNodes sweep.nodes.now }
+    requires children { sweep.children.now ≡ children_lists (parents sweep.nodes.now) }
+    requires lengths { length lengths.old.items ≡ length sweep.nodes.now }
+    ensures each { OnOk result (length lengths.new.items ≡ length lengths.old.items) }
+    ensures lengths { OnOk result (AreMeasured sweep.entry.axis sweep.entry.nodes.now sweep.entry.looks.now
+        sweep.entry.children.now (flag_in sweep.entry.listed.now) sweep.entry.widths.now sweep.entry.spans.now
+        (extent_at lengths.old.items) lengths.new.items) }
+    ensures work { OnOk result (work.new ≡ record work.old {
+        laid = work.old.laid + tally (flag_in sweep.entry.listed.now) (length sweep.entry.nodes.now) }) }
+{
+    for place in (0..sweep.nodes.len()).rev() {
+        lengths[place] = lengths_of(alloc, sweep, place, lengths.as_slice(), work)?;
+    }
+    Ok(())
+}
+
 /// The lengths of the node at this place, over those of its children.
 fn lengths_of<L: Ledgers>(
     alloc: Global,

@@ -1,5 +1,5 @@
 -- The panes of nodes that can be laid out can be asked.
-use Rattle.std.proofs.Common.{sym, subst, ap, ◌∙◌, ◌≡◌, ℕ, ◌<◌, ◌≤◌, All, List, length, map, arith}
+use Rattle.std.proofs.Common.{sym, subst, ap, ◌∙◌, ◌≡◌, ℕ, ◌<◌, ◌≤◌, ◌≢◌, All, AllPairs, List, length, map, arith}
 use Rattle.std.proofs.lemmas.List.{length-map}
 use Rattle.std.proofs.lemmas.List.Elements.{All-get_or, All-weaker}
 use Rattle.std.proofs.lemmas.List.FromFn.{length-map-range_with_len, length-range_with_len}
@@ -13,7 +13,7 @@ use Rattle.fx_layout_parts.specs.Rules.{CanBeAsked}
 use Rattle.fx_base.specs.declared.facts.ChildSize.{ChildSize}
 use Rattle.fx_layout_parts.proofs.CellLemmas.{cells_fit}
 use Rattle.fx_layout.specs.Nodes.{AreNodes, box_at, child_at, children_lists, children_of, extent_at, is_place, no_node, node_at, parent_at, parents, places_at, seen}
-use Rattle.fx_layout.proofs.Below.{IsChild, children_known, lists_at}
+use Rattle.fx_layout.proofs.Below.{IsChild, children_distinct, children_known, lists_at}
 
 pub can_be_asked : (nodes : List BoxFacts) (looks : List Look) (p : ℕ) (widths heights : List Extent) → AreNodes nodes
     → p < length nodes
@@ -72,3 +72,12 @@ lists_behind nodes children are same p within =
     (children_of ups p) (children_known ups are.tree p) in
     subst (λ (l : List ℕ). All (λ j. p < j) l)
     (sym (ap (λ (l : List (List ℕ)). places_at l p) same ∙ lists_at ups p (subst (λ n. p < n) (sym many) within))) known
+
+pub lists_apart : (nodes : List BoxFacts) (children : List (List ℕ)) (p : ℕ) → children ≡ children_lists (parents nodes)
+    → p < length nodes → AllPairs (λ i j. i ≢ j) (places_at children p)
+lists_apart nodes children p same within =
+    let ups = parents nodes in
+    let many : length ups ≡ length nodes = length-map nodes _ in
+    subst (λ (l : List ℕ). AllPairs (λ i j. i ≢ j) l)
+    (sym (ap (λ (l : List (List ℕ)). places_at l p) same ∙ lists_at ups p (subst (λ n. p < n) (sym many) within)))
+    (children_distinct ups p)

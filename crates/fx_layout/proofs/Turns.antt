@@ -21,7 +21,7 @@ abbrev pub AreBehind : List (List ℕ) → ℕ → Type 0
 AreBehind children n = (p : ℕ) → p < n → All (λ j. p < j) (places_at children p)
 
 -- a map over places at which two functions agree
-map_same : {X : Type 0} (f g : ℕ → X) (d : X) (places : List ℕ) → All (λ j. f j ≡ g j) places → map f places ≡ map g places
+pub map_same : {X : Type 0} (f g : ℕ → X) (d : X) (places : List ℕ) → All (λ j. f j ≡ g j) places → map f places ≡ map g places
 map_same f g d places agree =
     ext_get_or d (map f places) (map g places) (length-map places f ∙ sym (length-map places g))
     (λ i within.

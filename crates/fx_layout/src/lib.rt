@@ -7,5 +7,6 @@ mod lengths;
 mod measuring;
 mod nodes;
 mod places;
+mod placing;
 
 pub use places::Places;

@@ -1,5 +1,5 @@
 //! Nodes as the sweeps look at them.
-ghost use Rattle.std.specs.Prelude.{◌≡◌, ◌<◌, All, IfOk, length, map};
+ghost use Rattle.std.specs.Prelude.{◌≡◌, ◌≢◌, ◌<◌, All, AllPairs, IfOk, length, map};
 ghost use Rattle.fx_layout.specs.Nodes.{AreNodes, box_at, child_at, children_lists, parents, places_at, seen};
 
 use crate::lengths::extent_at;
@@ -34,6 +34,7 @@ pub fn children_in<'a>(nodes: &[BoxFacts], children: &'a [Places], place: usize)
     requires place { place < length nodes.now }
     ensures value { result.now ≡ places_at children.now place }
     ensures below { All (λ j. j < length nodes.now) result.now }
+    ensures apart { AllPairs (λ i j. i ≢ j) result.now }
 {
     places_in(children, place)
 }

@@ -1,5 +1,5 @@
 -- The panes of nodes that can be laid out can be asked.
-use Rattle.std.proofs.Common.{sym, subst, ap, ◌∙◌, ◌≡◌, ℕ, ◌<◌, ◌≤◌, ◌≢◌, All, AllPairs, List, length, map, arith}
+use Rattle.std.proofs.Common.{sym, subst, ap, ◌∙◌, ◌≡◌, ℕ, ◌<◌, ◌≤◌, ◌≢◌, All, AllPairs, List, length, map, slice_index_or, arith}
 use Rattle.std.proofs.lemmas.List.{length-map}
 use Rattle.std.proofs.lemmas.List.Elements.{All-get_or, All-weaker}
 use Rattle.std.proofs.lemmas.List.FromFn.{length-map-range_with_len, length-range_with_len}
@@ -13,7 +13,8 @@ use Rattle.fx_layout_parts.specs.Rules.{CanBeAsked}
 use Rattle.fx_base.specs.declared.facts.ChildSize.{ChildSize}
 use Rattle.fx_layout_parts.proofs.CellLemmas.{cells_fit}
 use Rattle.fx_layout.specs.Nodes.{AreNodes, box_at, child_at, children_lists, children_of, extent_at, is_place, no_node, node_at, parent_at, parents, places_at, seen}
-use Rattle.fx_layout.proofs.Below.{IsChild, children_distinct, children_known, lists_at}
+use Rattle.fx_layout.proofs.Below.{IsChild, children_distinct, children_known, lists_at, same_parent}
+use Rattle.fx_layout.proofs.Spreads.{AreKnown}
 
 pub can_be_asked : (nodes : List BoxFacts) (looks : List Look) (p : ℕ) (widths heights : List Extent) → AreNodes nodes
     → p < length nodes
@@ -81,3 +82,24 @@ lists_apart nodes children p same within =
     subst (λ (l : List ℕ). AllPairs (λ i j. i ≢ j) l)
     (sym (ap (λ (l : List (List ℕ)). places_at l p) same ∙ lists_at ups p (subst (λ n. p < n) (sym many) within)))
     (children_distinct ups p)
+
+child_in : (nodes : List BoxFacts) (children : List (List ℕ)) → AreNodes nodes → children ≡ children_lists (parents nodes)
+    → (p : ℕ) → p < length nodes → All (λ j. IsChild (parents nodes) p j) (places_at children p)
+child_in nodes children are same p within =
+    let ups = parents nodes in
+    let many : length ups ≡ length nodes = length-map nodes _ in
+    subst (λ (l : List ℕ). All (λ j. IsChild ups p j) l)
+    (sym (ap (λ (l : List (List ℕ)). places_at l p) same ∙ lists_at ups p (subst (λ n. p < n) (sym many) within)))
+    (children_known ups are.tree p)
+
+pub are_known : (nodes : List BoxFacts) (children : List (List ℕ)) → AreNodes nodes → children ≡ children_lists (parents nodes)
+    → AreKnown children (length nodes)
+are_known nodes children are same =
+    record {
+      behind = lists_behind nodes children are same;
+      apart = λ p q p_within q_within differ i k d e i_within k_within equal.
+          let one = child_in nodes children are same p p_within i d i_within in
+          let other = child_in nodes children are same q q_within k e k_within in
+          differ (same_parent p q (parent_at (parents nodes) (slice_index_or (places_at children p) i d)) one.up
+          (ap (parent_at (parents nodes)) equal ∙ other.up));
+    }

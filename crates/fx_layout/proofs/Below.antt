@@ -26,7 +26,7 @@ none_is : (p : ℕ) (o : Option ℕ) → is_place p o ≡ true → o ≡ Some p
 none_is p None e = absurd (true≢false (sym e))
 none_is p (Some q) e = ap (λ n. Some n) (sym (eqb-true p q e))
 
-same_parent : (p q : ℕ) (o : Option ℕ) → o ≡ Some p → o ≡ Some q → p ≡ q
+pub same_parent : (p q : ℕ) (o : Option ℕ) → o ≡ Some p → o ≡ Some q → p ≡ q
 same_parent p q o e f = ap (λ (r : Option ℕ). unwrap_or r 0) (sym e ∙ f)
 
 not_none : (p : ℕ) (o : Option ℕ) → o ≡ Some p → o ≡ None → ⊥

@@ -29,6 +29,42 @@ pub struct Placing<'a> {
     pub old_spans: &'a [Span],
 }
 
+/// Where each node stands in its parent. The children of a node that is marked, or is longer or shorter than it was, are
+/// placed by its pane; those of any other stay where they were kept. The marks are then of the nodes whose children were
+/// placed anew.
+pub fn place_nodes<L: Ledgers>(
+    alloc: Global,
+    sweep: Placing<'_>,
+    flags: &mut Vec<bool>,
+    spans: &mut Vec<Span>,
+    work: &mut Work<L>,
+) -> Result<(), AllocError>
+    requires looks { length sweep.looks.now ≡ length sweep.nodes.now }
+    requires nodes { AreNodes sweep.nodes.now }
+    requires children { sweep.children.now ≡ children_lists (parents sweep.nodes.now) }
+    requires spans { length spans.old.items ≡ length sweep.nodes.now }
+    requires flags { length flags.old.items ≡ length sweep.nodes.now }
+    ensures each { OnOk result (length spans.new.items ≡ length sweep.entry.nodes.now) }
+    ensures each_flag { OnOk result (length flags.new.items ≡ length sweep.entry.nodes.now) }
+    ensures root { OnOk result (span_at spans.new.items 0 ≡ span_at spans.old.items 0) }
+    ensures placed { OnOk result (ArePlaced sweep.entry.axis sweep.entry.nodes.now sweep.entry.looks.now
+        sweep.entry.children.now (flag_in flags.old.items) sweep.entry.widths.now sweep.entry.heights.now
+        (last_in sweep.entry.olds.now sweep.entry.old_spans.now)
+        (kept_in sweep.entry.olds.now sweep.entry.old_children.now sweep.entry.old_spans.now) spans.new.items) }
+    ensures marks { OnOk result ((p : ℕ) → p < length sweep.entry.nodes.now → flag_in flags.new.items p
+        ≡ is_worked (flag_in flags.old.items) (last_in sweep.entry.olds.now sweep.entry.old_spans.now)
+            spans.new.items p) }
+    ensures work { OnOk result (work.new ≡ record work.old {
+        laid = work.old.laid + tally (flag_in flags.new.items) (length sweep.entry.nodes.now) }) }
+{
+    for at in 0..sweep.nodes.len() {
+        let worked = is_worked(sweep, flags.as_slice(), spans.as_slice(), at);
+        flags[at] = worked;
+        place_children(alloc, sweep, at, worked, spans, work)?;
+    }
+    Ok(())
+}
+
 /// Where the children of the node at this place stand in so much length, by its pane.
 #[tactic(auto, using(crate::proofs::Asking::asked))]
 fn rects_across<L: Ledgers>(

@@ -1,7 +1,0 @@
-use Rattle.std.proofs.Common.{length}
-use Rattle.fx_layout.specs.Nodes.{parents}
-use Rattle.fx_layout.proofs.Children.{AreHung}
-use Rattle.fx_layout.proofs.places.children_lists.Given as goal
-
-abbrev pub invariant-loop-place : goal.invariant-loop-place
-invariant-loop-place l = AreHung (parents l.nodes) (length l.nodes) l.place l.lists.items

@@ -1,0 +1,29 @@
+-- What is read at a place is there at any default.
+use Rattle.std.proofs.Common.{subst, sym, ap, ◌∙◌, ◌≡◌, ℕ, ◌<◌, List, length, slice_index_or}
+use Rattle.std.proofs.lemmas.List.{get_or_default}
+use Rattle.fx_base.specs.declared.facts.ChildSize.{ChildSize}
+use Rattle.fx_kinds.specs.declared.facts.BoxFacts.{BoxFacts}
+use Rattle.fx_look.specs.declared.looks.Look.{Look}
+use Rattle.fx_look.specs.Looks.{initial_look}
+use Rattle.fx_panes_parts.specs.declared.axes.Extent.{Extent}
+use Rattle.fx_layout_parts.specs.declared.rules.NodeBox.{NodeBox}
+use Rattle.fx_layout_parts.specs.declared.rules.Rule.{Rule}
+use Rattle.fx_layout_parts.specs.Boxes.{box_of}
+use Rattle.fx_layout_parts.specs.Children.{child_of}
+use Rattle.fx_layout_sweeps.specs.Nodes.{box_at, child_at, extent_at, no_node, node_at}
+
+pub box_read : (nodes : List BoxFacts) (looks : List Look) (p : ℕ) (node : BoxFacts) (look : Look)
+    → length looks ≡ length nodes → p < length nodes
+    → box_of (slice_index_or nodes p node) (slice_index_or looks p look) ≡ box_at nodes looks p
+box_read nodes looks p node look same within =
+    ap (λ (n : BoxFacts). box_of n (slice_index_or looks p look)) (get_or_default nodes p node no_node within)
+    ∙ ap (λ (l : Look). box_of (node_at nodes p) l)
+    (get_or_default looks p look (initial_look 0) (subst (λ n. p < n) (sym same) within))
+
+pub child_read : (pane : Rule) (nodes : List BoxFacts) (widths heights : List Extent) (p : ℕ) (node : BoxFacts)
+    → p < length nodes
+    → child_of pane (slice_index_or nodes p node) (extent_at widths p) (extent_at heights p)
+    ≡ child_at pane nodes widths heights p
+child_read pane nodes widths heights p node within =
+    ap (λ (n : BoxFacts). child_of pane n (extent_at widths p) (extent_at heights p))
+    (get_or_default nodes p node no_node within)

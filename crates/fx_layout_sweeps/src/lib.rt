@@ -1,0 +1,15 @@
+//! The sweeps by which a tree of nodes is laid out along one axis: measuring from the leaves, and placing from the root.
+//! Both work on some of the nodes alone, and leave what is kept of the others. They stand on the rules of the panes, below
+//! the layout of a whole scene.
+#![tactic(auto)]
+
+mod lengths;
+mod measuring;
+mod nodes;
+mod places;
+mod placing;
+
+pub use lengths::{NOWHERE, UNKNOWN, extent_at, flag_at, span_at};
+pub use measuring::{Measuring, measure_nodes};
+pub use places::{Places, children_lists};
+pub use placing::{Placing, place_nodes};

@@ -1,0 +1,155 @@
+//! Measuring from the leaves, along one axis.
+ghost use Rattle.std.specs.Prelude.{◌≡◌, ◌+◌, ◌<◌, [], IfOk, OnOk, MatchBool, cond, length};
+ghost use Rattle.fx_layout_sweeps.specs.Nodes.{AreNodes, box_at, children_lists, extent_at, parents, places_at, seen, span_at};
+ghost use Rattle.fx_layout_sweeps.specs.Sweeps.{AreMeasured, IsMeasured, flag_in, held_length, seen_along, tally};
+ghost use Rattle.fx_layout_parts.specs.Rules.{IsHigh, IsWide};
+
+use crate::lengths::{extent_at, flag_at, span_at};
+use crate::nodes::{box_in, children_in, seen};
+use crate::places::Places;
+use fx_base::{Ledgers, Work};
+use fx_kinds::BoxFacts;
+use fx_layout_parts::{across_half, down_half, measure, measure_in};
+use fx_look::Look;
+use fx_panes_parts::{Axis, Extent, Span, pixels};
+use std::alloc::{AllocError, Global};
+
+/// What measuring looks at: the nodes with their looks and children, which of them are measured, and for heights the
+/// widths and the places across.
+#[derive(Clone, Copy)]
+pub struct Measuring<'a> {
+    pub axis: Axis,
+    pub nodes: &'a [BoxFacts],
+    pub looks: &'a [Look],
+    pub children: &'a [Places],
+    pub listed: &'a [bool],
+    pub widths: &'a [Extent],
+    pub spans: &'a [Span],
+}
+
+/// The lengths of each node along the axis: of one that is listed those that its pane measures, and of any other those
+/// that are there.
+pub fn measure_nodes<L: Ledgers>(
+    alloc: Global,
+    sweep: Measuring<'_>,
+    lengths: &mut Vec<Extent>,
+    work: &mut Work<L>,
+) -> Result<(), AllocError>
+    requires looks { length sweep.looks.now ≡ length sweep.nodes.now }
+    requires nodes { AreNodes sweep.nodes.now }
+    requires children { sweep.children.now ≡ children_lists (parents sweep.nodes.now) }
+    requires lengths { length lengths.old.items ≡ length sweep.nodes.now }
+    ensures each { OnOk result (length lengths.new.items ≡ length lengths.old.items) }
+    ensures lengths { OnOk result (AreMeasured sweep.entry.axis sweep.entry.nodes.now sweep.entry.looks.now
+        sweep.entry.children.now (flag_in sweep.entry.listed.now) sweep.entry.widths.now sweep.entry.spans.now
+        (extent_at lengths.old.items) lengths.new.items) }
+    ensures work { OnOk result (work.new ≡ record work.old {
+        laid = work.old.laid + tally (flag_in sweep.entry.listed.now) (length sweep.entry.nodes.now) }) }
+{
+    for place in (0..sweep.nodes.len()).rev() {
+        lengths[place] = lengths_of(alloc, sweep, place, lengths.as_slice(), work)?;
+    }
+    Ok(())
+}
+
+/// The lengths of the node at this place, over those of its children.
+fn lengths_of<L: Ledgers>(
+    alloc: Global,
+    sweep: Measuring<'_>,
+    place: usize,
+    lengths: &[Extent],
+    work: &mut Work<L>,
+) -> Result<Extent, AllocError>
+    requires looks { length sweep.looks.now ≡ length sweep.nodes.now }
+    requires nodes { AreNodes sweep.nodes.now }
+    requires children { sweep.children.now ≡ children_lists (parents sweep.nodes.now) }
+    requires place { place < length sweep.nodes.now }
+    ensures lengths { IfOk result (λ made. MatchBool (flag_in sweep.entry.listed.now place)
+        (IsMeasured sweep.entry.axis (box_at sweep.entry.nodes.now sweep.entry.looks.now place)
+        (seen_along sweep.entry.axis (box_at sweep.entry.nodes.now sweep.entry.looks.now place).rule
+        sweep.entry.nodes.now sweep.entry.widths.now lengths.now (places_at sweep.entry.children.now place))
+        (span_at sweep.entry.spans.now place).length made)
+        (made ≡ extent_at lengths.now place)) }
+    ensures work { OnOk result (work.new ≡ record work.old {
+        laid = work.old.laid + cond (flag_in sweep.entry.listed.now place) 1 0 }) }
+{
+    if flag_at(sweep.listed, place) {
+        measured(alloc, sweep, place, lengths, work)
+    } else {
+        Ok(extent_at(lengths, place))
+    }
+}
+
+fn measured<L: Ledgers>(
+    alloc: Global,
+    sweep: Measuring<'_>,
+    place: usize,
+    lengths: &[Extent],
+    work: &mut Work<L>,
+) -> Result<Extent, AllocError>
+    requires looks { length sweep.looks.now ≡ length sweep.nodes.now }
+    requires nodes { AreNodes sweep.nodes.now }
+    requires children { sweep.children.now ≡ children_lists (parents sweep.nodes.now) }
+    requires place { place < length sweep.nodes.now }
+    ensures lengths { IfOk result (
+        IsMeasured sweep.entry.axis (box_at sweep.entry.nodes.now sweep.entry.looks.now place)
+        (seen_along sweep.entry.axis (box_at sweep.entry.nodes.now sweep.entry.looks.now place).rule
+        sweep.entry.nodes.now sweep.entry.widths.now lengths.now (places_at sweep.entry.children.now place))
+        (span_at sweep.entry.spans.now place).length) }
+    ensures work { OnOk result (work.new ≡ record work.old { laid = work.old.laid + 1 }) }
+{
+    match sweep.axis {
+        Axis::Across => widths_of(alloc, sweep, place, lengths, work),
+        Axis::Down => heights_of(alloc, sweep, place, lengths, work),
+    }
+}
+
+#[tactic(auto, using(crate::proofs::Asking::asked))]
+fn widths_of<L: Ledgers>(
+    alloc: Global,
+    sweep: Measuring<'_>,
+    place: usize,
+    widths: &[Extent],
+    work: &mut Work<L>,
+) -> Result<Extent, AllocError>
+    requires looks { length sweep.looks.now ≡ length sweep.nodes.now }
+    requires nodes { AreNodes sweep.nodes.now }
+    requires children { sweep.children.now ≡ children_lists (parents sweep.nodes.now) }
+    requires place { place < length sweep.nodes.now }
+    ensures lengths { IfOk result (IsWide (box_at sweep.entry.nodes.now sweep.entry.looks.now place)
+        (seen (box_at sweep.entry.nodes.now sweep.entry.looks.now place).rule
+        sweep.entry.nodes.now widths.now [] (places_at sweep.entry.children.now place))) }
+    ensures work { OnOk result (work.new ≡ record work.old { laid = work.old.laid + 1 }) }
+{
+    let node = box_in(alloc, sweep.nodes, sweep.looks, place)?;
+    let places = children_in(sweep.nodes, sweep.children, place);
+    let children = seen(alloc, node.rule, sweep.nodes, widths, &[], places)?;
+    let sizes = measure(alloc, &node, children.as_slice(), work)?;
+    Ok(across_half(sizes))
+}
+
+#[tactic(auto, using(crate::proofs::Asking::asked))]
+fn heights_of<L: Ledgers>(
+    alloc: Global,
+    sweep: Measuring<'_>,
+    place: usize,
+    heights: &[Extent],
+    work: &mut Work<L>,
+) -> Result<Extent, AllocError>
+    requires looks { length sweep.looks.now ≡ length sweep.nodes.now }
+    requires nodes { AreNodes sweep.nodes.now }
+    requires children { sweep.children.now ≡ children_lists (parents sweep.nodes.now) }
+    requires place { place < length sweep.nodes.now }
+    ensures lengths { IfOk result (IsHigh (box_at sweep.entry.nodes.now sweep.entry.looks.now place)
+        (seen (box_at sweep.entry.nodes.now sweep.entry.looks.now place).rule sweep.entry.nodes.now
+        sweep.entry.widths.now heights.now (places_at sweep.entry.children.now place))
+        (held_length (span_at sweep.entry.spans.now place).length)) }
+    ensures work { OnOk result (work.new ≡ record work.old { laid = work.old.laid + 1 }) }
+{
+    let node = box_in(alloc, sweep.nodes, sweep.looks, place)?;
+    let places = children_in(sweep.nodes, sweep.children, place);
+    let children = seen(alloc, node.rule, sweep.nodes, sweep.widths, heights, places)?;
+    let width = pixels(span_at(sweep.spans, place).length);
+    let sizes = measure_in(alloc, &node, children.as_slice(), width, work)?;
+    Ok(down_half(sizes))
+}

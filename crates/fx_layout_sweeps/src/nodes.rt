@@ -1,0 +1,85 @@
+//! Nodes as the sweeps look at them.
+ghost use Rattle.std.specs.Prelude.{◌≡◌, ◌≢◌, ◌<◌, All, AllPairs, IfOk, length, map};
+ghost use Rattle.fx_layout_sweeps.specs.Nodes.{AreNodes, box_at, child_at, children_lists, parents, places_at, seen};
+
+use crate::lengths::extent_at;
+use crate::places::Places;
+use fx_base::ChildSize;
+use fx_kinds::BoxFacts;
+use fx_layout_parts::{NodeBox, Rule, box_of, child_of};
+use fx_look::Look;
+use fx_panes_parts::Extent;
+use std::alloc::{AllocError, Global};
+
+/// What the node at this place is laid out by.
+#[tactic(auto, using(crate::proofs::Reading::box_read))]
+pub fn box_in(
+    alloc: Global,
+    nodes: &[BoxFacts],
+    looks: &[Look],
+    place: usize,
+) -> Result<NodeBox, AllocError>
+    requires looks { length looks.now ≡ length nodes.now }
+    requires place { place < length nodes.now }
+    ensures { IfOk result (λ made. made ≡ box_at nodes.now looks.now place) }
+{
+    box_of(alloc, &nodes[place], &looks[place])
+}
+
+/// The places of a node's children.
+#[tactic(auto, using(crate::proofs::Asking::lists_long))]
+pub fn children_in<'a>(nodes: &[BoxFacts], children: &'a [Places], place: usize) -> &'a [usize]
+    requires nodes { AreNodes nodes.now }
+    requires children { children.now ≡ children_lists (parents nodes.now) }
+    requires place { place < length nodes.now }
+    ensures value { result.now ≡ places_at children.now place }
+    ensures below { All (λ j. j < length nodes.now) result.now }
+    ensures apart { AllPairs (λ i j. i ≢ j) result.now }
+{
+    places_in(children, place)
+}
+
+fn places_in(children: &[Places], place: usize) -> &[usize]
+    requires { place < length children.now }
+    ensures { result.now ≡ places_at children.now place }
+{
+    children[place].as_slice()
+}
+
+/// The children at these places, as a pane of this rule sees them.
+pub fn seen(
+    alloc: Global,
+    pane: Rule,
+    nodes: &[BoxFacts],
+    widths: &[Extent],
+    heights: &[Extent],
+    places: &[usize],
+) -> Result<Vec<ChildSize>, AllocError>
+    requires { All (λ j. j < length nodes.now) places.now }
+    ensures { IfOk result (λ children. children.items ≡ seen pane nodes.now widths.now heights.now places.now) }
+{
+    let mut children = Vec::with_capacity(alloc, places.len())?;
+    for place in places {
+        children.push(child_at(pane, nodes, widths, heights, *place))?;
+    }
+    Ok(children)
+}
+
+#[tactic(auto, using(crate::proofs::Reading::child_read))]
+fn child_at(
+    pane: Rule,
+    nodes: &[BoxFacts],
+    widths: &[Extent],
+    heights: &[Extent],
+    place: usize,
+) -> ChildSize
+    requires { place < length nodes.now }
+    ensures { result ≡ child_at pane nodes.now widths.now heights.now place }
+{
+    child_of(
+        pane,
+        &nodes[place],
+        extent_at(widths, place),
+        extent_at(heights, place),
+    )
+}

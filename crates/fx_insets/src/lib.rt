@@ -5,6 +5,3 @@
 mod insets;
 
 pub use insets::{Side, insets_of, layer_at, on};
-
-
-

@@ -2,9 +2,7 @@
 ghost use Rattle.std.specs.Prelude.{◌≡◌};
 ghost use Rattle.fx_layout_parts.specs.Children.{anchor_child, border_child, child_of, grid_child, hbox_child, plain_child, stack_child, vbox_child, with_constraints};
 
-use crate::constraints::{
-    NO_SIDES, choice_of, index_of, number_of, sides_of, span_of, truth_of,
-};
+use crate::constraints::{NO_SIDES, choice_of, index_of, number_of, sides_of, span_of, truth_of};
 use crate::rules::Rule;
 use fx_base::ChildSize;
 use fx_kinds::{BoxFacts, Constraint};

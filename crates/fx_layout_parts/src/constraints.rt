@@ -138,14 +138,22 @@ fn index_within(number: i64) -> u32
     ensures value { result ≡ kept_in 0 255 number }
     ensures most { result ≤ 255 }
 {
-    if number < 0 { 0 } else { (number as u64).min(255) as u32 }
+    if number < 0 {
+        0
+    } else {
+        (number as u64).min(255) as u32
+    }
 }
 
 fn span_within(number: i64) -> u32
     ensures value { result ≡ kept_in 1 64 number }
     ensures most { result ≤ 64 }
 {
-    if number < 0 { 1 } else { (number as u64).min(64).max(1) as u32 }
+    if number < 0 {
+        1
+    } else {
+        (number as u64).min(64).max(1) as u32
+    }
 }
 
 fn first_named<'a>(said: &'a [Constraint], name: &str) -> Option<&'a Constraint>

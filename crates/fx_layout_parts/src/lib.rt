@@ -9,5 +9,7 @@ mod rules;
 
 pub use boxes::box_of;
 pub use children::child_of;
-pub use rules::{NodeBox, Rule, across_half, across_span, down_half, down_span, rule_of};
-pub use rules::{measure, measure_in, place};
+pub use rules::{
+    NodeBox, Rule, across_half, across_span, down_half, down_span, measure, measure_in, place,
+    rule_of,
+};

@@ -19,7 +19,7 @@ use Rattle.fx_layout_sweeps.proofs.Spreads.{AreKnown}
 pub can_be_asked : (nodes : List BoxFacts) (looks : List Look) (p : ℕ) (widths heights : List Extent) → AreNodes nodes
     → p < length nodes
     → CanBeAsked (box_at nodes looks p)
-        (seen (box_at nodes looks p).rule nodes widths heights (places_at (children_lists (parents nodes)) p))
+    (seen (box_at nodes looks p).rule nodes widths heights (places_at (children_lists (parents nodes)) p))
 can_be_asked nodes looks p widths heights are within =
     let ups = parents nodes in
     let node = box_at nodes looks p in

@@ -41,10 +41,12 @@ hung_start ups n = (length-replicate n [], λ p within. get_or-replicate n p [] 
 pub hung_more : (ups : Parents) (n j : ℕ) (parent : Option ℕ) (lists after : List (List ℕ)) → AreHung ups n j lists
     → parent ≡ parent_at ups j → length after ≡ length lists
     → ((p : ℕ) → p < length lists → places_at after p ≡ hung_at lists parent j p) → AreHung ups n (j + 1) after
-hung_more ups n j parent lists after so_far is_parent each hung =
-    (each ∙ so_far.0, λ p within.
-        hung p (subst (λ m. p < m) (sym so_far.0) within)
-        ∙ (ap (λ (o : Option ℕ). hung_at lists o j p) is_parent ∙ child_more ups j p lists (so_far.1 p within)))
+hung_more ups n j parent lists after so_far is_parent each hung = (
+  each ∙ so_far.0,
+  λ p within.
+      hung p (subst (λ m. p < m) (sym so_far.0) within)
+      ∙ (ap (λ (o : Option ℕ). hung_at lists o j p) is_parent ∙ child_more ups j p lists (so_far.1 p within)),
+)
 
 pub hung_all : (ups : Parents) (lists : List (List ℕ)) → AreHung ups (length ups) (length ups) lists
     → lists ≡ children_lists ups
@@ -52,8 +54,8 @@ hung_all ups lists h =
     let n = length ups in
     ext_get_or [] lists (children_lists ups) (h.0 ∙ sym (length-map-range_with_len (children_of ups) 0 n))
     (λ i within.
-        let few : i < n = subst (λ m. i < m) h.0 within in
-        h.1 i few ∙ sym (get_or-map-range_with_len (children_of ups) 0 n i i [] few (omega arith)))
+    let few : i < n = subst (λ m. i < m) h.0 within in
+    h.1 i few ∙ sym (get_or-map-range_with_len (children_of ups) 0 n i i [] few (omega arith)))
 
 pub parent_read : (nodes : List BoxFacts) (j : ℕ) (node : BoxFacts) → j < length nodes
     → (slice_index_or nodes j node).parent ≡ parent_at (parents nodes) j

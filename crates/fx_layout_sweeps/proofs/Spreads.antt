@@ -62,6 +62,7 @@ put_more places found old now i d span inside apart within so_far is_span =
   where
     at : ℕ
     at = slice_index_or places i d
+
     put_at : (k e : ℕ) → k < i + 1 → k < length places → (b : Bool) → (k == i) ≡ b
         → span_at (slice_set now at span) (slice_index_or places k e) ≡ span_at found k
     put_at k e early few true same =
@@ -142,8 +143,8 @@ placed_still : (axis : Axis) (nodes : List BoxFacts) (looks : List Look) (childr
 placed_still axis nodes looks children listed widths heights last kept xs ys q here below was =
     sym (map_same (span_at xs) (span_at ys) nowhere (places_at children q) below)
     ∙ (was ∙ ap (λ (s : Span). fitted (length (places_at children q))
-        (spans_for axis nodes looks children widths heights kept q
-        (listed q || not (nat_eq s.length (last q).length)) s.length)) here)
+    (spans_for axis nodes looks children widths heights kept q
+    (listed q || not (nat_eq s.length (last q).length)) s.length)) here)
 
 -- spans that are put at the children of a node
 put_placed : (spans : List Span) (places : List ℕ) (found old : List Span) → IsPut places found old spans
@@ -153,9 +154,9 @@ put_placed spans places found old is_put =
     ext_get_or nowhere (map (span_at spans) places) (fitted n found)
     (length-map places (span_at spans) ∙ sym (length-map-range_with_len (span_at found) 0 n))
     (λ i within.
-        let few : i < n = subst (λ m. i < m) (length-map places (span_at spans)) within in
-        get_or-map (span_at spans) places i 0 nowhere few
-        ∙ (is_put.put i 0 few ∙ sym (get_or-map-range_with_len (span_at found) 0 n i i nowhere few (zero-add i))))
+    let few : i < n = subst (λ m. i < m) (length-map places (span_at spans)) within in
+    get_or-map (span_at spans) places i 0 nowhere few
+    ∙ (is_put.put i 0 few ∙ sym (get_or-map-range_with_len (span_at found) 0 n i i nowhere few (zero-add i))))
 
 pub spread_more : (axis : Axis) (nodes : List BoxFacts) (looks : List Look) (children : List (List ℕ)) (listed : List Bool)
     (widths heights : List Extent) (last : ℕ → Span) (kept : ℕ → List Span) (start : List Span)
@@ -164,7 +165,7 @@ pub spread_more : (axis : Axis) (nodes : List BoxFacts) (looks : List Look) (chi
     → IsSpread axis nodes looks children listed widths heights last kept start flags spans p
     → worked ≡ is_worked (flag_in flags) last spans p
     → IsPut (places_at children p)
-        (spans_for axis nodes looks children widths heights kept p worked (span_at spans p).length) spans after
+    (spans_for axis nodes looks children widths heights kept p worked (span_at spans p).length) spans after
     → IsSpread axis nodes looks children listed widths heights last kept start (slice_set flags p worked) after (p + 1)
 spread_more axis nodes looks children listed widths heights last kept start flags spans after p worked known within spread is_worked_on is_put =
     record {
@@ -179,25 +180,28 @@ spread_more axis nodes looks children listed widths heights last kept start flag
   where
     still : (q : ℕ) → q ≤ p → span_at after q ≡ span_at spans q
     still q before = is_put.other q (λ k d few same. omega (arith, known.behind p within k d few, same, before))
+
     now_worked : worked ≡ is_worked (flag_in listed) last spans p
     now_worked = is_worked_on ∙ ap (λ b. b || not (nat_eq (span_at spans p).length (last p).length)) (spread.unmarked p (omega arith))
+
     placed_at : (q : ℕ) → q < p + 1 → q < length nodes → (b : Bool) → (p == q) ≡ b
         → IsPlacedAt axis nodes looks children (flag_in listed) widths heights last kept after q
     placed_at q before few true same =
         subst (λ k. IsPlacedAt axis nodes looks children (flag_in listed) widths heights last kept after k) (eqb-true p q same)
         (put_placed after (places_at children p) _ spans is_put
         ∙ (ap (λ b. fitted (length (places_at children p))
-            (spans_for axis nodes looks children widths heights kept p b (span_at spans p).length)) now_worked
+        (spans_for axis nodes looks children widths heights kept p b (span_at spans p).length)) now_worked
         ∙ ap (λ (s : Span). fitted (length (places_at children p))
-            (spans_for axis nodes looks children widths heights kept p
-            (flag_in listed p || not (nat_eq s.length (last p).length)) s.length)) (sym (still p (omega arith)))))
+        (spans_for axis nodes looks children widths heights kept p
+        (flag_in listed p || not (nat_eq s.length (last p).length)) s.length)) (sym (still p (omega arith)))))
     placed_at q before few false differ =
         let less : q < p = lt_of_le_of_ne (omega (arith, before)) (λ same. eqb-false p q differ (sym same)) in
         placed_still axis nodes looks children (flag_in listed) widths heights last kept spans after q
         (sym (still q (omega (arith, before))))
         (λ i d inside. sym (is_put.other (slice_index_or (places_at children q) i d) (λ k e there same.
-            known.apart p q within few (eqb-false p q differ) k i e d there inside same)))
+        known.apart p q within few (eqb-false p q differ) k i e d there inside same)))
         (spread.placed q less few)
+
     marked_at : (q : ℕ) → q < p + 1 → q < length nodes → (b : Bool) → (p == q) ≡ b
         → flag_in (slice_set flags p worked) q ≡ is_worked (flag_in listed) last after q
     marked_at q before few true same =

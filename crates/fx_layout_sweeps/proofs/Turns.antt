@@ -25,8 +25,8 @@ pub map_same : {X : Type 0} (f g : ℕ → X) (d : X) (places : List ℕ) → Al
 map_same f g d places agree =
     ext_get_or d (map f places) (map g places) (length-map places f ∙ sym (length-map places g))
     (λ i within.
-        let few : i < length places = subst (λ n. i < n) (length-map places f) within in
-        get_or-map f places i 0 d few ∙ (agree i 0 few ∙ sym (get_or-map g places i 0 d few)))
+    let few : i < length places = subst (λ n. i < n) (length-map places f) within in
+    get_or-map f places i 0 d few ∙ (agree i 0 few ∙ sym (get_or-map g places i 0 d few)))
 
 -- what a pane sees hangs on the lengths of its children alone
 seen_same : (axis : Axis) (pane : Rule) (nodes : List BoxFacts) (widths xs ys : List Extent) (places : List ℕ) (d : ChildSize)
@@ -38,7 +38,7 @@ seen_same Across pane nodes widths xs ys places d agree =
 seen_same Down pane nodes widths xs ys places d agree =
     map_same (child_at pane nodes widths xs) (child_at pane nodes widths ys) d places
     (λ i e within. ap (λ (x : Extent). child_of pane (node_at nodes (slice_index_or places i e))
-        (extent_at widths (slice_index_or places i e)) x) (agree i e within))
+    (extent_at widths (slice_index_or places i e)) x) (agree i e within))
 
 -- the measuring of a list of nodes has come to a place: those from it on are settled, and those before it are as before
 pub record IsSwept (axis : Axis) (nodes : List BoxFacts) (looks : List Look) (children : List (List ℕ)) (listed : ℕ → Bool)
@@ -72,18 +72,18 @@ settled_still : (axis : Axis) (nodes : List BoxFacts) (looks : List Look) (child
     (spans : List Span) (start : ℕ → Extent) (xs ys : List Extent) (q : ℕ) (d : ChildSize) (b : Bool)
     → extent_at xs q ≡ extent_at ys q → All (λ j. extent_at xs j ≡ extent_at ys j) (places_at children q)
     → MatchBool b
-        (IsMeasured axis (box_at nodes looks q)
-        (seen_along axis (box_at nodes looks q).rule nodes widths xs (places_at children q))
-        (span_at spans q).length (extent_at xs q))
-        (extent_at xs q ≡ start q)
+    (IsMeasured axis (box_at nodes looks q)
+    (seen_along axis (box_at nodes looks q).rule nodes widths xs (places_at children q))
+    (span_at spans q).length (extent_at xs q))
+    (extent_at xs q ≡ start q)
     → MatchBool b
-        (IsMeasured axis (box_at nodes looks q)
-        (seen_along axis (box_at nodes looks q).rule nodes widths ys (places_at children q))
-        (span_at spans q).length (extent_at ys q))
-        (extent_at ys q ≡ start q)
+    (IsMeasured axis (box_at nodes looks q)
+    (seen_along axis (box_at nodes looks q).rule nodes widths ys (places_at children q))
+    (span_at spans q).length (extent_at ys q))
+    (extent_at ys q ≡ start q)
 settled_still axis nodes looks children widths spans start xs ys q d true here below was =
     subst (λ (e : Extent). IsMeasured axis (box_at nodes looks q)
-        (seen_along axis (box_at nodes looks q).rule nodes widths ys (places_at children q)) (span_at spans q).length e) here
+    (seen_along axis (box_at nodes looks q).rule nodes widths ys (places_at children q)) (span_at spans q).length e) here
     (subst (λ (l : List ChildSize). IsMeasured axis (box_at nodes looks q) l (span_at spans q).length (extent_at xs q))
     (seen_same axis (box_at nodes looks q).rule nodes widths xs ys (places_at children q) d below) was)
 settled_still axis nodes looks children widths spans start xs ys q d false here below was = sym here ∙ was
@@ -92,18 +92,18 @@ made_settled : (axis : Axis) (nodes : List BoxFacts) (looks : List Look) (childr
     (spans : List Span) (start : ℕ → Extent) (xs ys : List Extent) (q : ℕ) (made : Extent) (d : ChildSize) (b : Bool)
     → extent_at ys q ≡ made → extent_at xs q ≡ start q → All (λ j. extent_at xs j ≡ extent_at ys j) (places_at children q)
     → MatchBool b
-        (IsMeasured axis (box_at nodes looks q)
-        (seen_along axis (box_at nodes looks q).rule nodes widths xs (places_at children q))
-        (span_at spans q).length made)
-        (made ≡ extent_at xs q)
+    (IsMeasured axis (box_at nodes looks q)
+    (seen_along axis (box_at nodes looks q).rule nodes widths xs (places_at children q))
+    (span_at spans q).length made)
+    (made ≡ extent_at xs q)
     → MatchBool b
-        (IsMeasured axis (box_at nodes looks q)
-        (seen_along axis (box_at nodes looks q).rule nodes widths ys (places_at children q))
-        (span_at spans q).length (extent_at ys q))
-        (extent_at ys q ≡ start q)
+    (IsMeasured axis (box_at nodes looks q)
+    (seen_along axis (box_at nodes looks q).rule nodes widths ys (places_at children q))
+    (span_at spans q).length (extent_at ys q))
+    (extent_at ys q ≡ start q)
 made_settled axis nodes looks children widths spans start xs ys q made d true put kept below was =
     subst (λ (e : Extent). IsMeasured axis (box_at nodes looks q)
-        (seen_along axis (box_at nodes looks q).rule nodes widths ys (places_at children q)) (span_at spans q).length e) (sym put)
+    (seen_along axis (box_at nodes looks q).rule nodes widths ys (places_at children q)) (span_at spans q).length e) (sym put)
     (subst (λ (l : List ChildSize). IsMeasured axis (box_at nodes looks q) l (span_at spans q).length made)
     (seen_same axis (box_at nodes looks q).rule nodes widths xs ys (places_at children q) d below) was)
 made_settled axis nodes looks children widths spans start xs ys q made d false put kept below was = put ∙ (was ∙ kept)
@@ -123,12 +123,15 @@ swept_more axis nodes looks children listed widths spans start lengths p m made 
   where
     after : List Extent
     after = slice_set lengths m made
+
     other : (q : ℕ) → q ≢ m → extent_at after q ≡ extent_at lengths q
     other q differ = get_or-set_other lengths m q made unknown differ
+
     below : (q : ℕ) → m ≤ q → q < length nodes → All (λ j. extent_at lengths j ≡ extent_at after j) (places_at children q)
     below q from few i e inside =
         let late = behind q few i e inside in
         sym (other (slice_index_or (places_at children q) i e) (λ same. omega (arith, late, from, same)))
+
     settle : (q : ℕ) → m ≤ q → q < length nodes → (b : Bool) → (m == q) ≡ b
         → IsSettled axis nodes looks children listed widths spans (extent_at start) after q
     settle q from few true same =

@@ -77,7 +77,7 @@ abbrev pub IsPlacedAt : Axis → List BoxFacts → List Look → List (List ℕ)
 IsPlacedAt axis nodes looks children listed widths heights last kept spans p =
     map (span_at spans) (places_at children p)
     ≡ fitted (length (places_at children p))
-        (spans_for axis nodes looks children widths heights kept p (is_worked listed last spans p) (span_at spans p).length)
+    (spans_for axis nodes looks children widths heights kept p (is_worked listed last spans p) (span_at spans p).length)
 
 -- children placed from the root
 abbrev pub ArePlaced : Axis → List BoxFacts → List Look → List (List ℕ) → (ℕ → Bool) → List Extent → List Extent

@@ -44,7 +44,8 @@ pub fn measure_nodes<L: Ledgers>(
         sweep.entry.children.now (flag_in sweep.entry.listed.now) sweep.entry.widths.now sweep.entry.spans.now
         (extent_at lengths.old.items) lengths.new.items) }
     ensures work { OnOk result (work.new ≡ record work.old {
-        laid = work.old.laid + tally (flag_in sweep.entry.listed.now) (length sweep.entry.nodes.now) }) }
+      laid = work.old.laid + tally (flag_in sweep.entry.listed.now) (length sweep.entry.nodes.now);
+    }) }
 {
     for place in (0..sweep.nodes.len()).rev() {
         lengths[place] = lengths_of(alloc, sweep, place, lengths.as_slice(), work)?;
@@ -71,7 +72,8 @@ fn lengths_of<L: Ledgers>(
         (span_at sweep.entry.spans.now place).length made)
         (made ≡ extent_at lengths.now place)) }
     ensures work { OnOk result (work.new ≡ record work.old {
-        laid = work.old.laid + cond (flag_in sweep.entry.listed.now place) 1 0 }) }
+      laid = work.old.laid + cond (flag_in sweep.entry.listed.now place) 1 0;
+    }) }
 {
     if flag_at(sweep.listed, place) {
         measured(alloc, sweep, place, lengths, work)

@@ -53,9 +53,10 @@ pub fn place_nodes<L: Ledgers>(
         (kept_in sweep.entry.olds.now sweep.entry.old_children.now sweep.entry.old_spans.now) spans.new.items) }
     ensures marks { OnOk result ((p : ℕ) → p < length sweep.entry.nodes.now → flag_in flags.new.items p
         ≡ is_worked (flag_in flags.old.items) (last_in sweep.entry.olds.now sweep.entry.old_spans.now)
-            spans.new.items p) }
+        spans.new.items p) }
     ensures work { OnOk result (work.new ≡ record work.old {
-        laid = work.old.laid + tally (flag_in flags.new.items) (length sweep.entry.nodes.now) }) }
+      laid = work.old.laid + tally (flag_in flags.new.items) (length sweep.entry.nodes.now);
+    }) }
 {
     for at in 0..sweep.nodes.len() {
         let worked = is_worked(sweep, flags.as_slice(), spans.as_slice(), at);
@@ -85,7 +86,14 @@ fn rects_across<L: Ledgers>(
 {
     let node = box_in(alloc, sweep.nodes, sweep.looks, at)?;
     let places = children_in(sweep.nodes, sweep.children, at);
-    let children = seen(alloc, node.rule, sweep.nodes, sweep.widths, sweep.heights, places)?;
+    let children = seen(
+        alloc,
+        node.rule,
+        sweep.nodes,
+        sweep.widths,
+        sweep.heights,
+        places,
+    )?;
     place(alloc, &node, children.as_slice(), pixels(width), 0, work)
 }
 
@@ -108,7 +116,14 @@ fn rects_down<L: Ledgers>(
 {
     let node = box_in(alloc, sweep.nodes, sweep.looks, at)?;
     let places = children_in(sweep.nodes, sweep.children, at);
-    let children = seen(alloc, node.rule, sweep.nodes, sweep.widths, sweep.heights, places)?;
+    let children = seen(
+        alloc,
+        node.rule,
+        sweep.nodes,
+        sweep.widths,
+        sweep.heights,
+        places,
+    )?;
     place(alloc, &node, children.as_slice(), 0, pixels(height), work)
 }
 
@@ -126,8 +141,8 @@ fn rects_of<L: Ledgers>(
     requires place { at < length sweep.nodes.now }
     ensures rects { IfOk result (λ rects. map (half sweep.entry.axis) rects.items
         ≡ spans_along sweep.entry.axis (box_at sweep.entry.nodes.now sweep.entry.looks.now at)
-            (seen (box_at sweep.entry.nodes.now sweep.entry.looks.now at).rule sweep.entry.nodes.now
-            sweep.entry.widths.now sweep.entry.heights.now (places_at sweep.entry.children.now at)) room) }
+        (seen (box_at sweep.entry.nodes.now sweep.entry.looks.now at).rule sweep.entry.nodes.now
+        sweep.entry.widths.now sweep.entry.heights.now (places_at sweep.entry.children.now at)) room) }
     ensures work { OnOk result (work.new ≡ record work.old { laid = work.old.laid + 1 }) }
 {
     match sweep.axis {
@@ -215,8 +230,7 @@ fn is_worked(sweep: Placing<'_>, flags: &[bool], spans: &[Span], at: usize) -> b
     ensures { result ≡ is_worked (flag_in flags.now) (last_in sweep.entry.olds.now sweep.entry.old_spans.now) spans.now at }
 {
     flag_at(flags, at)
-        || span_at(spans, at).length
-            != span_at(sweep.old_spans, old_at(sweep.olds, at)).length
+        || span_at(spans, at).length != span_at(sweep.old_spans, old_at(sweep.olds, at)).length
 }
 
 /// Places the children of one node.

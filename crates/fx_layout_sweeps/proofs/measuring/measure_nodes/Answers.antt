@@ -19,16 +19,17 @@ loop-place-preserved g c =
     let within : m < length sweep.nodes.now = omega (arith, c.loop-place.auto.place, c.loop-place-test.true) in
     let next : m + 1 ≡ c.loop-place.place = omega (arith, c.loop-place-test.true) in
     let step = c.in_ok-lengths.ensures.work in
-    let same = c.loop-place.invariant.1 in
-    (swept_more sweep.axis sweep.nodes.now sweep.looks.now sweep.children.now listed sweep.widths.now
-    sweep.spans.now c.args.lengths.now.items c.loop-place.lengths.items c.loop-place.place m c.in_ok-lengths.field-0
-    (child_at rule.Region sweep.nodes.now [] [] 0)
-    (lists_behind sweep.nodes.now sweep.children.now c.requires.nodes c.requires.children) next within
-    c.loop-place.invariant.0
-    (subst (λ (l : List Extent). IsMade sweep.axis sweep.nodes.now sweep.looks.now sweep.children.now listed sweep.widths.now
-        sweep.spans.now l m c.in_ok-lengths.field-0) c.as_slice.ensures.value c.in_ok-lengths.ensures.lengths),
-    rw (step, ap (λ w. w.evaluated) same, ap (λ w. w.styled) same, ap (λ w. w.painted) same) refl,
-    omega (arith, ap (λ w. w.laid) step, tally_more listed m, ap (tally listed) next, c.loop-place.invariant.2))
+    let same = c.loop-place.invariant.1 in (
+      swept_more sweep.axis sweep.nodes.now sweep.looks.now sweep.children.now listed sweep.widths.now
+          sweep.spans.now c.args.lengths.now.items c.loop-place.lengths.items c.loop-place.place m c.in_ok-lengths.field-0
+          (child_at rule.Region sweep.nodes.now [] [] 0)
+          (lists_behind sweep.nodes.now sweep.children.now c.requires.nodes c.requires.children) next within
+          c.loop-place.invariant.0
+          (subst (λ (l : List Extent). IsMade sweep.axis sweep.nodes.now sweep.looks.now sweep.children.now listed sweep.widths.now
+          sweep.spans.now l m c.in_ok-lengths.field-0) c.as_slice.ensures.value c.in_ok-lengths.ensures.lengths),
+      rw (step, ap (λ w. w.evaluated) same, ap (λ w. w.styled) same, ap (λ w. w.painted) same) refl,
+      omega (arith, ap (λ w. w.laid) step, tally_more listed m, ap (tally listed) next, c.loop-place.invariant.2),
+    )
 
 pub returns-clause-lengths : goal.returns-clause-lengths
 returns-clause-lengths g c = λ p within.

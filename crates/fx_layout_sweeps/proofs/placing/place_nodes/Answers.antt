@@ -8,11 +8,12 @@ use Rattle.fx_layout_sweeps.proofs.placing.place_nodes.Goals as goal
 
 pub loop-at-init : goal.loop-at-init
 loop-at-init g c =
-    let sweep = c.args.sweep in
-    (spread_start sweep.axis sweep.nodes.now sweep.looks.now sweep.children.now c.args.flags.now.items sweep.widths.now
-    sweep.heights.now (last_in sweep.olds.now sweep.old_spans.now)
-    (kept_in sweep.olds.now sweep.old_children.now sweep.old_spans.now) c.args.spans.now.items c.requires.spans c.requires.flags,
-    rw (add-zero c.args.work.now.laid) refl)
+    let sweep = c.args.sweep in (
+      spread_start sweep.axis sweep.nodes.now sweep.looks.now sweep.children.now c.args.flags.now.items sweep.widths.now
+          sweep.heights.now (last_in sweep.olds.now sweep.old_spans.now)
+          (kept_in sweep.olds.now sweep.old_children.now sweep.old_spans.now) c.args.spans.now.items c.requires.spans c.requires.flags,
+      rw (add-zero c.args.work.now.laid) refl,
+    )
 
 pub loop-at-preserved : goal.loop-at-preserved
 loop-at-preserved g c =
@@ -32,14 +33,15 @@ loop-at-preserved g c =
     let ticked : ℕ = cond worked 1 0 in
     let here : marked ≡ ticked = ap {B = ℕ} (λ (b : Bool). cond b 1 0) (get_or-set_same flags p worked false few) in
     let total : c.loop-at.work.laid + cond worked 1 0 ≡ c.args.work.now.laid + tally (flag_in after) (p + 1) =
-    omega (arith, ap (λ w. w.laid) same, unchanged, tally_more (flag_in after) p, here) in
-    (spread_more sweep.axis sweep.nodes.now sweep.looks.now sweep.children.now c.args.flags.now.items sweep.widths.now
-    sweep.heights.now (last_in sweep.olds.now sweep.old_spans.now)
-    (kept_in sweep.olds.now sweep.old_children.now sweep.old_spans.now) c.args.spans.now.items flags c.loop-at.spans.items
-    c.place_children.new.spans.items p worked
-    (are_known sweep.nodes.now sweep.children.now c.requires.nodes c.requires.children) c.loop-at-test.true
-    c.loop-at.invariant.0 told c.in_ok-place_children.ensures.put,
-    rw (step, ap (λ w. w.evaluated) same, ap (λ w. w.styled) same, ap (λ w. w.painted) same, total) refl)
+    omega (arith, ap (λ w. w.laid) same, unchanged, tally_more (flag_in after) p, here) in (
+      spread_more sweep.axis sweep.nodes.now sweep.looks.now sweep.children.now c.args.flags.now.items sweep.widths.now
+          sweep.heights.now (last_in sweep.olds.now sweep.old_spans.now)
+          (kept_in sweep.olds.now sweep.old_children.now sweep.old_spans.now) c.args.spans.now.items flags c.loop-at.spans.items
+          c.place_children.new.spans.items p worked
+          (are_known sweep.nodes.now sweep.children.now c.requires.nodes c.requires.children) c.loop-at-test.true
+          c.loop-at.invariant.0 told c.in_ok-place_children.ensures.put,
+      rw (step, ap (λ w. w.evaluated) same, ap (λ w. w.styled) same, ap (λ w. w.painted) same, total) refl,
+    )
 
 pub returns-clause-placed : goal.returns-clause-placed
 returns-clause-placed g c = λ p within.

@@ -1,0 +1,5 @@
+pub mod RankKeys
+pub mod Ranks
+pub mod Sources
+pub mod Tables
+pub mod Winners

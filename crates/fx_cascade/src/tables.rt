@@ -1,0 +1,213 @@
+//! The winners of all properties of a node, in one pass over the declarations of the rules that match it.
+ghost use Rattle.std.specs.Prelude.{◌≡◌, ◌<◌, ◌≤◌, ◌+◌, ℕ, List, Option as Maybe, Some, None, All, IfOk, OnOk, length, map, slice_get, slice_index_or, slice_set};
+ghost use Rattle.std.specs.Option.{option_map};
+ghost use Rattle.fx_look.specs.StyleRows.{style_named};
+ghost use Rattle.fx_css_types.specs.Limits.{AreWithinLimits, IsKeptDeclaration, row_of};
+ghost use Rattle.fx_cascade.specs.Sources.{best_source, code_voice, declarations_of, declared_voices, row_name, rule_at, rule_voices, voice};
+ghost use Rattle.fx_cascade.specs.Winners.{hear, heard};
+ghost use Rattle.fx_cascade.specs.Tables.{AreRows, IsRaised, source_of};
+
+use crate::one_property::declarations_at;
+use crate::others::{NamedSource, place_of, under};
+use crate::ranks::{greater, greater_of};
+use crate::sources::Source;
+use fx_base::{Ledgers, Text, Work};
+use fx_css_types::{Candidate, Declaration, SheetAt};
+use fx_look::{CodeValue, StyleName};
+use std::alloc::{AllocError, Global};
+use std::marker::Model;
+
+/// What wins each property of a node: of the rows of the style table by row, of other names by name. Contracts ask it
+/// for a name.
+#[derive(Drop)]
+pub struct Winners {
+    rows: [Option<Source>; 22],
+    others: Vec<NamedSource>,
+}
+
+impl Model for Winners {
+    ghost use Rattle.fx_cascade.specs.Tables.{Table};
+
+    ghost Value = { Table };
+
+    ghost view = { λ w. record { rows = w.rows; others = w.others.items } };
+}
+
+/// The winners of a node among the code values and the declarations of the rules that match it. Counts one styled node.
+/// Takes memory only for names that are no rows of the style table.
+pub fn style_node<L: Ledgers>(
+    alloc: Global,
+    sheets: &[SheetAt],
+    matched: &[Candidate],
+    codes: &[CodeValue],
+    work: &mut Work<L>,
+) -> Result<Winners, AllocError>
+    requires rows { AreRows codes.now }
+    requires sheets { AreWithinLimits sheets.now }
+    ensures winners { IfOk result (λ winners. (name : List ℕ)
+        → source_of winners name ≡ best_source sheets.now matched.now codes.now name) }
+    ensures cost { work.new ≡ record work.old { styled = work.old.styled + 1 } }
+{
+    work.styled.tick();
+    cascade(alloc, sheets, matched, codes)
+}
+
+fn cascade(
+    alloc: Global,
+    sheets: &[SheetAt],
+    matched: &[Candidate],
+    codes: &[CodeValue],
+) -> Result<Winners, AllocError>
+    requires rows { AreRows codes.now }
+    requires sheets { AreWithinLimits sheets.now }
+    ensures { IfOk result (λ winners. (name : List ℕ)
+        → source_of winners name ≡ best_source sheets.now matched.now codes.now name) }
+{
+    let mut winners = Winners::new(alloc);
+    winners.hear_codes(matched, codes);
+    winners.hear_matched(alloc, sheets, matched)?;
+    Ok(winners)
+}
+
+impl Winners {
+    fn new(alloc: Global) -> Winners
+        ensures { (name : List ℕ) → source_of result name ≡ None }
+    {
+        Winners {
+            rows: [None; 22],
+            others: Vec::new(alloc),
+        }
+    }
+
+    /// What wins the row of the style table at this place.
+    pub fn row(&self, row: usize) -> Option<Source>
+        requires { row < 22 }
+        ensures { (name : List ℕ) → style_named name ≡ Some row → result ≡ source_of self.now name }
+    {
+        self.rows[row]
+    }
+
+    /// What wins for a name that is no row of the style table.
+    pub fn other(&self, name: &Text) -> Option<Source>
+        requires { style_named name.now ≡ None }
+        ensures { result ≡ source_of self.now name.now }
+    {
+        let said = name.as_str();
+        under(self.others.as_slice(), said)
+    }
+
+    fn hear_row(&mut self, matched: &[Candidate], row: usize, source: Source)
+        requires { row < 22 }
+        ensures { (said name : List ℕ) → style_named said ≡ Some row
+            → source_of self.new name ≡ hear matched.now name (source_of self.old name) (voice said source) }
+    {
+        self.rows[row] = greater(matched, self.rows[row], source);
+    }
+
+    fn hear_other(
+        &mut self,
+        alloc: Global,
+        matched: &[Candidate],
+        name: &Text,
+        source: Source,
+    ) -> Result<(), AllocError>
+        requires { style_named name.now ≡ None }
+        ensures { OnOk result ((other : List ℕ)
+            → source_of self.new other ≡ hear matched.now other (source_of self.old other) (voice name.now source)) }
+    {
+        let said = name.as_str();
+        match place_of(self.others.as_slice(), said) {
+            Some(place) => {
+                raise(matched, self.others.as_mut_slice(), place, source);
+                Ok(())
+            }
+            None => {
+                let name = name.copy(alloc)?;
+                self.others.push(NamedSource { name, source })?;
+                Ok(())
+            }
+        }
+    }
+}
+
+/// The greater of what stands at the place and this one.
+fn raise(matched: &[Candidate], others: &mut [NamedSource], place: usize, source: Source)
+    requires { place < length others.old }
+    ensures { IsRaised matched.now others.old others.new place source }
+{
+    let other = &mut others[place];
+    other.source = greater_of(matched, other.source, source);
+}
+
+impl Winners {
+    fn hear_named(
+        &mut self,
+        alloc: Global,
+        matched: &[Candidate],
+        declaration: &Declaration,
+        source: Source,
+    ) -> Result<(), AllocError>
+        requires { declaration.now.row ≡ row_of declaration.now.name }
+        ensures { OnOk result ((other : List ℕ) → source_of self.new other
+            ≡ hear matched.now other (source_of self.old other) (voice declaration.now.name source)) }
+    {
+        match declaration.row {
+            Some(row) => {
+                self.hear_row(matched, row.0 as usize, source);
+                Ok(())
+            }
+            None => self.hear_other(alloc, matched, &declaration.name, source),
+        }
+    }
+
+    fn hear_code(&mut self, matched: &[Candidate], code: &CodeValue)
+        requires { code.now.style.0 < 22 }
+        ensures { (name : List ℕ)
+            → source_of self.new name ≡ hear matched.now name (source_of self.old name) (code_voice code.now) }
+    {
+        self.hear_row(matched, code.style.0 as usize, Source::Code(code.bound));
+    }
+
+    fn hear_codes(&mut self, matched: &[Candidate], codes: &[CodeValue])
+        requires { AreRows codes.now }
+        ensures { (name : List ℕ) → source_of self.new name
+            ≡ heard matched.now name (source_of self.old name) (map code_voice codes.now) }
+    {
+        for code in codes {
+            self.hear_code(matched, code);
+        }
+    }
+
+    fn hear_rule(
+        &mut self,
+        alloc: Global,
+        declarations: &[Declaration],
+        matched: &[Candidate],
+        at: usize,
+    ) -> Result<(), AllocError>
+        requires { All IsKeptDeclaration declarations.now }
+        ensures { OnOk result ((name : List ℕ) → source_of self.new name
+            ≡ heard matched.now name (source_of self.old name) (rule_voices at 0 declarations.now)) }
+    {
+        for (place, declaration) in declarations.iter().enumerate() {
+            self.hear_named(alloc, matched, declaration, Source::Declared(at, place))?;
+        }
+        Ok(())
+    }
+
+    fn hear_matched(
+        &mut self,
+        alloc: Global,
+        sheets: &[SheetAt],
+        matched: &[Candidate],
+    ) -> Result<(), AllocError>
+        requires { AreWithinLimits sheets.now }
+        ensures { OnOk result ((name : List ℕ) → source_of self.new name
+            ≡ heard matched.now name (source_of self.old name) (declared_voices sheets.now 0 matched.now)) }
+    {
+        for (at, candidate) in matched.iter().enumerate() {
+            self.hear_rule(alloc, declarations_at(sheets, candidate), matched, at)?;
+        }
+        Ok(())
+    }
+}

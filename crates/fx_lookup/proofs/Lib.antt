@@ -1,0 +1,2 @@
+pub mod ResolvingLemmas
+pub mod LawLemmas

@@ -22,7 +22,7 @@ sound (suc most) chain visited name color e = elim (cases_Bool (has_name visited
     by_paint : (p : Option Paint) → nearest chain name ≡ p → has_name visited name ≡ false
         → along p (resolved_in most chain (visited ++ name ∷ [])) ≡ Some color
         → ((next : List ℕ) → resolved_in most chain (visited ++ name ∷ []) next ≡ Some color
-            → LeadsTo chain (visited ++ name ∷ []) next color)
+        → LeadsTo chain (visited ++ name ∷ []) next color)
         → LeadsTo chain visited name color
     by_paint None is fresh e further = absurd (cc)
     by_paint (Some (Color found)) is fresh e further =
@@ -66,5 +66,6 @@ found-leads chain name (Some color) e = resolved_leads chain name color (sym e)
 
 pub none-leads : (chain : List (List NamedPaint)) (name : List ℕ) (o : Option Rgba) → o ≡ resolved chain name
     → IfNone o ((color : Rgba) → LeadsTo chain [] name color → ⊥)
-none-leads chain name None e = λ color leads. let h : None ≡ Some color = e ∙ leads_resolved chain name color leads in cc
+none-leads chain name None e = λ color leads. let h : None ≡ Some color = e
+    ∙ leads_resolved chain name color leads in cc
 none-leads chain name (Some color) e = tt

@@ -1,0 +1,6 @@
+pub mod Keeping
+pub mod Kinds
+pub mod Looking
+pub mod Rows
+pub mod Styling
+pub mod Values

@@ -1,0 +1,151 @@
+//! What a row of a look is by the value that wins it, by the kind of the row.
+ghost use Rattle.std.specs.Prelude.{◌≡◌, ℕ, ℤ, Bool, Some, IfOk};
+ghost use Rattle.fx_base.specs.declared.geometry.Sides.{Sides as Insets};
+ghost use Rattle.fx_css_types.specs.declared.declarations.FoundValue.TheVariants as found;
+ghost use Rattle.std.specs.Option.{option_map};
+ghost use Rattle.fx_node_style.specs.Kinds.{length_in, truth_in, sides_in, layers_in, place_in};
+ghost use Rattle.fx_node_style.specs.Values.{found_value};
+
+use crate::values::Winning;
+use fx_base::{List, Sides, Value};
+use fx_css_types::Declared;
+use std::alloc::{AllocError, Global};
+
+/// A size: the one that wins, the parent's under `inherit`, else the initial one.
+pub fn length_in(found: Option<Winning>, unset: i64, parent: i64) -> i64
+    ensures { result ≡ length_in (option_map found_value found.entry) unset parent }
+{
+    match found {
+        None => unset,
+        Some(Winning::Code(value)) => length_of(value, unset),
+        Some(Winning::Declared(declared)) => declared_length(declared, unset, parent),
+    }
+}
+
+fn declared_length(declared: &Declared, unset: i64, parent: i64) -> i64
+    ensures { result ≡ length_in (Some (found.Declared declared.now)) unset parent }
+{
+    match declared {
+        Declared::Plain(value) => length_of(value, unset),
+        Declared::Inherit => parent,
+        _ => unset,
+    }
+}
+
+fn length_of(value: &Value, unset: i64) -> i64
+    ensures { (parent : ℤ) → result ≡ length_in (Some (found.Code value.now)) unset parent }
+{
+    match value {
+        Value::Int(v) => *v,
+        _ => unset,
+    }
+}
+
+pub fn truth_in(found: Option<Winning>, unset: bool, parent: bool) -> bool
+    ensures { result ≡ truth_in (option_map found_value found.entry) unset parent }
+{
+    match found {
+        None => unset,
+        Some(Winning::Code(value)) => truth_of(value, unset),
+        Some(Winning::Declared(declared)) => declared_truth(declared, unset, parent),
+    }
+}
+
+fn declared_truth(declared: &Declared, unset: bool, parent: bool) -> bool
+    ensures { result ≡ truth_in (Some (found.Declared declared.now)) unset parent }
+{
+    match declared {
+        Declared::Plain(value) => truth_of(value, unset),
+        Declared::Inherit => parent,
+        _ => unset,
+    }
+}
+
+fn truth_of(value: &Value, unset: bool) -> bool
+    ensures { (parent : Bool) → result ≡ truth_in (Some (found.Code value.now)) unset parent }
+{
+    match value {
+        Value::Bool(v) => *v,
+        _ => unset,
+    }
+}
+
+pub fn sides_in(found: Option<Winning>, unset: Sides, parent: Sides) -> Sides
+    ensures { result ≡ sides_in (option_map found_value found.entry) unset parent }
+{
+    match found {
+        None => unset,
+        Some(Winning::Code(value)) => sides_of(value, unset),
+        Some(Winning::Declared(declared)) => declared_sides(declared, unset, parent),
+    }
+}
+
+fn declared_sides(declared: &Declared, unset: Sides, parent: Sides) -> Sides
+    ensures { result ≡ sides_in (Some (found.Declared declared.now)) unset parent }
+{
+    match declared {
+        Declared::Plain(value) => sides_of(value, unset),
+        Declared::Inherit => parent,
+        _ => unset,
+    }
+}
+
+fn sides_of(value: &Value, unset: Sides) -> Sides
+    ensures { (parent : Insets) → result ≡ sides_in (Some (found.Code value.now)) unset parent }
+{
+    match value {
+        Value::Sides(v) => *v,
+        _ => unset,
+    }
+}
+
+pub fn layers_in(
+    alloc: Global,
+    found: Option<Winning>,
+    unset: Sides,
+    parent: &List<Sides>,
+) -> Result<List<Sides>, AllocError>
+    ensures { IfOk result (λ layers. layers ≡ layers_in (option_map found_value found.entry) unset parent.now) }
+{
+    match found {
+        Some(Winning::Declared(Declared::SidesList(layers))) => copied(alloc, layers),
+        Some(Winning::Declared(Declared::Inherit)) => copied(alloc, parent),
+        _ => Ok(List::from_vec(Vec::from_slice(alloc, &[unset])?)),
+    }
+}
+
+fn copied(alloc: Global, layers: &List<Sides>) -> Result<List<Sides>, AllocError>
+    ensures { IfOk result (λ copy. copy ≡ layers.now) }
+{
+    Ok(List::from_vec(Vec::from_slice(alloc, layers.as_slice())?))
+}
+
+/// The place of a constant.
+pub fn place_in(found: Option<Winning>, unset: u8, parent: u8) -> u8
+    ensures { result ≡ place_in (option_map found_value found.entry) unset parent }
+{
+    match found {
+        None => unset,
+        Some(Winning::Code(value)) => place_of(value, unset),
+        Some(Winning::Declared(declared)) => declared_place(declared, unset, parent),
+    }
+}
+
+fn declared_place(declared: &Declared, unset: u8, parent: u8) -> u8
+    ensures { result ≡ place_in (Some (found.Declared declared.now)) unset parent }
+{
+    match declared {
+        Declared::Plain(value) => place_of(value, unset),
+        Declared::Inherit => parent,
+        _ => unset,
+    }
+}
+
+fn place_of(value: &Value, unset: u8) -> u8
+    ensures { (parent : ℕ) → result ≡ place_in (Some (found.Code value.now)) unset parent }
+{
+    match value {
+        Value::Choice(_, place) => *place,
+        _ => unset,
+    }
+}

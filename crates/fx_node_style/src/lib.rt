@@ -1,0 +1,17 @@
+//! The style of one node: its look, and the paints that are looked up on it, from the rules that match it, its code
+//! values and the styles of its ancestors. Styles of whole scenes are made of it.
+#![tactic(auto)]
+
+mod keeping;
+mod kinds;
+mod laws;
+mod looking;
+mod node_styles;
+mod paints;
+mod styling;
+mod values;
+
+pub use laws::rows_are_named;
+pub use node_styles::NodeStyle;
+pub use styling::{Ground, style_by};
+pub use values::Winning;

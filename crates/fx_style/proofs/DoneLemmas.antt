@@ -1,0 +1,56 @@
+-- An update is done once the entries that it made stand in their places.
+use Rattle.std.proofs.Common.{◌≡◌, ◌<◌, ℕ, false, List, Option, Some, None, Result, Ok, Err, map, length, refl, sym, ◌∙◌, ap, subst}
+use Rattle.std.specs.Prelude.{slice_get, OnOk}
+use Rattle.std.specs.Option.{option_map}
+use Rattle.std.proofs.lemmas.Option.{slice_get_within}
+use Rattle.fx_base.specs.declared.keys.NodeKey.{NodeKey}
+use Rattle.fx_look.specs.declared.looks.Look.{Look}
+use Rattle.fx_css_types.specs.declared.sheets.SheetAt.{SheetAt}
+use Rattle.fx_kinds.specs.declared.facts.StyleFacts.{StyleFacts}
+use Rattle.fx_node_style.specs.declared.node_styles.NodeStyle.{NodeStyle}
+use Rattle.fx_style.specs.declared.kept.Entry.{Entry}
+use Rattle.fx_style.specs.declared.kept.Fresh.{Fresh}
+use Rattle.fx_style.specs.declared.kept.Rest.{Rest}
+use Rattle.fx_style.specs.Kept.{Kept, entry, fresh_at, is_among, planned_at}
+use Rattle.fx_style.specs.Rules.{IsUpdate, KeepsOthers, kept_of, updated_style}
+use Rattle.fx_style.specs.Turns.{ArePut, AreRightBelow, HaveKeysOf}
+use Rattle.fx_style.proofs.FreshLemmas.{not_among}
+
+pub ok_both : {X Y P Q R : Type 0} (r : Result X Y) → (P → Q → R) → OnOk r P → OnOk r Q → OnOk r R
+ok_both (Ok x) f p q = f p q
+ok_both (Err e) f p q = tt
+
+pub ok_then : {X Y P Q : Type 0} (r : Result X Y) → (P → Q) → OnOk r P → OnOk r Q
+ok_then (Ok x) f p = f p
+ok_then (Err e) f p = tt
+
+has_key : (key : NodeKey) (o : Option NodeStyle) (e : Entry) → option_map (entry key) o ≡ Some e → e.key ≡ key
+has_key key None e is = absurd (cc)
+has_key key (Some style) e is = let h : entry key style ≡ e = cc in ap (λ (x : Entry). x.key) (sym h)
+
+pub right_keys : (sheets : List SheetAt) (facts : List StyleFacts) (restyle : List ℕ) (kept : ℕ → Option NodeStyle)
+    (looks : List Look) (rest : List Rest) (fresh : List Fresh)
+    → AreRightBelow sheets facts restyle kept looks rest fresh (length facts) → HaveKeysOf facts looks rest fresh
+right_keys sheets facts restyle kept looks rest fresh right = record {
+  each = λ at node e is planned.
+      has_key node.key (updated_style sheets facts restyle kept at) e
+      (sym (right.each at node (slice_get_within facts at node is) is) ∙ planned);
+}
+
+pub update_done : (sheets : List SheetAt) (facts : List StyleFacts) (restyle : List ℕ) (old new : Kept)
+    (fresh : List Fresh)
+    → AreRightBelow sheets facts restyle (kept_of old facts) old.looks old.rest fresh (length facts)
+    → ArePut old new fresh (length facts) → IsUpdate sheets facts restyle old new
+update_done sheets facts restyle old new fresh right put = record {
+  looks = put.looks;
+  rest = put.rest;
+  each = λ at node is.
+      let within = slice_get_within facts at node is in
+      put.each at within ∙ right.each at node within is;
+}
+
+pub others_done : (old new : Kept) (fresh : List Fresh) (count : ℕ) → ArePut old new fresh count
+    → new.changed ≡ map (λ (f : Fresh). f.at) fresh → KeepsOthers old new
+others_done old new fresh count put changed at within off =
+    put.others at (subst (λ (n : ℕ). at < n) put.looks within)
+    (not_among fresh at (sym (ap (λ (l : List ℕ). is_among l at) changed) ∙ off))

@@ -1,0 +1,10 @@
+pub mod PlaceLemmas
+pub mod AboveLemmas
+pub mod KeyLemmas
+pub mod FreshLemmas
+pub mod PutLemmas
+pub mod UpdateLemmas
+pub mod TurnLemmas
+pub mod DoneLemmas
+pub mod CostLemmas
+pub mod ChainLaws

@@ -1,0 +1,39 @@
+use Rattle.std.proofs.Common.{◌≡◌, ◌++◌, ◌<◌, ◌≤◌, ℕ, List, Option, length, map, sym, ◌∙◌, ap, subst, arith}
+use Rattle.std.specs.Prelude.{option_to_list}
+use Rattle.std.specs.List.{filter_map}
+use Rattle.fx_node_style.specs.declared.node_styles.NodeStyle.{NodeStyle}
+use Rattle.fx_style.specs.Places.{places_up}
+use Rattle.fx_style.specs.Plans.{plan_style, seen_style}
+use Rattle.fx_style.proofs.AboveLemmas.{climbs, climbed, smaller, there_next}
+use Rattle.fx_style.proofs.above.styles_up.Goals as goal
+
+pub loop-place-smaller : goal.loop-place-smaller
+loop-place-smaller c =
+    smaller c.args.facts.now c.requires.before c.loop-place.place c.parent_at-place.result c.in-Some.at c.in-Some.is
+    c.parent_at-place.ensures
+
+pub loop-place-preserved : goal.loop-place-preserved
+loop-place-preserved c =
+    let facts = c.args.facts.now in
+    let now = plan_style c.args.plan in
+    let at = c.in-Some.at in
+    let low : at < length c.args.plan.steps.now = c.loop-place.invariant.there at c.in-Some.is in
+    let few : length c.args.plan.steps.now ≤ length facts = c.requires.few in
+    let old = map seen_style c.loop-place.styles.items in
+    record {
+      there = there_next facts c.requires.before c.loop-place.place c.parent_at-place.result at
+          (length c.args.plan.steps.now) c.in-Some.is c.parent_at-place.ensures c.loop-place.invariant.there;
+      so_far =
+          ap (λ p. map seen_style c.push_seen.new.styles.items ++ filter_map now (places_up facts p))
+          c.parent_at-place.ensures
+          ∙ climbs now facts c.requires.before at c.loop-place.place old
+          (map seen_style c.push_seen.new.styles.items) _ (omega (arith, low, few)) c.in-Some.is
+          (c.in_ok-push_seen.ensures
+          ∙ ap (λ (o : Option NodeStyle). old ++ option_to_list o) c.planned.ensures)
+          c.loop-place.invariant.so_far;
+    }
+
+pub returns : goal.returns
+returns c =
+    climbed (plan_style c.args.plan) c.args.facts.now c.loop-place.place (map seen_style c.loop-place.styles.items) _
+    c.in_default.is c.loop-place.invariant.so_far

@@ -1,0 +1,6 @@
+pub mod Kept
+pub mod Places
+pub mod Plans
+pub mod Rules
+pub mod Styled
+pub mod Turns

@@ -1,0 +1,61 @@
+//! What is kept of a node, and where.
+ghost use Rattle.std.specs.Prelude.{◌≡◌, slice_get};
+ghost use Rattle.std.specs.List.{position};
+ghost use Rattle.std.specs.Option.{option_copied};
+ghost use Rattle.fx_style.specs.Kept.{HaveDifferentKeys, is_key, place_of_key};
+
+use fx_base::{List, NodeKey};
+use fx_lookup::NamedPaint;
+use fx_node_style::NodeStyle;
+
+/// What is kept of a node beside its look.
+#[derive(Drop)]
+pub struct Rest {
+    pub key: NodeKey,
+    pub paints: List<NamedPaint>,
+}
+
+/// The style of a node under its key.
+#[derive(Drop)]
+pub struct Entry {
+    pub key: NodeKey,
+    pub style: NodeStyle,
+}
+
+/// An entry that an update made, for the node of this place.
+#[derive(Drop)]
+pub struct Fresh {
+    pub at: usize,
+    pub entry: Entry,
+}
+
+pub(crate) fn is_key(one: NodeKey, other: NodeKey) -> bool
+    ensures { result ≡ is_key one other }
+{
+    one.slot == other.slot && one.birth == other.birth
+}
+
+/// Where the key stands, looked for first where it mostly is.
+pub(crate) fn place_of_key(rest: &[Rest], key: NodeKey, guess: usize) -> Option<usize>
+    requires { HaveDifferentKeys rest.now }
+    ensures { result ≡ place_of_key rest.now key }
+{
+    if let Some(one) = rest_at(rest, guess) {
+        if is_key(one.key, key) {
+            return Some(guess);
+        }
+    }
+    searched_place(rest, key)
+}
+
+fn rest_at(rest: &[Rest], at: usize) -> Option<&Rest>
+    ensures { option_copied result ≡ slice_get rest.now at }
+{
+    rest.get(at)
+}
+
+fn searched_place(rest: &[Rest], key: NodeKey) -> Option<usize>
+    ensures { result ≡ place_of_key rest.now key }
+{
+    rest.iter().position(|one| is_key(one.key, key))
+}

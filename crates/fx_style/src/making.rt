@@ -1,0 +1,297 @@
+//! The entries that an update makes anew, before anything that is kept is changed.
+ghost use Rattle.std.specs.Prelude.{◌≡◌, ◌++◌, ◌∷◌, ◌+◌, ◌<◌, ◌≤◌, [], ℕ, Option as Maybe, Some, None, true, false, IfOk, OnOk, is_some, length, map, slice_get};
+ghost use Rattle.std.specs.List.{filter_map};
+ghost use Rattle.std.specs.Option.{option_map};
+ghost use Rattle.fx_kinds.specs.declared.facts.StyleFacts.{StyleFacts as Facts};
+ghost use Rattle.fx_css_types.specs.Limits.{AreShort, AreWithinLimits};
+ghost use Rattle.fx_select.specs.Chains.{ParentsStandBefore, chain};
+ghost use Rattle.fx_node_style.specs.Styling.{paints_above as paints_up, look_above as look_up, style_under};
+ghost use Rattle.fx_style.specs.Kept.{HaveDifferentKeys, entry, entry_in, fresh_at, is_among, kept_at, kept_under, or_else, place_of_key, style_of_entry};
+ghost use Rattle.fx_style.specs.Turns.{AreRightBelow, IsLeft};
+ghost use Rattle.fx_style.specs.Places.{parent_at, places_up};
+ghost use Rattle.fx_style.specs.Plans.{AreSteps, made_fresh, plan_style, seen_style, step_of};
+ghost use Rattle.fx_style.specs.Rules.{AreIndexed, HaveRows, anew, chain_style, matching_nodes, needs, needs_by, renewed_by, ticks, updated_style, worked};
+
+use crate::above::{Plan, Seen, look_above, paints_above, parent_at, styles_up};
+use crate::kept::{Entry, Fresh, Rest, place_of_key};
+use crate::marks::marked;
+use fx_base::{Ledgers, NodeKey, Work};
+use fx_css_types::{Candidate, SheetAt, sheets_within_limits_are_short};
+use fx_kinds::{StyleFacts, initial_alignment};
+use fx_look::Look;
+use fx_node_style::{Ground, NodeStyle, style_by};
+use fx_select::RuleIndex;
+use std::alloc::{AllocError, Global};
+
+/// The nodes of a scene in their order, and its sheets with their index.
+#[derive(Clone, Copy)]
+pub(crate) struct Scene<'a> {
+    pub index: &'a RuleIndex,
+    pub sheets: &'a [SheetAt],
+    pub facts: &'a [StyleFacts],
+}
+
+/// The rules that match a node.
+fn matched_rules(alloc: Global, scene: Scene<'_>, at: usize) -> Result<Vec<Candidate>, AllocError>
+    requires before { ParentsStandBefore scene.facts.now }
+    requires there { at < length scene.facts.now }
+    requires sheets { AreIndexed scene.index.now scene.sheets.now }
+    ensures { IfOk result (λ found. found.items
+        ≡ matching_nodes scene.entry.sheets.now (chain scene.entry.facts.now at)) }
+{
+    sheets_within_limits_are_short();
+    scene.index.matched(alloc, scene.sheets, scene.facts, at)
+}
+
+fn node_at(facts: &[StyleFacts], at: usize) -> &StyleFacts
+    requires { at < length facts.now }
+    ensures { slice_get facts.now at ≡ Some result.now }
+{
+    &facts[at]
+}
+
+/// The style of a node from nothing, by the rules that match it and the styles of its ancestors.
+fn node_style<L: Ledgers>(
+    alloc: Global,
+    scene: Scene<'_>,
+    at: usize,
+    above: &[Seen<'_>],
+    work: &mut Work<L>,
+) -> Result<NodeStyle, AllocError>
+    requires before { ParentsStandBefore scene.facts.now }
+    requires there { at < length scene.facts.now }
+    requires sheets { AreIndexed scene.index.now scene.sheets.now }
+    requires codes { HaveRows scene.facts.now }
+    ensures style { IfOk result (λ made. made
+        ≡ chain_style scene.entry.sheets.now (chain scene.entry.facts.now at) (map seen_style above.now)) }
+    ensures cost { OnOk result (work.new ≡ record work.old { styled = work.old.styled + 1 }) }
+{
+    let matched = matched_rules(alloc, scene, at)?;
+    let node = node_at(scene.facts, at);
+    let paints = paints_above(alloc, above)?;
+    let ground = Ground {
+        sheets: scene.sheets,
+        matched: matched.as_slice(),
+        codes: node.codes.as_slice(),
+        alignment: initial_alignment(node.class),
+        parent: look_above(above),
+        above: paints.as_slice(),
+    };
+    style_by(alloc, ground, work)
+}
+
+/// The style of a node from nothing, by what its ancestors have by now.
+fn style_anew<L: Ledgers>(
+    alloc: Global,
+    scene: Scene<'_>,
+    plan: Plan<'_>,
+    at: usize,
+    work: &mut Work<L>,
+) -> Result<NodeStyle, AllocError>
+    requires before { ParentsStandBefore scene.facts.now }
+    requires there { at < length scene.facts.now }
+    requires long { length plan.steps.now ≡ at }
+    requires plan { AreSteps plan.fresh.now plan.steps.now }
+    requires sheets { AreIndexed scene.index.now scene.sheets.now }
+    requires codes { HaveRows scene.facts.now }
+    ensures style { IfOk result (λ made. made ≡ anew scene.entry.sheets.now scene.entry.facts.now at
+        (filter_map (plan_style plan.entry) (places_up scene.entry.facts.now (parent_at scene.entry.facts.now at)))) }
+    ensures cost { OnOk result (work.new ≡ record work.old { styled = work.old.styled + 1 }) }
+{
+    let above = styles_up(alloc, scene.facts, plan, parent_at(scene.facts, at))?;
+    node_style(alloc, scene, at, above.as_slice(), work)
+}
+
+/// A copy of the style that is kept at a place.
+fn copied_style(
+    alloc: Global,
+    looks: &[Look],
+    rest: &[Rest],
+    place: usize,
+) -> Result<Option<NodeStyle>, AllocError>
+    ensures { IfOk result (λ copy. copy ≡ style_of_entry (entry_in looks.now rest.now place)) }
+{
+    match (looks.get(place), rest.get(place)) {
+        (Some(look), Some(rest)) => Ok(Some(NodeStyle {
+            look: look.copy(alloc)?,
+            paints: rest.paints.copy(alloc)?,
+        })),
+        _ => Ok(None),
+    }
+}
+
+/// What an update does with a node: is it listed, may what is kept stay in its place, and where does its key stand?
+#[derive(Clone, Copy)]
+pub(crate) struct Turn {
+    pub at: usize,
+    pub listed: bool,
+    pub stay: bool,
+    pub place: Option<usize>,
+}
+
+/// What is left of a node for an update.
+#[derive(Drop)]
+pub(crate) enum Left {
+    /// It stays where it is.
+    Stays,
+    /// It moves to another place.
+    Copied(NodeStyle),
+    /// It is to be styled anew.
+    Nothing,
+}
+
+fn left_of(
+    alloc: Global,
+    looks: &[Look],
+    rest: &[Rest],
+    key: NodeKey,
+    turn: Turn,
+) -> Result<Left, AllocError>
+    requires place { turn.place ≡ place_of_key rest.now key }
+    requires stay { turn.stay ≡ true → (turn.at < length looks.now) × (turn.at < length rest.now) }
+    ensures { IfOk result (IsLeft looks.now rest.now key turn) }
+{
+    if turn.listed {
+        return Ok(Left::Nothing);
+    }
+    let Some(place) = turn.place else {
+        return Ok(Left::Nothing);
+    };
+    if turn.stay && place == turn.at {
+        return Ok(Left::Stays);
+    }
+    match copied_style(alloc, looks, rest, place)? {
+        Some(style) => Ok(Left::Copied(style)),
+        None => Ok(Left::Nothing),
+    }
+}
+
+/// The style of a node after the update, or none where it is kept in its place.
+fn remade<L: Ledgers>(
+    alloc: Global,
+    scene: Scene<'_>,
+    plan: Plan<'_>,
+    node: &StyleFacts,
+    turn: Turn,
+    work: &mut Work<L>,
+) -> Result<Option<NodeStyle>, AllocError>
+    requires before { ParentsStandBefore scene.facts.now }
+    requires node { slice_get scene.facts.now turn.at ≡ Some node.now }
+    requires long { length plan.steps.now ≡ turn.at }
+    requires plan { AreSteps plan.fresh.now plan.steps.now }
+    requires sheets { AreIndexed scene.index.now scene.sheets.now }
+    requires codes { HaveRows scene.facts.now }
+    requires place { turn.place ≡ place_of_key plan.rest.now node.now.key }
+    requires stay { turn.stay ≡ true → (turn.at < length plan.looks.now) × (turn.at < length plan.rest.now) }
+    ensures style { IfOk result (λ made.
+        or_else (option_map (entry node.now.key) made) (entry_in plan.entry.looks.now plan.entry.rest.now turn.at)
+        ≡ Some (entry node.now.key
+        (renewed_by turn.listed (kept_under plan.entry.looks.now plan.entry.rest.now node.now.key)
+        (anew scene.entry.sheets.now scene.entry.facts.now turn.at
+        (filter_map (plan_style plan.entry)
+        (places_up scene.entry.facts.now (parent_at scene.entry.facts.now turn.at))))))) }
+    ensures made { IfOk result (λ made. turn.stay ≡ false → is_some made ≡ true) }
+    ensures cost { OnOk result (work.new ≡ record work.old {
+      styled = work.old.styled
+          + ticks (needs_by turn.listed (kept_under plan.entry.looks.now plan.entry.rest.now node.now.key));
+    }) }
+{
+    match left_of(alloc, plan.looks, plan.rest, node.key, turn)? {
+        Left::Stays => Ok(None),
+        Left::Copied(style) => Ok(Some(style)),
+        Left::Nothing => Ok(Some(style_anew(alloc, scene, plan, turn.at, work)?)),
+    }
+}
+
+/// Puts what was made of a node behind the fresh entries, and its step behind the steps.
+fn push_made(
+    fresh: &mut Vec<Fresh>,
+    steps: &mut Vec<Option<usize>>,
+    at: usize,
+    key: NodeKey,
+    made: Option<NodeStyle>,
+) -> Result<(), AllocError>
+    ensures fresh { OnOk result (fresh.new.items ≡ fresh.old.items ++ made_fresh at (option_map (entry key) made)) }
+    ensures steps { OnOk result (steps.new.items
+        ≡ steps.old.items ++ step_of (option_map (entry key) made) (length fresh.old.items) ∷ []) }
+{
+    match made {
+        Some(style) => {
+            steps.push(Some(fresh.len()))?;
+            let entry = Entry { key, style };
+            fresh.push(Fresh { at, entry })?;
+            Ok(())
+        }
+        None => {
+            steps.push(None)?;
+            Ok(())
+        }
+    }
+}
+
+fn next_guess(place: Option<usize>, guess: usize) -> usize {
+    match place {
+        Some(place) => place.wrapping_add(1),
+        None => guess,
+    }
+}
+
+/// What is kept, and may it stay in its places?
+#[derive(Clone, Copy)]
+pub(crate) struct Old<'a> {
+    pub looks: &'a [Look],
+    pub rest: &'a [Rest],
+    pub stay: bool,
+}
+
+/// The entries that an update makes anew, in the order of their places. Where what is kept may not stay in its places,
+/// every place gets one.
+pub(crate) fn made<L: Ledgers>(
+    alloc: Global,
+    scene: Scene<'_>,
+    old: Old<'_>,
+    restyle: &[usize],
+    work: &mut Work<L>,
+) -> Result<Vec<Fresh>, AllocError>
+    requires before { ParentsStandBefore scene.facts.now }
+    requires sheets { AreIndexed scene.index.now scene.sheets.now }
+    requires codes { HaveRows scene.facts.now }
+    requires keys { HaveDifferentKeys old.rest.now }
+    requires stay { old.stay ≡ true
+        → (length old.looks.now ≡ length scene.facts.now) × (length old.rest.now ≡ length scene.facts.now) }
+    ensures right { IfOk result (λ fresh. AreRightBelow scene.entry.sheets.now scene.entry.facts.now restyle.now
+        (kept_at old.entry.looks.now old.entry.rest.now scene.entry.facts.now) old.entry.looks.now old.entry.rest.now
+        fresh.items (length scene.entry.facts.now)) }
+    ensures all { IfOk result (λ fresh. old.entry.stay ≡ false → (at : ℕ) → at < length scene.entry.facts.now
+        → is_some (fresh_at fresh.items at) ≡ true) }
+    ensures cost { OnOk result (work.new ≡ record work.old {
+      styled = work.old.styled + worked
+          (needs restyle.now (kept_at old.entry.looks.now old.entry.rest.now scene.entry.facts.now))
+          (length scene.entry.facts.now);
+    }) }
+{
+    let facts = scene.facts;
+    let marks = marked(alloc, restyle, facts.len())?;
+    let mut fresh = Vec::new(alloc);
+    let mut steps = Vec::with_capacity(alloc, facts.len())?;
+    let mut guess = 0;
+    for (at, node) in facts.iter().enumerate() {
+        let place = place_of_key(old.rest, node.key, guess);
+        guess = next_guess(place, guess);
+        let turn = Turn {
+            at,
+            listed: marks[at],
+            stay: old.stay,
+            place,
+        };
+        let plan = Plan {
+            looks: old.looks,
+            rest: old.rest,
+            fresh: fresh.as_slice(),
+            steps: steps.as_slice(),
+        };
+        let style = remade(alloc, scene, plan, node, turn, work)?;
+        push_made(&mut fresh, &mut steps, at, node.key, style)?;
+    }
+    Ok(fresh)
+}

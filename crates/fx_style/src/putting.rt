@@ -1,0 +1,108 @@
+//! Fresh entries put in their places, which takes no memory.
+ghost use Rattle.std.specs.Prelude.{◌≡◌, ◌+◌, ◌<◌, IfOk, length, map, slice_set};
+ghost use Rattle.fx_style.specs.Kept.{put_looks, put_rest, rest_of};
+
+use crate::kept::{Entry, Fresh, Rest};
+use fx_base::{Color, List, NodeKey, Sides};
+use fx_look::Look;
+use fx_node_style::NodeStyle;
+use std::alloc::{AllocError, Global};
+
+/// Puts each entry in its place.
+pub(crate) fn put_all(looks: &mut [Look], rest: &mut [Rest], fresh: Vec<Fresh>)
+    ensures looks { looks.new ≡ put_looks looks.old fresh.items }
+    ensures rest { rest.new ≡ put_rest rest.old fresh.items }
+{
+    for one in fresh {
+        put_one(looks, rest, one);
+    }
+}
+
+fn put_one(looks: &mut [Look], rest: &mut [Rest], one: Fresh)
+    ensures looks { looks.new ≡ slice_set looks.old one.at one.entry.style.look }
+    ensures rest { rest.new ≡ slice_set rest.old one.at (rest_of one.entry) }
+{
+    let Fresh { at, entry } = one;
+    let Entry { key, style } = entry;
+    let NodeStyle { look, paints } = style;
+    if at < looks.len() {
+        looks[at] = look;
+    }
+    if at < rest.len() {
+        rest[at] = Rest { key, paints };
+    }
+}
+
+/// The places of the entries.
+pub(crate) fn places_of(alloc: Global, fresh: &[Fresh]) -> Result<Vec<usize>, AllocError>
+    ensures { IfOk result (λ places. places.items ≡ map (λ f. f.at) fresh.now) }
+{
+    let mut places = Vec::with_capacity(alloc, fresh.len())?;
+    for one in fresh {
+        places.push(one.at)?;
+    }
+    Ok(places)
+}
+
+/// So many looks that are to be replaced.
+pub(crate) fn blank_looks(alloc: Global, count: usize) -> Result<Vec<Look>, AllocError>
+    ensures { IfOk result (λ looks. length looks.items ≡ count) }
+{
+    let mut looks = Vec::with_capacity(alloc, count)?;
+    for place in 0..count {
+        looks.push(blank_look(alloc))?;
+    }
+    Ok(looks)
+}
+
+/// As many entries beside them.
+pub(crate) fn blank_rest(alloc: Global, count: usize) -> Result<Vec<Rest>, AllocError>
+    ensures { IfOk result (λ rest. length rest.items ≡ count) }
+{
+    let mut rest = Vec::with_capacity(alloc, count)?;
+    for place in 0..count {
+        rest.push(Rest {
+            key: NodeKey { slot: 0, birth: 0 },
+            paints: List::new(alloc),
+        })?;
+    }
+    Ok(rest)
+}
+
+fn blank_look(alloc: Global) -> Look {
+    let none = Sides {
+        top: 0,
+        right: 0,
+        bottom: 0,
+        left: 0,
+    };
+    Look {
+        padding: none,
+        alignment: 0,
+        spacing: 0,
+        hgap: 0,
+        vgap: 0,
+        fill_width: true,
+        fill_height: true,
+        min_width: 0,
+        min_height: 0,
+        pref_width: 0,
+        pref_height: 0,
+        max_width: 0,
+        max_height: 0,
+        background_color: List::new(alloc),
+        background_insets: List::new(alloc),
+        border_color: List::new(alloc),
+        border_width: List::new(alloc),
+        border_insets: List::new(alloc),
+        text_fill: Color {
+            r: 0,
+            g: 0,
+            b: 0,
+            a: 0,
+        },
+        font_size: 0,
+        wrap_text: false,
+        visibility: true,
+    }
+}

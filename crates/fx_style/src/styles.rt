@@ -1,0 +1,189 @@
+//! The looks of all nodes, kept from one update to the next.
+ghost use Rattle.std.specs.Prelude.{◌≡◌, ◌+◌, ◌<◌, [], ℕ, false, true, IfOk, OnErr, OnOk, is_some, length};
+ghost use Rattle.fx_select.specs.Chains.{ParentsStandBefore};
+ghost use Rattle.fx_style.specs.Kept.{AreDifferent, HaveDifferentKeys, fresh_at, kept_at, put_looks, put_rest};
+ghost use Rattle.fx_style.specs.Rules.{AreIndexed, HaveRows, IsUpdate, KeepsOthers, kept_of, needs, worked};
+ghost use Rattle.fx_style.specs.Turns.{ArePut, AreRightBelow, HaveKeysOf};
+
+use crate::kept::{Fresh, Rest};
+use crate::making::{Old, Scene, made};
+use crate::putting::{blank_looks, blank_rest, places_of, put_all};
+use fx_base::{Ledgers, Work};
+use fx_css_types::SheetAt;
+use fx_kinds::StyleFacts;
+use fx_look::Look;
+use fx_select::RuleIndex;
+use std::alloc::{AllocError, Global};
+use std::marker::Model;
+use std::mem;
+
+/// The look of each node of the last update in their order, and what updates need of them: their keys and the paints
+/// that are looked up on them.
+#[derive(Drop)]
+pub struct Styles {
+    looks: Vec<Look>,
+    rest: Vec<Rest>,
+    changed: Vec<usize>,
+}
+
+impl Model for Styles {
+    ghost use Rattle.fx_style.specs.Kept.{Kept, HaveDifferentKeys};
+
+    ghost Value = { Kept };
+
+    ghost view = { λ s. record { looks = s.looks.items; rest = s.rest.items; changed = s.changed.items } };
+
+    ghost invariant = { λ s. HaveDifferentKeys s.rest.items };
+}
+
+impl Styles {
+    /// Nothing is kept.
+    pub fn new(alloc: Global) -> Styles
+        ensures { result ≡ record { looks = []; rest = []; changed = [] } }
+    {
+        Styles {
+            looks: Vec::new(alloc),
+            rest: Vec::new(alloc),
+            changed: Vec::new(alloc),
+        }
+    }
+
+    /// The looks of the nodes of the last update, in their order.
+    pub fn looks(&self) -> &[Look]
+        ensures { result.now ≡ self.now.looks }
+    {
+        self.looks.as_slice()
+    }
+
+    /// The places whose looks may be others than before the last update.
+    pub fn changed(&self) -> &[usize]
+        ensures { result.now ≡ self.now.changed }
+    {
+        self.changed.as_slice()
+    }
+
+    /// Styles the nodes of these places anew, from the root downwards, and those of which nothing is kept; every other
+    /// node keeps what it had, whatever the facts and sheets say now. Counts one styled node for each that is styled
+    /// anew. `index` is that of `sheets`. Memory is taken before anything that is kept is changed.
+    pub fn update<L: Ledgers>(
+        &mut self,
+        alloc: Global,
+        index: &RuleIndex,
+        facts: &[StyleFacts],
+        sheets: &[SheetAt],
+        restyle: &[usize],
+        work: &mut Work<L>,
+    ) -> Result<(), AllocError>
+        requires before { ParentsStandBefore facts.now }
+        requires keys { AreDifferent facts.now }
+        requires sheets { AreIndexed index.now sheets.now }
+        requires codes { HaveRows facts.now }
+        ensures styles { OnOk result (IsUpdate sheets.now facts.now restyle.now self.old self.new) }
+        ensures changed { OnOk result (KeepsOthers self.old self.new) }
+        ensures err { OnErr result (self.new ≡ self.old) }
+        ensures cost { OnOk result (work.new ≡ record work.old {
+          styled = work.old.styled
+              + worked (needs restyle.now (kept_of self.old facts.now)) (length facts.now);
+        }) }
+    {
+        let scene = Scene {
+            index,
+            sheets,
+            facts,
+        };
+        let stay = self.stays(facts.len());
+        let fresh = self.fresh(alloc, scene, stay, restyle, work)?;
+        let changed = places_of(alloc, fresh.as_slice())?;
+        self.put(alloc, facts, stay, fresh, changed)
+    }
+
+    /// Are there as many entries as nodes now, so that what is kept may stay in its places?
+    fn stays(&self, count: usize) -> bool
+        ensures { result ≡ true → (length self.now.looks ≡ count) × (length self.now.rest ≡ count) }
+    {
+        self.looks.len() == count && self.rest.len() == count
+    }
+
+    fn fresh<L: Ledgers>(
+        &self,
+        alloc: Global,
+        scene: Scene<'_>,
+        stay: bool,
+        restyle: &[usize],
+        work: &mut Work<L>,
+    ) -> Result<Vec<Fresh>, AllocError>
+        requires before { ParentsStandBefore scene.facts.now }
+        requires sheets { AreIndexed scene.index.now scene.sheets.now }
+        requires codes { HaveRows scene.facts.now }
+        requires stay { stay ≡ true → (length self.now.looks ≡ length scene.facts.now)
+            × (length self.now.rest ≡ length scene.facts.now) }
+        ensures right { IfOk result (λ fresh. AreRightBelow scene.entry.sheets.now scene.entry.facts.now restyle.now
+            (kept_of self.now scene.entry.facts.now) self.now.looks self.now.rest fresh.items
+            (length scene.entry.facts.now)) }
+        ensures all { IfOk result (λ fresh. stay ≡ false → (at : ℕ) → at < length scene.entry.facts.now
+            → is_some (fresh_at fresh.items at) ≡ true) }
+        ensures cost { OnOk result (work.new ≡ record work.old {
+          styled = work.old.styled
+              + worked (needs restyle.now (kept_of self.now scene.entry.facts.now)) (length scene.entry.facts.now);
+        }) }
+    {
+        let old = Old {
+            looks: self.looks.as_slice(),
+            rest: self.rest.as_slice(),
+            stay,
+        };
+        made(alloc, scene, old, restyle, work)
+    }
+
+    /// Puts the fresh entries in their places, of what is kept where that may stay.
+    fn put(
+        &mut self,
+        alloc: Global,
+        facts: &[StyleFacts],
+        stay: bool,
+        fresh: Vec<Fresh>,
+        changed: Vec<usize>,
+    ) -> Result<(), AllocError>
+        requires stay { stay ≡ true → (length self.old.looks ≡ length facts.now)
+            × (length self.old.rest ≡ length facts.now) }
+        requires keys { AreDifferent facts.now }
+        requires all { stay ≡ false → (at : ℕ) → at < length facts.now → is_some (fresh_at fresh.items at) ≡ true }
+        requires right { HaveKeysOf facts.now self.old.looks self.old.rest fresh.items }
+        ensures put { OnOk result (ArePut self.old self.new fresh.items (length facts.now)) }
+        ensures changed { OnOk result (self.new.changed ≡ changed.items) }
+        ensures err { OnErr result (self.new ≡ self.old) }
+    {
+        if stay {
+            let old = mem::replace(self, Styles::new(alloc));
+            let Styles { looks, rest, .. } = old;
+            *self = put_in(looks, rest, fresh, changed);
+            return Ok(());
+        }
+        let looks = blank_looks(alloc, facts.len())?;
+        let rest = blank_rest(alloc, facts.len())?;
+        *self = put_in(looks, rest, fresh, changed);
+        Ok(())
+    }
+}
+
+/// What is kept once fresh entries stand in their places.
+fn put_in(
+    mut looks: Vec<Look>,
+    mut rest: Vec<Rest>,
+    fresh: Vec<Fresh>,
+    changed: Vec<usize>,
+) -> Styles
+    requires keys { HaveDifferentKeys (put_rest rest.items fresh.items) }
+    ensures { result ≡ record {
+      looks = put_looks looks.items fresh.items;
+      rest = put_rest rest.items fresh.items;
+      changed = changed.items;
+    } }
+{
+    put_all(looks.as_mut_slice(), rest.as_mut_slice(), fresh);
+    Styles {
+        looks,
+        rest,
+        changed,
+    }
+}

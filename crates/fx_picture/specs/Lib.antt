@@ -1,0 +1,4 @@
+pub mod Bounds
+pub mod Entries
+pub mod Pixels
+pub mod Shapes

@@ -1,4 +1,5 @@
 pub mod Bounds
 pub mod Entries
 pub mod Pixels
+pub mod Sameness
 pub mod Shapes

@@ -3,7 +3,7 @@ ghost use Rattle.std.specs.Prelude.{◌≡◌, ◌+ℤ◌, ◌*◌, ◌≤◌, �
 ghost use Rattle.fx_cells.specs.Columns.{cells_of};
 ghost use Rattle.fx_picture.specs.Shapes.{bounds, cells_bounds, color_of, whole};
 
-use crate::edges::{Bounds, bounds_of, meeting};
+use crate::edges::{Bounds, bounds_of, meeting, same_rect};
 use fx_base::{Color, Duplicate, Rect, Same, Text};
 use fx_cells::cells;
 use std::alloc::{AllocError, Global};
@@ -23,6 +23,81 @@ pub enum Shape {
         clip: Rect,
         color: Color,
     },
+}
+
+impl Shape {
+    /// A shape of the same contents.
+    pub fn copy(&self, alloc: Global) -> Result<Shape, AllocError>
+        ensures { IfOk result (λ copy. copy ≡ self.now) }
+    {
+        match self {
+            Shape::Fill { rect, color } => Ok(Shape::Fill {
+                rect: *rect,
+                color: *color,
+            }),
+            Shape::Letters {
+                x,
+                y,
+                scale,
+                text,
+                clip,
+                color,
+            } => Ok(Shape::Letters {
+                x: *x,
+                y: *y,
+                scale: *scale,
+                text: text.copy(alloc)?,
+                clip: *clip,
+                color: *color,
+            }),
+        }
+    }
+}
+
+impl Duplicate for Shape {
+    fn duplicate(&self, alloc: Global) -> Result<Self, AllocError> {
+        self.copy(alloc)
+    }
+}
+
+impl Same for Shape {
+    fn is_same(&self, other: &Self) -> bool {
+        match (self, other) {
+            (
+                Shape::Fill { rect, color },
+                Shape::Fill {
+                    rect: other_rect,
+                    color: other_color,
+                },
+            ) => *color == *other_color && same_rect(*rect, *other_rect),
+            (
+                Shape::Letters {
+                    x,
+                    y,
+                    scale,
+                    text,
+                    clip,
+                    color,
+                },
+                Shape::Letters {
+                    x: other_x,
+                    y: other_y,
+                    scale: other_scale,
+                    text: other_text,
+                    clip: other_clip,
+                    color: other_color,
+                },
+            ) => {
+                *x == *other_x
+                    && *y == *other_y
+                    && *scale == *other_scale
+                    && *color == *other_color
+                    && same_rect(*clip, *other_clip)
+                    && text.equals(other_text.as_str())
+            }
+            _ => false,
+        }
+    }
 }
 
 /// The colour of a shape.

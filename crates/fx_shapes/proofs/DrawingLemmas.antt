@@ -1,0 +1,25 @@
+-- A look has one list of shapes in a rectangle, since a text has one list of lines.
+use Rattle.std.proofs.Common.{◌≡◌, ◌++◌, ℕ, Bool, true, false, List, Option, Some, None, length, sym, ap, ◌∙◌}
+use Rattle.std.specs.Prelude.{MatchBool, chars}
+use Rattle.fx_base.specs.declared.geometry.Rect.{Rect}
+use Rattle.fx_look.specs.declared.looks.Look.{Look}
+use Rattle.fx_picture.specs.declared.shapes.Shape.{Shape}
+use Rattle.fx_boxes.specs.Controls.{scale_of}
+use Rattle.fx_cells.proofs.Cutting.{one_wrapping_of}
+use Rattle.fx_cells.specs.Wrapping.{IsWrapping}
+use Rattle.fx_shapes.specs.Drawings.{IsDrawing, IsTextDrawing, OneDrawing, shown}
+use Rattle.fx_shapes.specs.Layers.{backgrounds, borders, insets_of}
+use Rattle.fx_shapes.specs.Letters.{HasLines, columns_of, content_of, letters_of}
+
+one_lines : (wrap : Bool) (columns : ℕ) (text : List ℕ) (one another : List (ℕ × ℕ))
+    → HasLines wrap columns text one → HasLines wrap columns text another → one ≡ another
+one_lines true columns text one another p q = one_wrapping_of columns (chars text) one another p q
+one_lines false columns text one another p q = p ∙ sym q
+
+pub one_drawing : OneDrawing
+one_drawing look r None one another p q = p ∙ sym q
+one_drawing look r (Some text) one another p q =
+    let ranges = one_lines look.wrap_text (columns_of (content_of r (insets_of look)) (scale_of look.font_size)) text p.ranges q.ranges p.lines q.lines in
+    p.drawn
+    ∙ (ap (λ rs. shown (backgrounds look r) ++ (shown (borders look r) ++ shown (letters_of look r text rs))) ranges
+    ∙ sym q.drawn)

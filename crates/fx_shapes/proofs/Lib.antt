@@ -1,0 +1,6 @@
+pub mod RectLemmas
+pub mod TextLemmas
+pub mod ListSteps
+pub mod DrawingLemmas
+pub mod AlignLemmas
+pub mod HiddenLemmas

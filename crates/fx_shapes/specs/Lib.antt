@@ -1,0 +1,4 @@
+pub mod Drawings
+pub mod Layers
+pub mod Letters
+pub mod Rects

@@ -1,5 +1,5 @@
 -- The cells of a text are few, so the bounds of letters can be counted.
-use Rattle.std.proofs.Common.{ℕ, ◌+◌, ◌*◌, ◌≤◌, false, List, [], ◌∷◌, length, arith}
+use Rattle.std.proofs.Common.{ℕ, ◌*◌, ◌≤◌, false, List, [], ◌∷◌, length, arith}
 use Rattle.std.proofs.lemmas.List.Sums.{sum_by-cons}
 use Rattle.unicode_width.proofs.Rules.{width_or_zero-le}
 use Rattle.fx_cells.specs.Columns.{cell_width, cells_of}

@@ -1,8 +1,7 @@
 -- The tests of sameness decide equality.
-use Rattle.std.proofs.Common.{◌≡◌, ◌==◌, ◌&&◌, ap, refl, ◌∙◌, ℕ, ℤ, Bool, true, false, List, nat_eq}
+use Rattle.std.proofs.Common.{◌≡◌, ap, refl, ◌∙◌, ℕ, ℤ, List}
 use Rattle.std.specs.Bool.{Decides}
 use Rattle.std.specs.Cmp.Lexicographic.{pointwise}
-use Rattle.std.specs.Ordering.{int_eq}
 use Rattle.std.proofs.lemmas.Bool.Decides.{Decides-int_eq, Decides-eqb, Decides-and, Decides-like}
 use Rattle.std.proofs.lemmas.Slice.Eq.{slice_eq-Decides}
 use Rattle.fx_base.specs.declared.color.Color.{Color}

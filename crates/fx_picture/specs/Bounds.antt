@@ -1,7 +1,6 @@
 -- Bounds of what is drawn: JavaFX 21 API, javafx.geometry.Bounds. A point is a column and a row, counted from 0.
-use Rattle.std.specs.Prelude.{ℕ, ℤ, pos, Bool, ◌&&◌, ◌||◌, ◌+ℤ◌, ◌-ℤ◌, int_le, int_lt, List, [], ◌∷◌, fold, if◌then◌else◌}
+use Rattle.std.specs.Prelude.{ℕ, ℤ, pos, Bool, ◌&&◌, ◌||◌, ◌+ℤ◌, ◌-ℤ◌, int_le, int_lt, List, fold, if◌then◌else◌}
 use Rattle.std.specs.Int.{int_max, int_min}
-use Rattle.std.specs.List.{list_any}
 use Rattle.std.specs.Ordering.{int_eq}
 use Rattle.fx_base.specs.declared.geometry.Rect.{Rect}
 use Rattle.fx_picture.specs.declared.edges.Bounds.{Bounds}

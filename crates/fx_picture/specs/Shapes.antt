@@ -1,9 +1,8 @@
 -- Shapes, their bounds, and the points that they hold. A character's glyph stands in the first of its cells: each bit
 -- is one scale by one, in three columns and five rows.
-use Rattle.std.specs.Prelude.{ℕ, ℤ, pos, negsuc, Bool, true, false, ◌&&◌, ◌+◌, ◌*◌, ◌-◌, ◌/◌, ◌%◌, ◌^◌, ◌==◌, ◌+ℤ◌, ◌-ℤ◌, List, [], ◌∷◌, nat_lt, chars, if◌then◌else◌}
+use Rattle.std.specs.Prelude.{ℕ, ℤ, pos, negsuc, Bool, false, ◌&&◌, ◌+◌, ◌*◌, ◌-◌, ◌/◌, ◌%◌, ◌^◌, ◌==◌, ◌+ℤ◌, ◌-ℤ◌, List, [], ◌∷◌, nat_lt, chars, if◌then◌else◌}
 use Rattle.fx_base.specs.Rectangle.{inside}
 use Rattle.fx_base.specs.declared.color.Color.{Color}
-use Rattle.fx_base.specs.declared.geometry.Rect.{Rect}
 use Rattle.fx_cells.specs.Columns.{cell_width, cells_of}
 use Rattle.fx_cells.specs.Font.{glyph_of}
 use Rattle.fx_picture.specs.Bounds.{bounds_of, meet, within}

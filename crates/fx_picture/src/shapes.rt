@@ -12,7 +12,10 @@ use std::alloc::{AllocError, Global};
 #[derive(Drop)]
 pub enum Shape {
     /// A rectangle of one colour.
-    Fill { rect: Rect, color: Color },
+    Fill {
+        rect: Rect,
+        color: Color,
+    },
     /// One line of text. Its first cell begins at `x` and `y`; each cell is four `scale`s wide and six high, and
     /// nothing is painted outside `clip`.
     Letters {

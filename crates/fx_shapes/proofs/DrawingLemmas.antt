@@ -1,13 +1,9 @@
 -- A look has one list of shapes in a rectangle, since a text has one list of lines.
-use Rattle.std.proofs.Common.{◌≡◌, ◌++◌, ℕ, Bool, true, false, List, Option, Some, None, length, sym, ap, ◌∙◌}
-use Rattle.std.specs.Prelude.{MatchBool, chars}
-use Rattle.fx_base.specs.declared.geometry.Rect.{Rect}
-use Rattle.fx_look.specs.declared.looks.Look.{Look}
-use Rattle.fx_picture.specs.declared.shapes.Shape.{Shape}
+use Rattle.std.proofs.Common.{◌≡◌, ◌++◌, ℕ, Bool, true, false, List, Some, None, sym, ap, ◌∙◌}
+use Rattle.std.specs.Prelude.{chars}
 use Rattle.fx_boxes.specs.Controls.{scale_of}
 use Rattle.fx_cells.proofs.Cutting.{one_wrapping_of}
-use Rattle.fx_cells.specs.Wrapping.{IsWrapping}
-use Rattle.fx_shapes.specs.Drawings.{IsDrawing, IsTextDrawing, OneDrawing, shown}
+use Rattle.fx_shapes.specs.Drawings.{OneDrawing, shown}
 use Rattle.fx_shapes.specs.Layers.{backgrounds, borders, insets_of}
 use Rattle.fx_shapes.specs.Letters.{HasLines, columns_of, content_of, letters_of}
 

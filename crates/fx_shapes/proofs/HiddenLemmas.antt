@@ -1,11 +1,10 @@
 -- A line that begins behind its content isn't shown.
-use Rattle.std.proofs.Common.{◌≡◌, ◌≤◌, ◌+◌, ◌*◌, ◌/◌, ◌&&◌, ◌||◌, ◌+ℤ◌, ◌≤ℤ◌, ℕ, ℤ, pos, negsuc, Bool, true, false, List, not, arith, refl, ap, ◌∙◌}
-use Rattle.std.specs.Prelude.{int_le, nat_lt}
+use Rattle.std.proofs.Common.{◌≡◌, ◌≤◌, ◌+◌, ◌*◌, ◌/◌, ◌&&◌, ◌||◌, ◌+ℤ◌, ◌≤ℤ◌, ℕ, ℤ, pos, negsuc, Bool, true, false, List, not, arith, refl}
+use Rattle.std.specs.Prelude.{int_le}
 use Rattle.std.specs.Int.{int_max, int_min}
 use Rattle.std.proofs.lemmas.Int.{ints, clamps}
 use Rattle.fx_panes_parts.specs.Lengths.{aligned}
-use Rattle.fx_picture.specs.Shapes.{whole, cells_bounds, bounds, color_of}
-use Rattle.fx_picture.specs.Bounds.{is_empty}
+use Rattle.fx_picture.specs.Shapes.{whole, cells_bounds}
 use Rattle.fx_shapes.specs.declared.letters.Block.{Block}
 use Rattle.fx_shapes.specs.Drawings.{is_shown}
 use Rattle.fx_shapes.specs.Letters.{line_at}

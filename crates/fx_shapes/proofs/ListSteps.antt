@@ -1,5 +1,5 @@
 -- One element more of a list, with its index.
-use Rattle.std.proofs.Common.{◌≡◌, ◌<◌, ◌≤◌, ◌+◌, ℕ, ℤ, pos, Bool, List, [], ◌∷◌, ◌++◌, length, take, get_or, map, refl, sym, ap, ◌∙◌, arith, suc, zero, length-take, append_assoc, append-nil, fold}
+use Rattle.std.proofs.Common.{◌≡◌, ◌<◌, ◌≤◌, ◌+◌, ℕ, ℤ, Bool, List, [], ◌∷◌, ◌++◌, length, take, get_or, map, refl, sym, ap, ◌∙◌, arith, suc, zero, length-take, append_assoc, append-nil}
 use Rattle.std.specs.Int.{int_max}
 use Rattle.std.specs.List.{enumerate_from, filter, flat_map, range_with_len}
 use Rattle.std.proofs.lemmas.List.{length-map, map-append, take_more}
@@ -31,7 +31,7 @@ kept_more p f before now xs i d h is =
     ap (λ l. l ++ filter p (f (i, x) ∷ [])) is
     ∙ (append_assoc before (filter p (map f all)) (filter p (f (i, x) ∷ []))
     ∙ ap (λ l. before ++ l) (sym (ap (λ l. filter p (map f l)) (enumerate_more xs i d h)
-        ∙ (ap (filter p) (map-append f all ((i, x) ∷ [])) ∙ filter-append p (map f all) (f (i, x) ∷ [])))))
+    ∙ (ap (filter p) (map-append f all ((i, x) ∷ [])) ∙ filter-append p (map f all) (f (i, x) ∷ [])))))
 
 -- the same where lists are made
 pub kept_more_lists : {X A : Type 0} (p : A → Bool) (f : ℕ × X → List A) (before now : List A) (xs : List X) (i : ℕ) (d : X)
@@ -44,7 +44,7 @@ kept_more_lists p f before now xs i d h is =
     ap (λ l. l ++ filter p (f (i, x))) is
     ∙ (append_assoc before (filter p (flat_map f all)) (filter p (f (i, x)))
     ∙ ap (λ l. before ++ l) (sym (ap (λ l. filter p (flat_map f l)) (enumerate_more xs i d h)
-        ∙ (ap (filter p) (flat_map-append f all ((i, x) ∷ []) ∙ ap (λ l. flat_map f all ++ l) one) ∙ filter-append p (flat_map f all) (f (i, x))))))
+    ∙ (ap (filter p) (flat_map-append f all ((i, x) ∷ []) ∙ ap (λ l. flat_map f all ++ l) one) ∙ filter-append p (flat_map f all) (f (i, x))))))
 
 greatest-append : (n m : ℤ) (ns : List ℤ) → greatest_of ((n ∷ ns) ++ m ∷ []) ≡ int_max (greatest_of (n ∷ ns)) m
 greatest-append n m [] = refl
@@ -69,10 +69,10 @@ kept_more_mapped p f g before now xs i d h is =
     let y = g (get_or xs i d) in
     let len : 0 + length (map g (take i xs)) ≡ i = omega (arith, length-take i xs, length-map (take i xs) g) in
     let more : enumerate_from 0 (map g (take (i + 1) xs)) ≡ all ++ (i, y) ∷ [] =
-        ap (λ l. enumerate_from 0 (map g l)) (take_more xs i d h)
-        ∙ (ap (enumerate_from 0) (map-append g (take i xs) (get_or xs i d ∷ []))
-        ∙ (enumerate-append 0 (map g (take i xs)) (y ∷ []) ∙ ap (λ m. all ++ (m, y) ∷ []) len)) in
+    ap (λ l. enumerate_from 0 (map g l)) (take_more xs i d h)
+    ∙ (ap (enumerate_from 0) (map-append g (take i xs) (get_or xs i d ∷ []))
+    ∙ (enumerate-append 0 (map g (take i xs)) (y ∷ []) ∙ ap (λ m. all ++ (m, y) ∷ []) len)) in
     ap (λ l. l ++ filter p (f (i, y) ∷ [])) is
     ∙ (append_assoc before (filter p (map f all)) (filter p (f (i, y) ∷ []))
     ∙ ap (λ l. before ++ l) (sym (ap (λ l. filter p (map f l)) more
-        ∙ (ap (filter p) (map-append f all ((i, y) ∷ [])) ∙ filter-append p (map f all) (f (i, y) ∷ [])))))
+    ∙ (ap (filter p) (map-append f all ((i, y) ∷ [])) ∙ filter-append p (map f all) (f (i, y) ∷ [])))))

@@ -1,9 +1,7 @@
 -- Rectangles and lengths on sides are made of their numbers.
-use Rattle.std.proofs.Common.{◌≡◌, ℤ, pos, negsuc, ◌+ℤ◌, ◌≤ℤ◌, ap, ◌∙◌, refl, arith}
-use Rattle.std.proofs.lemmas.Int.{ints}
+use Rattle.std.proofs.Common.{◌≡◌, ℤ, ap, ◌∙◌}
 use Rattle.fx_base.specs.declared.geometry.Rect.{Rect}
 use Rattle.fx_base.specs.declared.geometry.Sides.{Sides}
-use Rattle.fx_panes_parts.specs.Lengths.{place_of}
 
 pub rect_made : (a b : Rect) → a.x ≡ b.x → a.y ≡ b.y → a.w ≡ b.w → a.h ≡ b.h → a ≡ b
 rect_made a b x_is y_is w_is h_is =

@@ -1,5 +1,5 @@
 -- The layers of a look, and the shapes of its backgrounds and borders: JavaFX CSS Reference Guide, Region.
-use Rattle.std.specs.Prelude.{ℕ, ℤ, pos, ◌-◌, ◌+ℤ◌, ◌-ℤ◌, List, [], ◌∷◌, ◌++◌, length, map, fold, min, slice_index_or}
+use Rattle.std.specs.Prelude.{ℕ, ℤ, pos, ◌-◌, ◌+ℤ◌, ◌-ℤ◌, List, [], ◌∷◌, length, map, fold, min, slice_index_or}
 use Rattle.std.specs.Int.{int_max, int_min}
 use Rattle.std.specs.List.{enumerate_from, flat_map, range_with_len}
 use Rattle.fx_base.specs.declared.color.Color.{Color}

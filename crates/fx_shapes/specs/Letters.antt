@@ -1,5 +1,5 @@
 -- The lines of a text as letters in the content of a node: JavaFX 21 API, javafx.scene.control.Labeled.
-use Rattle.std.specs.Prelude.{◌≡◌, ◌≤◌, ℕ, ℤ, Bool, pos, ◌+◌, ◌-◌, ◌*◌, ◌/◌, ◌%◌, ◌+ℤ◌, ◌-ℤ◌, List, [], ◌∷◌, MatchBool, chars, length, map, max, slice_range}
+use Rattle.std.specs.Prelude.{◌≡◌, ◌≤◌, ℕ, Bool, pos, ◌+◌, ◌*◌, ◌/◌, ◌%◌, ◌+ℤ◌, List, [], ◌∷◌, MatchBool, chars, length, map, max, slice_range}
 use Rattle.std.specs.Int.{int_max}
 use Rattle.std.specs.List.{enumerate_from}
 use Rattle.std.specs.Str.{IsCharBoundary}

@@ -29,7 +29,10 @@ fn inset_of(look: &Look, side: Side) -> i64
     ensures least { pos 0 ≤ℤ result }
     ensures most { result ≤ℤ pos 100000 }
 {
-    inset(length_of(on_side(&look.padding, side)), border_of(look, side))
+    inset(
+        length_of(on_side(&look.padding, side)),
+        border_of(look, side),
+    )
 }
 
 fn inset(padding: u64, border: i64) -> i64
@@ -68,7 +71,10 @@ fn border_at(look: &Look, side: Side, layer: usize) -> i64
 {
     let inset = sides_at(look.border_insets.as_slice(), layer);
     let width = sides_at(look.border_width.as_slice(), layer);
-    together(place_of(on_side(&inset, side)), length_of(on_side(&width, side)))
+    together(
+        place_of(on_side(&inset, side)),
+        length_of(on_side(&width, side)),
+    )
 }
 
 fn together(place: i64, length: u64) -> i64

@@ -43,7 +43,11 @@ fn add_background(
 }
 
 /// Adds the strips of the border that show.
-pub(crate) fn add_borders(shapes: &mut Vec<Shape>, look: &Look, rect: Rect) -> Result<(), AllocError>
+pub(crate) fn add_borders(
+    shapes: &mut Vec<Shape>,
+    look: &Look,
+    rect: Rect,
+) -> Result<(), AllocError>
     requires { IsNear rect }
     ensures { OnOk result (shapes.new.items ≡ shapes.old.items ++ shown (borders look.now rect)) }
 {
@@ -243,7 +247,10 @@ fn strip_on(side: Side, rect: Rect, widths: Sides) -> Rect
 {
     let between = less(rect.h, widths.top, widths.bottom);
     match side {
-        Side::Top => Rect { h: widths.top, ..rect },
+        Side::Top => Rect {
+            h: widths.top,
+            ..rect
+        },
         Side::Bottom => Rect {
             y: rect.y + (rect.h - widths.bottom),
             h: widths.bottom,

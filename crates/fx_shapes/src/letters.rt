@@ -157,7 +157,11 @@ fn down_of(block: &Block, index: u64) -> Option<i64>
 {
     let height = length(block.clip.h);
     let line = 6 * block.scale;
-    let start = aligned(block.alignment / 3, line.saturating_mul(block.count), height);
+    let start = aligned(
+        block.alignment / 3,
+        line.saturating_mul(block.count),
+        height,
+    );
     let below = start.saturating_add(line.saturating_mul(index));
     if below < height {
         Some(block.clip.y + below as i64)

@@ -13,4 +13,3 @@ mod sides;
 pub use insets::insets_of;
 pub use making::{one_drawing, shapes};
 pub use sides::Side;
-

@@ -1,4 +1,4 @@
-use Rattle.std.proofs.Common.{refl, rules, FitsSigned}
+use Rattle.std.proofs.Common.{rules, FitsSigned}
 use Rattle.std.specs.Int.{w128}
 use Rattle.std.proofs.lemmas.Int.{to_z-of_z}
 use Rattle.fx_picture.proofs.edges.around.Goals as goal

@@ -1,4 +1,4 @@
-use Rattle.std.proofs.Common.{refl, rules, sym, w64, FitsSigned, ◌∙◌, ap}
+use Rattle.std.proofs.Common.{refl, rules, w64, FitsSigned}
 use Rattle.std.proofs.lemmas.Int.{to_z-of_z}
 use Rattle.fx_picture.proofs.shapes.bounds.Goals as goal
 

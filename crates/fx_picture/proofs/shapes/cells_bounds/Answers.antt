@@ -1,4 +1,4 @@
-use Rattle.std.proofs.Common.{refl, rules, w64, FitsSigned}
+use Rattle.std.proofs.Common.{rules, w64, FitsSigned}
 use Rattle.std.specs.Int.{w128}
 use Rattle.std.proofs.lemmas.Int.{to_z-of_z}
 use Rattle.fx_picture.specs.Shapes.{cells_bounds}

@@ -15,10 +15,11 @@ loop-layer-preserved c =
     let one : FitsSigned w64 c.border_at.result = search rules in
     let before = c.loop-layer.invariant in
     let greatest = c.max-greatest.ensures.value in
-    let border = c.border_at.ensures in
-    (to_z-of_z w64 c.max-greatest.result top
-        ∙ (greatest
-        ∙ (ap (λ n. int_max n here) before.0
-        ∙ (ap (λ n. int_max (greatest_of (map f (range_with_len 0 c.loop-layer.layer))) n) (to_z-of_z w64 c.border_at.result one ∙ border.value)
-        ∙ sym (greatest_more f c.loop-layer.layer before.1.0)))),
-    (omega arith, (omega (arith, ints, clamps, greatest), omega (arith, ints, clamps, greatest))))
+    let border = c.border_at.ensures in (
+      to_z-of_z w64 c.max-greatest.result top
+          ∙ (greatest
+          ∙ (ap (λ n. int_max n here) before.0
+          ∙ (ap (λ n. int_max (greatest_of (map f (range_with_len 0 c.loop-layer.layer))) n) (to_z-of_z w64 c.border_at.result one ∙ border.value)
+          ∙ sym (greatest_more f c.loop-layer.layer before.1.0)))),
+      (omega arith, (omega (arith, ints, clamps, greatest), omega (arith, ints, clamps, greatest))),
+    )

@@ -10,4 +10,4 @@ loop-layer-preserved c =
     let clear : Color = record { r = 0; g = 0; b = 0; a = 0 } in
     c.in_ok-add_background.ensures
     ∙ kept_more is_shown (background_at c.args.look.now c.args.rect) c.args.shapes.now.items c.loop-layer.shapes.items
-        c.as_slice-color-items.result.now c.loop-layer.layer clear c.loop-layer-test.true c.loop-layer.invariant
+    c.as_slice-color-items.result.now c.loop-layer.layer clear c.loop-layer-test.true c.loop-layer.invariant

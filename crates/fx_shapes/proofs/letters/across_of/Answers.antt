@@ -19,9 +19,9 @@ returns c =
     let used : c.saturating_mul-used.result ≡ min wide 18446744073709551615 = c.saturating_mul-used.ensures ∙ ap (λ n. min n 18446744073709551615) product in
     let small : whole b.clip.w ≤ 18446744073709551615 = omega (arith, free, c.length.type_inv) in
     let is : c.aligned.result ≡ aligned how wide (whole b.clip.w) =
-        c.aligned.ensures.value
-        ∙ (ap (λ n. aligned how n c.length.result) used
-        ∙ (ap (λ n. aligned how (min wide 18446744073709551615) n) free ∙ aligned_capped how wide 18446744073709551615 (whole b.clip.w) small)) in
+    c.aligned.ensures.value
+    ∙ (ap (λ n. aligned how n c.length.result) used
+    ∙ (ap (λ n. aligned how (min wide 18446744073709551615) n) free ∙ aligned_capped how wide 18446744073709551615 (whole b.clip.w) small)) in
     let most = c.aligned.ensures.most in
     let same = c.length.ensures.same in
     let near = c.requires.clip.near in

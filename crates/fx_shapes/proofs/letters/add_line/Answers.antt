@@ -23,9 +23,9 @@ returns-in-Some c =
     let most = c.requires.most in
     let scale : to_z w64 b.scale ≡ pos b.scale = omega (arith, ints) in
     let shape : Letters (to_z w64 (of_z w64 c.across_of.result)) (to_z w64 (of_z w64 c.in-Some.y)) (to_z w64 b.scale) c.args.line b.clip b.color
-        ≡ line_at b (c.args.index, c.args.line) =
-        letters_made _ _ _ _ _ _ c.args.line b.clip b.color
-            (to_z-of_z w64 c.across_of.result x ∙ c.across_of.ensures) (to_z-of_z w64 c.in-Some.y y ∙ c.in-Some.ensures.some) scale in
+    ≡ line_at b (c.args.index, c.args.line) =
+    letters_made _ _ _ _ _ _ c.args.line b.clip b.color
+    (to_z-of_z w64 c.across_of.result x ∙ c.across_of.ensures) (to_z-of_z w64 c.in-Some.y y ∙ c.in-Some.ensures.some) scale in
     subst (λ (s : Shape). OnOk c.add_shown.result (c.add_shown.new.shapes.items ≡ c.args.shapes.now.items ++ shown (s ∷ []))) shape c.add_shown.ensures
 
 pub returns-in-None : goal.returns-in-None

@@ -10,4 +10,4 @@ loop-index-preserved c =
     c.in_ok-add_line.ensures
     ∙ (ap (λ l. c.loop-index.shapes.items ++ shown (line_at b (c.loop-index.index, l) ∷ [])) c.in_ok-line.ensures
     ∙ kept_more_mapped is_shown (line_at b) (line_of c.args.text.now) c.args.shapes.now.items c.loop-index.shapes.items
-        c.args.ranges.now c.loop-index.index (0, 0) c.loop-index-test.true c.loop-index.invariant)
+    c.args.ranges.now c.loop-index.index (0, 0) c.loop-index-test.true c.loop-index.invariant)

@@ -1,4 +1,4 @@
-use Rattle.std.proofs.Common.{List, [], ℕ, length, subst, sym, ◌∷◌, arith}
+use Rattle.std.proofs.Common.{List, [], ℕ, length, subst, ◌∷◌, arith}
 use Rattle.std.proofs.lemmas.List.Elements.{All-nil, All-cons, All-same}
 use Rattle.std.proofs.lemmas.Str.{IsCharBoundary-start, IsCharBoundary-end}
 use Rattle.fx_shapes.specs.Letters.{IsPiece}

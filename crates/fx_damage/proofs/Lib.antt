@@ -1,0 +1,4 @@
+pub mod BoundsLemmas
+pub mod MergeLemmas
+pub mod BirthLemmas
+pub mod OutsideLemmas

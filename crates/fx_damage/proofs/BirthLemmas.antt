@@ -1,29 +1,21 @@
 -- Birth numbers in order: two rising lists with the same members are one.
-use Rattle.std.proofs.Common.{ℕ, Bool, ◌≡◌, ◌<◌, ◌≤◌, ◌+◌, ◌==◌, ◌∙◌, refl, sym, ap, true, false, cond, List, [], ◌∷◌, ◌++◌, arith, ◌||◌, ◌&&◌, nat_lt, subst, inl, inr}
+use Rattle.std.proofs.Common.{ℕ, Bool, ◌≡◌, ◌<◌, ◌≤◌, ◌==◌, ◌∙◌, refl, sym, ap, true, false, cond, List, [], ◌∷◌, ◌++◌, arith, ◌||◌, ◌&&◌, subst, inl, inr}
 use Rattle.std.specs.List.{list_any, filter, flat_map}
 use Rattle.std.proofs.lemmas.Bool.{cases_order, cases_eq}
 use Rattle.fx_picture.specs.declared.entries.Entry.{Entry}
+use Rattle.fx_damage.specs.Births.{AllAbove, RisesStrictly, is_among}
 use Rattle.fx_damage.specs.Damage.{with_birth, births_of}
-
-abbrev pub is_among : List ℕ → ℕ → Bool
-is_among births k = list_any (λ b. b == k) births
-
-abbrev pub AllAbove : ℕ → List ℕ → Type 0
-AllAbove b [] = Unit {0}
-AllAbove b (c ∷ cs) = (b < c) × AllAbove b cs
-
-abbrev pub RisesStrictly : List ℕ → Type 0
-RisesStrictly [] = Unit {0}
-RisesStrictly (b ∷ bs) = AllAbove b bs × RisesStrictly bs
 
 -- by what inserting does
 by_step : (P : List ℕ → Type 0) (b c : ℕ) (cs : List ℕ) → (b < c → P (b ∷ c ∷ cs)) → (b ≡ c → P (c ∷ cs)) → (c < b → P (c ∷ with_birth b cs))
     → P (with_birth b (c ∷ cs))
 by_step P b c cs l e g = elim (cases_order b c) [
-    inl h ↦ (let q : c ∷ cs ≡ with_birth b (c ∷ cs) = grind (arith, h) in subst P q (e h))
+  | inl h ↦ (let q : c ∷ cs ≡ with_birth b (c ∷ cs) = grind (arith, h) in subst P q (e h))
   | inr o ↦ elim o [
-        inl h ↦ (let q : b ∷ c ∷ cs ≡ with_birth b (c ∷ cs) = grind (arith, h) in subst P q (l h))
-      | inr h ↦ (let q : c ∷ with_birth b cs ≡ with_birth b (c ∷ cs) = grind (arith, h) in subst P q (g h)) ] ]
+    | inl h ↦ (let q : b ∷ c ∷ cs ≡ with_birth b (c ∷ cs) = grind (arith, h) in subst P q (l h))
+    | inr h ↦ (let q : c ∷ with_birth b cs ≡ with_birth b (c ∷ cs) = grind (arith, h) in subst P q (g h))
+  ]
+]
 
 among-with_birth : (b : ℕ) (cs : List ℕ) (k : ℕ) → is_among (with_birth b cs) k ≡ (b == k || is_among cs k)
 among-with_birth b [] k = refl
@@ -69,8 +61,9 @@ same_head a b as' bs p q s =
 same_tail : (a : ℕ) (as' bs : List ℕ) → AllAbove a as' → AllAbove a bs
     → ((k : ℕ) → is_among (a ∷ as') k ≡ is_among (a ∷ bs) k) → (k : ℕ) → is_among as' k ≡ is_among bs k
 same_tail a as' bs p q s k = elim (cases_order a k) [
-    inl h ↦ (let z1 = above_none a as' k (omega (arith, h)) p in let z2 = above_none a bs k (omega (arith, h)) q in z1 ∙ sym z2)
-  | inr o ↦ (let t = s k in let n : a ≡ k → ⊥ = λ e. (elim o [ inl l ↦ omega (arith, l, e) | inr l ↦ omega (arith, l, e) ]) in grind (arith, t, n)) ]
+  | inl h ↦ (let z1 = above_none a as' k (omega (arith, h)) p in let z2 = above_none a bs k (omega (arith, h)) q in z1 ∙ sym z2)
+  | inr o ↦ (let t = s k in let n : a ≡ k → ⊥ = λ e. (elim o [ inl l ↦ omega (arith, l, e) | inr l ↦ omega (arith, l, e) ]) in grind (arith, t, n))
+]
 
 rising_same_more : (a : ℕ) (as' : List ℕ) (b : ℕ) (bs : List ℕ) → a ≡ b → RisesStrictly (a ∷ as') → RisesStrictly (b ∷ bs)
     → ((k : ℕ) → is_among (a ∷ as') k ≡ is_among (b ∷ bs) k) → (((k : ℕ) → is_among as' k ≡ is_among bs k) → as' ≡ bs) → a ∷ as' ≡ b ∷ bs
@@ -89,9 +82,13 @@ rising_same (a ∷ as') (b ∷ bs) p q s =
 among_step : (p : ℕ → Bool) (b : ℕ) (bs : List ℕ) (k : ℕ) (t : Bool) → p b ≡ t → is_among (filter p bs) k ≡ (p k && is_among bs k)
     → is_among (cond t (b ∷ filter p bs) (filter p bs)) k ≡ (p k && (b == k || is_among bs k))
 among_step p b bs k true q n = elim (cases_eq b k) [
-    inl h ↦ (let e : p k ≡ true = ap p (sym h) ∙ q in grind (arith, e, h)) | inr h ↦ grind (arith, n, h) ]
+  | inl h ↦ (let e : p k ≡ true = ap p (sym h) ∙ q in grind (arith, e, h))
+  | inr h ↦ grind (arith, n, h)
+]
 among_step p b bs k false q n = elim (cases_eq b k) [
-    inl h ↦ (let e : p k ≡ false = ap p (sym h) ∙ q in grind (arith, e, h, n)) | inr h ↦ grind (arith, n, h) ]
+  | inl h ↦ (let e : p k ≡ false = ap p (sym h) ∙ q in grind (arith, e, h, n))
+  | inr h ↦ grind (arith, n, h)
+]
 
 pub among-filter : (p : ℕ → Bool) (bs : List ℕ) (k : ℕ) → is_among (filter p bs) k ≡ (p k && is_among bs k)
 among-filter p [] k = elim (p k) as (λ t. false ≡ (t && false)) [ true ↦ refl | false ↦ refl ]
@@ -100,12 +97,16 @@ among-filter p (b ∷ bs) k = among_step p b bs k (p b) refl (among-filter p bs 
 AllAbove-filter : (p : ℕ → Bool) (a : ℕ) (bs : List ℕ) → AllAbove a bs → AllAbove a (filter p bs)
 AllAbove-filter p a [] h = tt
 AllAbove-filter p a (b ∷ bs) h = elim (p b) as (λ t. AllAbove a (cond t (b ∷ filter p bs) (filter p bs))) [
-    true ↦ (h.0, AllAbove-filter p a bs h.1) | false ↦ AllAbove-filter p a bs h.1 ]
+  | true ↦ (h.0, AllAbove-filter p a bs h.1)
+  | false ↦ AllAbove-filter p a bs h.1
+]
 
 pub rises-filter : (p : ℕ → Bool) (bs : List ℕ) → RisesStrictly bs → RisesStrictly (filter p bs)
 rises-filter p [] h = tt
 rises-filter p (b ∷ bs) h = elim (p b) as (λ t. RisesStrictly (cond t (b ∷ filter p bs) (filter p bs))) [
-    true ↦ (AllAbove-filter p b bs h.0, rises-filter p bs h.1) | false ↦ rises-filter p bs h.1 ]
+  | true ↦ (AllAbove-filter p b bs h.0, rises-filter p bs h.1)
+  | false ↦ rises-filter p bs h.1
+]
 
 filter_test : {B : Type 0} (f : ℕ → List B) (p : ℕ → Bool) (b : ℕ) (bs : List ℕ) (t : Bool) → p b ≡ t → flat_map f bs ≡ flat_map f (filter p bs)
     → (p b ≡ false → f b ≡ []) → f b ++ flat_map f bs ≡ flat_map f (cond t (b ∷ filter p bs) (filter p bs))

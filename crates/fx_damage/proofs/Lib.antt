@@ -2,3 +2,6 @@ pub mod BoundsLemmas
 pub mod MergeLemmas
 pub mod BirthLemmas
 pub mod OutsideLemmas
+pub mod WindowLemmas
+pub mod CandidateLemmas
+pub mod FindingLemmas

@@ -1,8 +1,8 @@
 -- Two pictures in pre-order show the same at a point, if each entry that shows there in one stands in the other too.
-use Rattle.std.proofs.Common.{◌≡◌, ◌≢◌, ◌≤◌, ◌+◌, ◌⊎◌, ◌||◌, ℕ, suc, zero, Bool, true, false, cond, List, [], ◌∷◌, ◌++◌, length, refl, sym, ap, subst, ◌∙◌, inl, inr, arith}
-use Rattle.std.specs.Prelude.{All, nat_eq}
+use Rattle.std.proofs.Common.{◌≡◌, ◌≤◌, ◌+◌, ◌⊎◌, ◌||◌, ℕ, suc, zero, Bool, true, false, cond, List, [], ◌∷◌, ◌++◌, length, refl, sym, ap, subst, ◌∙◌, inl, inr, arith}
+use Rattle.std.specs.Prelude.{All}
 use Rattle.std.specs.Cmp.Lexicographic.{slice_cmp}
-use Rattle.std.specs.List.{flat_map, list_any}
+use Rattle.std.specs.List.{list_any}
 use Rattle.std.specs.Ordering.{nat_cmp, ordering_reverse, is_eq}
 use Rattle.std.specs.declared.cmp.Ordering.{Ordering}
 use Rattle.std.specs.declared.cmp.Ordering.TheVariants.{Less, Equal, Greater}
@@ -169,8 +169,8 @@ same_pixels (suc n) x y u [] (f ∷ fs) b re rf s t =
 same_pixels (suc n) x y u (e ∷ es) (f ∷ fs) b re rf s t =
     by_order x y u e f es fs re rf s t (slice_cmp nat_cmp e.path f.path) refl
     (λ q. same_pixels n x y u es (f ∷ fs) (omega (arith, b)) re.1 rf (λ g a p. s g (inr a) p)
-        (rest_stands x y e es (f ∷ fs) (all_before e f fs q rf.0) t))
+    (rest_stands x y e es (f ∷ fs) (all_before e f fs q rf.0) t))
     (λ q. same_pixels n x y u (e ∷ es) fs (omega (arith, b)) re rf.1
-        (rest_stands x y f fs (e ∷ es) (all_before f e es q re.0) s) (λ g a p. t g (inr a) p))
+    (rest_stands x y f fs (e ∷ es) (all_before f e es q re.0) s) (λ g a p. t g (inr a) p))
     (λ v same. same_pixels n x y v es fs (omega (arith, b)) re.1 rf.1
-        (tail_stands x y e f es fs same re.0 s) (tail_stands x y f e fs es (sym same) rf.0 t))
+    (tail_stands x y e f es fs same re.0 s) (tail_stands x y f e fs es (sym same) rf.0 t))

@@ -1,11 +1,9 @@
 -- Outside the damage both pictures show the same.
-use Rattle.std.proofs.Common.{◌≡◌, ◌<◌, ◌≤◌, ◌+◌, ◌⊎◌, ◌==◌, ◌≤ℤ◌, ℕ, ℤ, pos, Bool, true, false, ◌&&◌, ◌||◌, not, cond, List, [], ◌∷◌, ◌++◌, length, map, Option, Some, None, refl, sym, ap, subst, ◌∙◌, inl, inr, arith, nat_lt}
+use Rattle.std.proofs.Common.{◌≡◌, ◌<◌, ◌+◌, ◌==◌, ℕ, Bool, true, false, ◌||◌, not, cond, List, [], ◌∷◌, ◌++◌, length, map, Option, Some, None, refl, sym, ap, ◌∙◌, inl, inr, arith, nat_lt}
 use Rattle.std.specs.Prelude.{nat_eq}
-use Rattle.std.specs.Bool.{Decides}
 use Rattle.std.specs.Cmp.Lexicographic.{pointwise}
-use Rattle.std.specs.List.{filter, flat_map, list_any}
-use Rattle.std.specs.Ordering.{int_eq}
-use Rattle.std.proofs.lemmas.Bool.Decides.{Decides-int_eq, Decides-eqb, nat_tests}
+use Rattle.std.specs.List.{flat_map, list_any}
+use Rattle.std.proofs.lemmas.Bool.Decides.{Decides-int_eq, Decides-eqb}
 use Rattle.std.proofs.lemmas.Int.{ints}
 use Rattle.std.proofs.lemmas.List.Folds.{list_any-append}
 use Rattle.std.proofs.lemmas.Slice.Eq.{slice_eq-Decides}
@@ -17,15 +15,15 @@ use Rattle.fx_picture.specs.declared.entries.Entry.{Entry}
 use Rattle.fx_picture.specs.declared.shapes.Shape.{Shape}
 use Rattle.fx_picture.specs.declared.shapes.Shape.TheVariants.{Fill, Letters}
 use Rattle.fx_picture.specs.Bounds.{are_same, bounds_of, hull_of, in_range, is_empty, meet, rect_of, within}
-use Rattle.fx_picture.specs.Entries.{HasDistinctBirths, Rises, entry_with}
-use Rattle.fx_picture.specs.Pixels.{pixel}
+use Rattle.fx_picture.specs.Entries.{HasDistinctBirths, entry_with}
 use Rattle.fx_picture.specs.Sameness.{is_same_shape}
 use Rattle.fx_picture.specs.Shapes.{bounds, holds}
 use Rattle.fx_picture.proofs.SamenessLemmas.{Decides-shapes}
-use Rattle.fx_damage.specs.Damage.{stays, box_of, two_boxes, boxes_of, boxes_at, births_of, changed_boxes, window, cut_all, at_most_sixteen, damage, covered}
+use Rattle.fx_damage.specs.Damage.{stays, box_of, boxes_of, boxes_at, births_of, changed_boxes, window, cut_to, at_most_sixteen, damage, covered}
+use Rattle.fx_damage.specs.Births.{is_among}
 use Rattle.fx_damage.specs.Laws.{SameOutside}
-use Rattle.fx_damage.proofs.BoundsLemmas.{InRange, Within, both_true, within_tells, within_from, within-some, within-meet, within-hull_of, inside-rect_of}
-use Rattle.fx_damage.proofs.BirthLemmas.{is_among, has_birth, among-births}
+use Rattle.fx_damage.proofs.BoundsLemmas.{Within, both_true, within_tells, within_from, within-some, within-meet, within-hull_of, inside-rect_of}
+use Rattle.fx_damage.proofs.BirthLemmas.{has_birth, among-births}
 use Rattle.fx_damage.proofs.MergeLemmas.{Among, Stands, AllStand, touches, same_pixels}
 
 -- whether a point lies within one of these bounds
@@ -112,20 +110,20 @@ window_within w h x y p q = record {
   down = record { from = omega (arith, ints); to = omega (arith, ints) };
 }
 
-pub any-cut : (bs : List Bounds) (w h x y : ℕ) → x < w → y < h → any_within bs x y ≡ true → any_within (cut_all w h bs) x y ≡ true
+pub any-cut : (bs : List Bounds) (w h x y : ℕ) → x < w → y < h → any_within bs x y ≡ true → any_within (cut_to (window w h) bs) x y ≡ true
 any-cut [] w h x y p q t = cc
 any-cut (b ∷ bs) w h x y p q t = cut (within b x y) (is_empty (meet (window w h) b)) refl refl t (λ r. any-cut bs w h x y p q r)
   where
     cut : (in' empty : Bool) → within b x y ≡ in' → is_empty (meet (window w h) b) ≡ empty → (in' || any_within bs x y) ≡ true
-        → (any_within bs x y ≡ true → any_within (cut_all w h bs) x y ≡ true)
-        → any_within (cond (not empty) (meet (window w h) b ∷ cut_all w h bs) (cut_all w h bs)) x y ≡ true
+        → (any_within bs x y ≡ true → any_within (cut_to (window w h) bs) x y ≡ true)
+        → any_within (cond (not empty) (meet (window w h) b ∷ cut_to (window w h) bs) (cut_to (window w h) bs)) x y ≡ true
     cut true true e f t go =
         let some = within-some (meet (window w h) b) x y (within-meet (window w h) b x y (window_within w h x y p q) (within_tells b x y e)) in cc
     cut true false e f t go =
         let here = within_from (meet (window w h) b) x y (within-meet (window w h) b x y (window_within w h x y p q) (within_tells b x y e)) in
         rw here refl
     cut false true e f t go = go t
-    cut false false e f t go = or_right (within (meet (window w h) b) x y) (any_within (cut_all w h bs) x y) (go t)
+    cut false false e f t go = or_right (within (meet (window w h) b) x y) (any_within (cut_to (window w h) bs) x y) (go t)
 
 pub any-few : (bs : List Bounds) (x y : ℕ) → any_within bs x y ≡ true → any_within (at_most_sixteen bs) x y ≡ true
 any-few bs x y h = few (nat_lt 16 (length bs))
@@ -209,8 +207,8 @@ uncovered olds nows w h x y b p q none has in' =
     let births : is_among (births_of (olds ++ nows)) b ≡ true = among-births (olds ++ nows) b ∙ has in
     let all = any_flat (boxes_at olds nows) (births_of (olds ++ nows)) b x y births in' in
     let cut = any-cut (changed_boxes olds nows) w h x y p q all in
-    let few = any-few (cut_all w h (changed_boxes olds nows)) x y cut in
-    let shown : covered (damage (Some olds) nows w h) x y ≡ true = covered-rects (at_most_sixteen (cut_all w h (changed_boxes olds nows))) x y ∙ few in
+    let few = any-few (cut_to (window w h) (changed_boxes olds nows)) x y cut in
+    let shown : covered (damage (Some olds) nows w h) x y ≡ true = covered-rects (at_most_sixteen (cut_to (window w h) (changed_boxes olds nows))) x y ∙ few in
     cc
 
 olds_stand : (olds nows : List Entry) (w h x y : ℕ) → HasDistinctBirths olds → x < w → y < h

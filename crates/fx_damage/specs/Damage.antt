@@ -15,7 +15,8 @@ use Rattle.fx_picture.specs.declared.entries.Entry.{Entry}
 abbrev pub stays : Option Entry → Option Entry → Bool
 stays (Some e) (Some f) = pointwise nat_eq e.path f.path && pointwise is_same_shape e.shapes f.shapes
 stays (Some e) None = false
-stays None f = false
+stays None (Some f) = false
+stays None None = true
 
 -- the bounding box of the shapes of a node, if it shows
 unfoldable pub box_of : Option Entry → Bounds
@@ -51,8 +52,8 @@ abbrev pub window : ℕ → ℕ → Bounds
 window w h = record { min_x = pos 0; min_y = pos 0; max_x = pos w; max_y = pos h }
 
 -- each cut to the window, without the empty ones
-abbrev pub cut_all : ℕ → ℕ → List Bounds → List Bounds
-cut_all w h boxes = filter (λ b. not (is_empty b)) (map (meet (window w h)) boxes)
+abbrev pub cut_to : Bounds → List Bounds → List Bounds
+cut_to w boxes = filter (λ b. not (is_empty b)) (map (meet w) boxes)
 
 -- more than sixteen become their bounding box
 abbrev pub at_most_sixteen : List Bounds → List Bounds
@@ -61,7 +62,7 @@ at_most_sixteen boxes = if nat_lt 16 (length boxes) then hull_of boxes ∷ [] el
 -- the damage of a window: all of it, where there is no last picture of this window
 abbrev pub damage : Option (List Entry) → List Entry → ℕ → ℕ → List Rect
 damage None nows w h = rect_of (window w h) ∷ []
-damage (Some olds) nows w h = map rect_of (at_most_sixteen (cut_all w h (changed_boxes olds nows)))
+damage (Some olds) nows w h = map rect_of (at_most_sixteen (cut_to (window w h) (changed_boxes olds nows)))
 
 -- whether a point lies in one of the rectangles
 abbrev pub covered : List Rect → ℕ → ℕ → Bool

@@ -4,6 +4,13 @@
 
 ghost use Rattle.fx_damage.specs.Laws.{SameOutside};
 
+mod births;
+mod boxes;
+mod finding;
+mod rects;
+
+pub use rects::damage;
+
 /// Outside the damage, at every point of the window, both pictures show the same, also where children change places.
 pub fn same_outside()
     ensures { SameOutside }

@@ -1,0 +1,7 @@
+use Rattle.std.proofs.Common.{◌≡◌, drop, fold, map}
+use Rattle.fx_picture.specs.Bounds.{hull_of, join}
+use Rattle.fx_picture.specs.Shapes.{bounds}
+use Rattle.fx_damage.proofs.boxes.around_shapes.Given as goal
+
+abbrev pub invariant-loop-shape : goal.invariant-loop-shape
+invariant-loop-shape l = fold join l.all (map bounds (drop l.shape-index l.shapes)) ≡ hull_of (map bounds l.shapes)

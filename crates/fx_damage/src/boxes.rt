@@ -1,0 +1,137 @@
+//! The boxes of nodes, each cut to the window.
+ghost use Rattle.std.specs.Prelude.{◌≡◌, ◌++◌, ◌∷◌, [], IfOk, OnOk, Some, None, map};
+ghost use Rattle.std.specs.List.{flat_map};
+ghost use Rattle.std.specs.Option.{option_copied};
+ghost use Rattle.fx_damage.specs.Damage.{box_of, boxes_at, boxes_of, changed_boxes, cut_to, stays, two_boxes};
+ghost use Rattle.fx_picture.specs.Bounds.{hull_of};
+ghost use Rattle.fx_picture.specs.Entries.{HasDistinctBirths};
+ghost use Rattle.fx_picture.specs.Shapes.{bounds};
+
+use crate::births::{changed_births, stays};
+use crate::finding::entry_with;
+use fx_picture::{Bounds, Entry, Shape, bounds, is_empty, joined, meeting, same_bounds};
+use std::alloc::{AllocError, Global};
+
+/// Bounds in which no point lies.
+pub(crate) const NOWHERE: Bounds = Bounds {
+    min_x: 0,
+    min_y: 0,
+    max_x: 0,
+    max_y: 0,
+};
+
+/// The boxes of all nodes that don't stay, in order of their birth numbers, each cut to the window.
+pub(crate) fn changed_boxes(
+    alloc: Global,
+    olds: &[Entry],
+    nows: &[Entry],
+    window: Bounds,
+) -> Result<Vec<Bounds>, AllocError>
+    requires olds { HasDistinctBirths olds.now }
+    requires nows { HasDistinctBirths nows.now }
+    ensures { IfOk result (λ boxes. boxes.items ≡ cut_to window (changed_boxes olds.now nows.now)) }
+{
+    let births = changed_births(alloc, olds, nows)?;
+    let boxes = boxes_with(alloc, births.as_slice(), olds, nows, window)?;
+    Ok(boxes)
+}
+
+/// The boxes of the nodes with these birth numbers, each cut to the window.
+fn boxes_with(
+    alloc: Global,
+    births: &[u32],
+    olds: &[Entry],
+    nows: &[Entry],
+    window: Bounds,
+) -> Result<Vec<Bounds>, AllocError>
+    requires olds { HasDistinctBirths olds.now }
+    requires nows { HasDistinctBirths nows.now }
+    ensures { IfOk result (λ boxes. boxes.items ≡ cut_to window (flat_map (boxes_at olds.now nows.now) births.now)) }
+{
+    let mut boxes = Vec::new(alloc);
+    let mut old_place = 0;
+    let mut place = 0;
+    for birth in births {
+        let old = entry_with(olds, *birth, &mut old_place);
+        let now = entry_with(nows, *birth, &mut place);
+        add_boxes(&mut boxes, old, now, window)?;
+    }
+    Ok(boxes)
+}
+
+/// Adds the boxes of a node that doesn't stay: the old one, and the new one if it is another.
+fn add_boxes(
+    boxes: &mut Vec<Bounds>,
+    old: Option<&Entry>,
+    now: Option<&Entry>,
+    window: Bounds,
+) -> Result<(), AllocError>
+    ensures { OnOk result (boxes.new.items
+        ≡ boxes.old.items ++ cut_to window (boxes_of (option_copied old.entry) (option_copied now.entry))) }
+{
+    if both_stay(old, now) {
+        return Ok(());
+    }
+    add_two(boxes, box_of(old), box_of(now), window)
+}
+
+fn both_stay(old: Option<&Entry>, now: Option<&Entry>) -> bool
+    ensures { result ≡ stays (option_copied old.entry) (option_copied now.entry) }
+{
+    match old {
+        Some(old) => match now {
+            Some(now) => stays(old, now),
+            None => false,
+        },
+        None => now.is_none(),
+    }
+}
+
+fn add_two(
+    boxes: &mut Vec<Bounds>,
+    old: Bounds,
+    now: Bounds,
+    window: Bounds,
+) -> Result<(), AllocError>
+    ensures { OnOk result (boxes.new.items ≡ boxes.old.items ++ cut_to window (two_boxes old now)) }
+{
+    add_cut(boxes, old, window)?;
+    if same_bounds(old, now) {
+        return Ok(());
+    }
+    add_cut(boxes, now, window)?;
+    Ok(())
+}
+
+/// Adds a box, cut to the window, unless nothing is left of it.
+fn add_cut(boxes: &mut Vec<Bounds>, bounds: Bounds, window: Bounds) -> Result<(), AllocError>
+    ensures { OnOk result (boxes.new.items ≡ boxes.old.items ++ cut_to window (bounds ∷ [])) }
+{
+    let cut = meeting(window, bounds);
+    if is_empty(cut) {
+        return Ok(());
+    }
+    boxes.push(cut)?;
+    Ok(())
+}
+
+/// The bounding box of the shapes of a node, if it shows.
+#[tactic(auto, unfolding(crate::specs::Damage::box_of))]
+fn box_of(entry: Option<&Entry>) -> Bounds
+    ensures { result ≡ box_of (option_copied entry.entry) }
+{
+    match entry {
+        Some(entry) => around_shapes(entry.shapes.as_slice()),
+        None => NOWHERE,
+    }
+}
+
+fn around_shapes(shapes: &[Shape]) -> Bounds
+    ensures { result ≡ hull_of (map bounds shapes.now) }
+{
+    let mut all = NOWHERE;
+    for shape in shapes {
+        all = joined(all, bounds(shape));
+    }
+    all
+}

@@ -1,4 +1,3 @@
-pub mod BoundsLemmas
 pub mod MergeLemmas
 pub mod BirthLemmas
 pub mod OutsideLemmas

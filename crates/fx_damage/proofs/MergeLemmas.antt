@@ -12,16 +12,13 @@ use Rattle.std.proofs.lemmas.Map.Text.{is_eq-slice_cmp}
 use Rattle.std.proofs.lemmas.Slice.Eq.{bytes_eq-Decides}
 use Rattle.fx_picture.specs.declared.entries.Entry.{Entry}
 use Rattle.fx_picture.specs.declared.shapes.Shape.{Shape}
+use Rattle.fx_picture.proofs.PixelLemmas.{over-append}
 use Rattle.fx_picture.specs.Entries.{IsBefore, Rises}
 use Rattle.fx_picture.specs.Pixels.{laid, over, shapes_of}
 use Rattle.fx_base.specs.Pixel.{blended}
 use Rattle.fx_picture.specs.Shapes.{color_of, holds}
 
 -- ---- shapes at a point
-pub over-append : (x y u : ℕ) (ss ts : List Shape) → over x y u (ss ++ ts) ≡ over x y (over x y u ss) ts
-over-append x y u [] ts = refl
-over-append x y u (s ∷ ss) ts = over-append x y (laid s x y u) ss ts
-
 -- whether a shape of the entry holds the point
 abbrev pub touches : ℕ → ℕ → Entry → Bool
 touches x y e = list_any (λ s. holds s x y) e.shapes

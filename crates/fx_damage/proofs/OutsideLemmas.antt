@@ -16,13 +16,14 @@ use Rattle.fx_picture.specs.declared.shapes.Shape.{Shape}
 use Rattle.fx_picture.specs.declared.shapes.Shape.TheVariants.{Fill, Letters}
 use Rattle.fx_picture.specs.Bounds.{are_same, bounds_of, hull_of, in_range, is_empty, meet, rect_of, within}
 use Rattle.fx_picture.specs.Entries.{HasDistinctBirths, entry_with}
+use Rattle.fx_picture.specs.Pixels.{covered}
 use Rattle.fx_picture.specs.Sameness.{is_same_shape}
 use Rattle.fx_picture.specs.Shapes.{bounds, holds}
 use Rattle.fx_picture.proofs.SamenessLemmas.{Decides-shapes}
-use Rattle.fx_damage.specs.Damage.{stays, box_of, boxes_of, boxes_at, births_of, changed_boxes, window, cut_to, at_most_sixteen, damage, covered}
+use Rattle.fx_damage.specs.Damage.{stays, box_of, boxes_of, boxes_at, births_of, changed_boxes, window, cut_to, at_most_sixteen, damage}
 use Rattle.fx_damage.specs.Births.{is_among}
 use Rattle.fx_damage.specs.Laws.{SameOutside}
-use Rattle.fx_damage.proofs.BoundsLemmas.{Within, both_true, within_tells, within_from, within-some, within-meet, within-hull_of, inside-rect_of}
+use Rattle.fx_picture.proofs.BoundsLemmas.{Within, both_true, within_tells, within_from, within-some, within-meet, within-hull_of, inside-rect_of}
 use Rattle.fx_damage.proofs.BirthLemmas.{has_birth, among-births}
 use Rattle.fx_damage.proofs.MergeLemmas.{Among, Stands, AllStand, touches, same_pixels}
 

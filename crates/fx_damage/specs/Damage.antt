@@ -1,8 +1,7 @@
 -- The damage between two pictures: the rectangles in which they may differ.
 use Rattle.std.specs.Prelude.{ℕ, pos, Bool, true, false, ◌&&◌, ◌==◌, List, [], ◌∷◌, ◌++◌, Option, Some, None, length, map, nat_eq, nat_lt, not, if◌then◌else◌}
 use Rattle.std.specs.Cmp.Lexicographic.{pointwise}
-use Rattle.std.specs.List.{filter, flat_map, list_any}
-use Rattle.fx_base.specs.Rectangle.{inside}
+use Rattle.std.specs.List.{filter, flat_map}
 use Rattle.fx_base.specs.declared.geometry.Rect.{Rect}
 use Rattle.fx_picture.specs.Bounds.{are_same, hull_of, is_empty, meet, nowhere, rect_of}
 use Rattle.fx_picture.specs.Entries.{entry_with}
@@ -63,7 +62,3 @@ at_most_sixteen boxes = if nat_lt 16 (length boxes) then hull_of boxes ∷ [] el
 abbrev pub damage : Option (List Entry) → List Entry → ℕ → ℕ → List Rect
 damage None nows w h = rect_of (window w h) ∷ []
 damage (Some olds) nows w h = map rect_of (at_most_sixteen (cut_to (window w h) (changed_boxes olds nows)))
-
--- whether a point lies in one of the rectangles
-abbrev pub covered : List Rect → ℕ → ℕ → Bool
-covered rects x y = list_any (λ r. inside r x y) rects

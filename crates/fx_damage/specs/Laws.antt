@@ -1,8 +1,8 @@
 -- What damage is good for: outside it, both pictures show the same.
 use Rattle.std.specs.Prelude.{◌≡◌, ◌<◌, ℕ, List, Some, false}
-use Rattle.fx_damage.specs.Damage.{covered, damage}
+use Rattle.fx_damage.specs.Damage.{damage}
 use Rattle.fx_picture.specs.Entries.{HasDistinctBirths, Rises}
-use Rattle.fx_picture.specs.Pixels.{pixel}
+use Rattle.fx_picture.specs.Pixels.{covered, pixel}
 use Rattle.fx_picture.specs.declared.entries.Entry.{Entry}
 
 abbrev pub SameOutside : Type 0

@@ -1,2 +1,4 @@
 pub mod CellLemmas
 pub mod SamenessLemmas
+pub mod BoundsLemmas
+pub mod PixelLemmas

@@ -1,7 +1,9 @@
 -- The colour of a point, painted from scratch.
-use Rattle.std.specs.Prelude.{ℕ, List, [], ◌∷◌, if◌then◌else◌}
-use Rattle.std.specs.List.{flat_map}
+use Rattle.std.specs.Prelude.{ℕ, Bool, List, [], ◌∷◌, if◌then◌else◌}
+use Rattle.std.specs.List.{flat_map, list_any}
 use Rattle.fx_base.specs.Pixel.{blended, white}
+use Rattle.fx_base.specs.Rectangle.{inside}
+use Rattle.fx_base.specs.declared.geometry.Rect.{Rect}
 use Rattle.fx_picture.specs.declared.entries.Entry.{Entry}
 use Rattle.fx_picture.specs.declared.shapes.Shape.{Shape}
 use Rattle.fx_picture.specs.Shapes.{color_of, holds}
@@ -22,3 +24,7 @@ shapes_of entries = flat_map (λ (e : Entry). e.shapes) entries
 -- white, then each shape of the picture that holds the point, in order
 abbrev pub pixel : List Entry → ℕ → ℕ → ℕ
 pixel entries x y = over x y white (shapes_of entries)
+
+-- whether a point lies in one of the rectangles
+abbrev pub covered : List Rect → ℕ → ℕ → Bool
+covered rects x y = list_any (λ r. inside r x y) rects

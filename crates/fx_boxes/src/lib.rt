@@ -7,6 +7,4 @@ pub mod hbox;
 pub mod pane;
 pub mod region;
 mod rows;
-#[cfg(test)]
-mod tests;
 pub mod vbox;

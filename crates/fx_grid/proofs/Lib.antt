@@ -1,4 +1,5 @@
 pub mod CountLemmas
 pub mod GridLemmas
 pub mod GridTests
+pub mod NeedLemmas
 pub mod SharingLemmas

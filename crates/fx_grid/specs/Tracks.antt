@@ -1,6 +1,6 @@
 -- The columns or the rows of a grid, by their constraints and by the children along one axis.
 -- Cited by src/tracks.rt and by the grid.
-use Rattle.std.specs.Prelude.{ℕ, ℤ, pos, negsuc, Bool, ◌+◌, ◌-◌, ◌^◌, ◌≤◌, ◌==◌, ◌&&◌, ◌++◌, nat_le, nat_lt, if◌then◌else◌, List, fold, length, map, max, min, replicate, sum, take, drop, slice_index, slice_index_or, None, unwrap_or}
+use Rattle.std.specs.Prelude.{◌≡◌, ◌<◌, ℕ, ℤ, pos, negsuc, Bool, ◌+◌, ◌-◌, ◌^◌, ◌≤◌, ◌==◌, ◌&&◌, ◌++◌, nat_le, nat_lt, if◌then◌else◌, List, fold, length, map, max, min, replicate, sum, take, drop, slice_index, slice_index_or, None, unwrap_or}
 use Rattle.std.specs.List.{range_with_len}
 use Rattle.std.specs.Simd.Lanes.{zip2}
 use Rattle.fx_base.specs.declared.facts.ChildSize.{ChildSize}
@@ -8,6 +8,7 @@ use Rattle.fx_base.specs.declared.facts.Track.{Track}
 use Rattle.fx_panes_parts.specs.declared.axes.Axis.{Axis}
 use Rattle.fx_panes_parts.specs.declared.axes.ChildAxis.{ChildAxis}
 use Rattle.fx_panes_parts.specs.declared.parts.Part.{Part}
+use Rattle.fx_grid.specs.declared.needs.Need.{Need}
 use Rattle.fx_panes_parts.specs.Axes.{child_axis, gaps}
 use Rattle.fx_panes_parts.specs.Lengths.{longest}
 use Rattle.fx_panes_parts.specs.Parts.{greatest_of}
@@ -41,6 +42,31 @@ alone bound k child = if is_alone k child then outer_by bound child else 0
 unfoldable pub alone_grow : ℕ → ChildAxis → ℕ
 alone_grow k child = if is_alone k child then unwrap_or child.grow 0 else 0
 
+-- what the children that are alone in a track need there: the greatest of their lengths, and of their priorities
+abbrev pub need_of : List ChildAxis → ℕ → Need
+need_of children k = record {
+  least = greatest_of (map (alone Minimum k) children);
+  wish = greatest_of (map (alone Preferred k) children);
+  grow = greatest_of (map (alone_grow k) children);
+}
+
+-- what they need with one child more
+unfoldable pub raised : ChildAxis → ℕ → Need → Need
+raised child k need = record {
+  least = max (alone Minimum k child) need.least;
+  wish = max (alone Preferred k child) need.wish;
+  grow = max (alone_grow k child) need.grow;
+}
+
+-- of no children
+abbrev pub no_need : Need
+no_need = record { least = 0; wish = 0; grow = 0 }
+
+-- this is what is needed in each track
+pub record AreNeeds (count : ℕ) (children : List ChildAxis) (needs : List Need) : Type 0 where
+  pub each : length needs ≡ count
+  pub needed : (k : ℕ) (other : Need) → k < length needs → slice_index_or needs k other ≡ need_of children k
+
 -- a constraint's preferred length, where it has one
 unfoldable pub own_pref : ℤ → ℕ → ℕ
 own_pref (pos n) computed = min n longest
@@ -51,15 +77,14 @@ unfoldable pub own_min : ℤ → ℕ → ℕ → ℕ
 own_min (pos n) pref computed = min n longest
 own_min (negsuc n) pref computed = if n == 2 ^ 63 - 1 then pref else computed
 
--- the preferred length of a track by its constraint, else by the greatest child that is alone in it
-unfoldable pub pref_alone : List Track → List ChildAxis → ℕ → ℕ
-pref_alone given children k = own_pref (track_at given k).pref (greatest_of (map (alone Preferred k) children))
+-- the length of this kind of a track by its constraint, else by what is needed there
+unfoldable pub length_by : Bound → Track → Need → ℕ
+length_by Preferred track need = own_pref track.pref need.wish
+length_by Minimum track need = own_min track.min (own_pref track.pref need.wish) need.least
 
--- the length of this kind of a track before any child covers more than one
-unfoldable pub length_alone : Bound → List Track → List ChildAxis → ℕ → ℕ
-length_alone Preferred given children k = pref_alone given children k
-length_alone Minimum given children k =
-    own_min (track_at given k).min (pref_alone given children k) (greatest_of (map (alone Minimum k) children))
+-- before any child covers more than one
+abbrev pub length_alone : Bound → List Track → List ChildAxis → ℕ → ℕ
+length_alone bound given children k = length_by bound (track_at given k) (need_of children k)
 
 abbrev pub lengths_alone : Bound → List Track → List ChildAxis → List ℕ
 lengths_alone bound given children =
@@ -91,13 +116,21 @@ part_by track least wish priority =
     let high = max (limited track.max pref longest) low in
     record { min = low; pref = max (min pref high) low; max = high; priority = priority }
 
--- the priority of a track by its constraint, else the greatest of the children that are alone in it
-unfoldable pub priority_of : List Track → List ChildAxis → ℕ → ℕ
-priority_of given children k = unwrap_or (track_at given k).grow (greatest_of (map (alone_grow k) children))
+-- a track by its constraint, its lengths and what is needed there, which says its priority where the constraint doesn't
+unfoldable pub track_by : Track → Need → ℕ → ℕ → Part
+track_by track need least wish = part_by track least wish (unwrap_or track.grow need.grow)
 
-unfoldable pub track_of : List Track → List ChildAxis → List ℕ → List ℕ → ℕ → Part
+abbrev pub track_of : List Track → List ChildAxis → List ℕ → List ℕ → ℕ → Part
 track_of given children leasts wishes k =
-    part_by (track_at given k) (slice_index leasts k) (slice_index wishes k) (priority_of given children k)
+    track_by (track_at given k) (need_of children k) (slice_index leasts k) (slice_index wishes k)
+
+-- a length, and a track, by a list of what is needed
+abbrev pub length_at_place : Bound → List Track → List Need → ℕ → ℕ
+length_at_place bound given needs k = length_by bound (track_at given k) (slice_index_or needs k no_need)
+
+abbrev pub track_at_place : List Track → List Need → List ℕ → List ℕ → ℕ → Part
+track_at_place given needs leasts wishes k =
+    track_by (track_at given k) (slice_index_or needs k no_need) (slice_index leasts k) (slice_index wishes k)
 
 -- all tracks, as the track rule takes them
 abbrev pub tracks_of : ℕ → List Track → List ChildAxis → List Part

@@ -3,7 +3,6 @@
 #![tactic(auto)]
 
 pub mod grid;
+mod needs;
 mod sharing;
-#[cfg(test)]
-mod tests;
 mod tracks;

@@ -1,16 +1,16 @@
 //! The columns or the rows of a grid, by their constraints and by the children along one axis.
 //! They stand between facts along that axis and the track rule.
-ghost use Rattle.std.specs.Prelude.{◌≡◌, ◌+◌, ◌^◌, ◌<◌, ◌≤◌, All, IfOk, length, map, slice_index};
-ghost use Rattle.fx_panes_parts.specs.Axes.{IsChildAxis, along};
+ghost use Rattle.std.specs.Prelude.{◌≡◌, ◌≤◌, All, IfOk, fold, length, map, slice_index_or};
+ghost use Rattle.fx_panes_parts.specs.Axes.{along};
 ghost use Rattle.std.specs.List.{range_with_len};
-ghost use Rattle.fx_panes_parts.specs.Parts.{greatest_of};
 ghost use Rattle.fx_panes_parts.specs.Sizes.{limited};
-ghost use Rattle.fx_grid.specs.Tracks.{IsCell, IsWithin, alone, alone_grow, is_alone, length_alone, lengths_alone, lengths_of, own_min, own_pref, part_by, pref_alone, priority_of, track_at, track_count, track_of, tracks_of};
+ghost use Rattle.fx_grid.specs.Tracks.{IsCell, IsWithin, length_at_place, no_need, own_min, own_pref, part_by, track_at, track_at_place, track_count, tracks_of, widened};
 
+use crate::needs::{NO_NEED, Need, needs_of};
 use crate::sharing::widen_all;
 use fx_base::{ChildSize, Track};
-use fx_panes::{Bound, outer_by};
-use fx_panes_parts::{Axis, ChildAxis, Part, child_axis, length_of};
+use fx_panes::Bound;
+use fx_panes_parts::{Axis, Part, child_axis, length_of};
 use std::alloc::{AllocError, Global};
 
 /// A track without a constraint.
@@ -61,53 +61,70 @@ pub(crate) fn tracks_of(
     ensures value { IfOk result (λ tracks. tracks.items ≡ tracks_of gap given.now (along axis children.now)) }
     ensures few { IfOk result (λ tracks. length tracks.items ≡ track_count given.now (along axis children.now)) }
 {
-    let leasts = lengths_of(alloc, axis, Bound::Minimum, gap, given, children)?;
-    let wishes = lengths_of(alloc, axis, Bound::Preferred, gap, given, children)?;
-    parts(
+    let needs = needs_of(alloc, axis, track_count(axis, given, children), children)?;
+    let leasts = lengths_alone(alloc, Bound::Minimum, given, needs.as_slice())?;
+    let leasts = widened(axis, Bound::Minimum, gap, children, leasts);
+    let wishes = lengths_alone(alloc, Bound::Preferred, given, needs.as_slice())?;
+    let wishes = widened(axis, Bound::Preferred, gap, children, wishes);
+    tracks_by(
         alloc,
-        axis,
         given,
-        children,
+        needs.as_slice(),
         leasts.as_slice(),
         wishes.as_slice(),
     )
 }
 
-fn parts(
-    alloc: Global,
+/// These lengths, widened by the children that cover more than one track.
+fn widened(
     axis: Axis,
-    given: &[Track],
+    bound: Bound,
+    gap: u64,
     children: &[ChildSize],
+    mut lengths: Vec<u64>,
+) -> Vec<u64>
+    requires gap { gap ≤ 100000 }
+    requires cells { All (IsCell axis) children.now }
+    requires within { All (IsWithin axis (length lengths.items)) children.now }
+    ensures { result.items ≡ fold (widened bound gap) lengths.items (along axis children.now) }
+{
+    widen_all(axis, bound, gap, children, lengths.as_mut_slice());
+    lengths
+}
+
+/// The tracks by what is needed there and by their lengths.
+fn tracks_by(
+    alloc: Global,
+    given: &[Track],
+    needs: &[Need],
     leasts: &[u64],
     wishes: &[u64],
 ) -> Result<Vec<Part>, AllocError>
-    requires given { length given.now ≤ 256 }
-    requires cells { All (IsCell axis) children.now }
-    ensures { IfOk result (λ tracks. tracks.items
-        ≡ map (track_of given.now (along axis children.now) leasts.now wishes.now)
-        (range_with_len 0 (track_count given.now (along axis children.now)))) }
+    ensures { IfOk result (λ tracks. tracks.items ≡ map (track_at_place given.now needs.now leasts.now wishes.now)
+        (range_with_len 0 (length needs.now))) }
 {
-    let count = track_count(axis, given, children);
-    (0..count)
-        .map(|k| track_of(axis, given, children, leasts, wishes, k))
+    (0..needs.len())
+        .map(|k| track_at_place(given, needs, leasts, wishes, k))
         .collect(alloc)
 }
 
-#[tactic(auto, unfolding(crate::specs::Tracks::track_of))]
-fn track_of(
-    axis: Axis,
-    given: &[Track],
-    children: &[ChildSize],
-    leasts: &[u64],
-    wishes: &[u64],
-    k: usize,
-) -> Part
-    ensures { result ≡ track_of given.now (along axis children.now) leasts.now wishes.now k }
+#[tactic(auto, unfolding(crate::specs::Tracks::track_by))]
+fn track_at_place(given: &[Track], needs: &[Need], leasts: &[u64], wishes: &[u64], k: usize) -> Part
+    ensures { result ≡ track_at_place given.now needs.now leasts.now wishes.now k }
 {
+    let track = track_at(given, k);
     let least = leasts.get(k).copied().unwrap_or(0);
     let wish = wishes.get(k).copied().unwrap_or(0);
-    let priority = priority_of(axis, given, children, k);
-    part_by(track_at(given, k), least, wish, priority)
+    part_by(track, least, wish, track.grow.unwrap_or(need_at(needs, k).grow))
+}
+
+fn need_at(needs: &[Need], k: usize) -> Need
+    ensures { result ≡ slice_index_or needs.now k no_need }
+{
+    match needs.get(k) {
+        Some(need) => *need,
+        None => NO_NEED,
+    }
 }
 
 #[tactic(auto, unfolding(crate::specs::Tracks::part_by))]
@@ -140,94 +157,32 @@ fn greatest_length(own: i64, pref: u64) -> u64
     }
 }
 
-#[tactic(auto, unfolding(crate::specs::Tracks::priority_of))]
-fn priority_of(axis: Axis, given: &[Track], children: &[ChildSize], k: usize) -> u8
-    ensures { result ≡ priority_of given.now (along axis children.now) k }
-{
-    match track_at(given, k).grow {
-        Some(priority) => priority,
-        None => greatest_grow(axis, k, children),
-    }
-}
-
-fn greatest_grow(axis: Axis, k: usize, children: &[ChildSize]) -> u8
-    ensures { result ≡ greatest_of (map (alone_grow k) (along axis children.now)) }
-{
-    let mut greatest = 0;
-    for child in children {
-        greatest = alone_grow(k, &child_axis(axis, child)).max(greatest);
-    }
-    greatest
-}
-
-#[tactic(auto, unfolding(crate::specs::Tracks::alone_grow))]
-fn alone_grow(k: usize, child: &ChildAxis) -> u8
-    ensures { result ≡ alone_grow k child.now }
-{
-    if is_alone(k, child) {
-        child.grow.unwrap_or(0)
-    } else {
-        0
-    }
-}
-
-/// The lengths of all tracks before they are clamped.
-fn lengths_of(
-    alloc: Global,
-    axis: Axis,
-    bound: Bound,
-    gap: u64,
-    given: &[Track],
-    children: &[ChildSize],
-) -> Result<Vec<u64>, AllocError>
-    requires gap { gap ≤ 100000 }
-    requires given { length given.now ≤ 256 }
-    requires cells { All (IsCell axis) children.now }
-    ensures { IfOk result (λ lengths. lengths.items ≡ lengths_of bound gap given.now (along axis children.now)) }
-{
-    let mut lengths = lengths_alone(alloc, axis, bound, given, children)?;
-    widen_all(axis, bound, gap, children, lengths.as_mut_slice());
-    Ok(lengths)
-}
-
+/// The lengths of all tracks before any child covers more than one, and before they are clamped.
 fn lengths_alone(
     alloc: Global,
-    axis: Axis,
     bound: Bound,
     given: &[Track],
-    children: &[ChildSize],
+    needs: &[Need],
 ) -> Result<Vec<u64>, AllocError>
-    requires given { length given.now ≤ 256 }
-    requires cells { All (IsCell axis) children.now }
-    ensures { IfOk result (λ lengths. lengths.items ≡ lengths_alone bound given.now (along axis children.now)) }
+    ensures { IfOk result (λ lengths. lengths.items
+        ≡ map (length_at_place bound given.now needs.now) (range_with_len 0 (length needs.now))) }
 {
-    let count = track_count(axis, given, children);
-    (0..count)
-        .map(|k| length_alone(axis, bound, given, children, k))
+    (0..needs.len())
+        .map(|k| length_at_place(bound, given, needs, k))
         .collect(alloc)
 }
 
-#[tactic(auto, unfolding(crate::specs::Tracks::length_alone))]
-fn length_alone(axis: Axis, bound: Bound, given: &[Track], children: &[ChildSize], k: usize) -> u64
-    ensures { result ≡ length_alone bound given.now (along axis children.now) k }
+#[tactic(auto, unfolding(crate::specs::Tracks::length_by))]
+fn length_at_place(bound: Bound, given: &[Track], needs: &[Need], k: usize) -> u64
+    ensures { result ≡ length_at_place bound given.now needs.now k }
 {
-    let pref = pref_alone(axis, given, children, k);
+    let track = track_at(given, k);
+    let need = need_at(needs, k);
+    let pref = own_pref(track.pref, need.wish);
     match bound {
         Bound::Preferred => pref,
-        Bound::Minimum => own_min(
-            track_at(given, k).min,
-            pref,
-            greatest_alone(axis, Bound::Minimum, k, children),
-        ),
+        Bound::Minimum => own_min(track.min, pref, need.least),
     }
-}
-
-#[tactic(auto, unfolding(crate::specs::Tracks::pref_alone))]
-fn pref_alone(axis: Axis, given: &[Track], children: &[ChildSize], k: usize) -> u64
-    ensures { result ≡ pref_alone given.now (along axis children.now) k }
-{
-    let greatest = greatest_alone(axis, Bound::Preferred, k, children);
-    own_pref(track_at(given, k).pref, greatest)
 }
 
 #[tactic(auto, unfolding(crate::specs::Tracks::own_pref))]
@@ -248,33 +203,4 @@ fn own_min(own: i64, pref: u64, computed: u64) -> u64
     } else {
         computed
     }
-}
-
-/// The greatest length of this kind of a child that is alone in a track, with its margins.
-fn greatest_alone(axis: Axis, bound: Bound, k: usize, children: &[ChildSize]) -> u64
-    ensures { result ≡ greatest_of (map (alone bound k) (along axis children.now)) }
-{
-    let mut greatest = 0;
-    for child in children {
-        greatest = alone(bound, k, &child_axis(axis, child)).max(greatest);
-    }
-    greatest
-}
-
-#[tactic(auto, unfolding(crate::specs::Tracks::alone))]
-fn alone(bound: Bound, k: usize, child: &ChildAxis) -> u64
-    requires { IsChildAxis child.now }
-    ensures { result ≡ alone bound k child.now }
-{
-    if is_alone(k, child) {
-        outer_by(bound, child)
-    } else {
-        0
-    }
-}
-
-fn is_alone(k: usize, child: &ChildAxis) -> bool
-    ensures { result ≡ is_alone k child.now }
-{
-    child.span == 1 && child.index as usize == k
 }

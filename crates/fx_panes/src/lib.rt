@@ -8,6 +8,3 @@ mod rules;
 pub mod stack;
 
 pub use rules::{Bound, inner, length_by, outer_by};
-
-#[cfg(test)]
-mod tests;

@@ -22,6 +22,3 @@ pub use parted::{Parted, Room, part_of, room_in};
 pub use parts::Part;
 pub use sizes::{control_extent, filled_length, held, in_area, pane_extent};
 pub use tracks::{Plan, greatest_min, greatest_pref, needed, plan_for, wanted};
-
-#[cfg(test)]
-mod tests;

@@ -1,8 +1,8 @@
 -- the ledgers of the four counters
-use Rattle.fx_panes.proofs.tests.lays_out_as_the_tables_say.Given as goal
+use Rattle.fx_panes_tests.proofs.panes.panes_lay_out.Given as goal
 
-abbrev pub ghosts-expect_rows : goal.ghosts-expect_rows
-ghosts-expect_rows g a = record {
+abbrev pub ghosts-lay_out : goal.ghosts-lay_out
+ghosts-lay_out g a = record {
   evaluated_name = a.evaluated.name;
   styled_name = a.styled.name;
   laid_name = a.laid.name;

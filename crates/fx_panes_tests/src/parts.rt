@@ -1,9 +1,8 @@
 //! Each word once, on numbers that a reader can follow.
-//! They stand beside the words, and are read only for the tests.
-use super::*;
-use fx_base::{ChildSize, List, PaneFacts, Rect, Sides, Sizes, Text};
+use crate::given::{CHILD, pane};
+use fx_base::{ChildSize, PaneFacts, Rect, Sides, Sizes};
+use fx_panes_parts::*;
 use std::alloc::Global;
-use std::test::Fail;
 
 const SIZES: Sizes = Sizes {
     min_w: 1,
@@ -26,42 +25,25 @@ fn child() -> ChildSize {
         sizes: SIZES,
         margin: MARGIN,
         hgrow: Some(2),
-        vgrow: None,
         alignment: Some(5),
-        halign: None,
         valign: Some(1),
-        top: None,
-        right: None,
-        bottom: None,
         left: Some(7),
-        column: 0,
-        row: 0,
-        column_span: 1,
-        row_span: 1,
-        fill_width: true,
         fill_height: false,
-        edge: None,
         layout_x: 8,
         layout_y: 9,
+        ..CHILD
     }
 }
 
 fn facts(alloc: Global) -> PaneFacts {
-    PaneFacts {
-        own: SIZES,
-        insets: MARGIN,
-        alignment: 5,
-        spacing: -1,
-        hgap: 2,
-        vgap: 3,
-        fill_width: true,
-        fill_height: false,
-        font_size: 6,
-        text: Text::new(alloc),
-        wrap: false,
-        columns: List::new(alloc),
-        rows: List::new(alloc),
-    }
+    let mut facts = pane(alloc);
+    facts.own = SIZES;
+    facts.insets = MARGIN;
+    facts.alignment = 5;
+    facts.spacing = -1;
+    facts.hgap = 2;
+    facts.vgap = 3;
+    facts
 }
 
 #[test]

@@ -18,7 +18,8 @@ impl Words<'_> {
         Ok(path)
     }
 
-    pub(crate) fn word_alone(&mut self, alloc: Global, form: Shape) -> Result<Text, Stop>
+    /// A word of this shape, and nothing behind it.
+    pub fn word_alone(&mut self, alloc: Global, form: Shape) -> Result<Text, Stop>
         ensures { Gives result (alone (word form) self.old.left.now) }
     {
         let word = self.word(alloc, form)?;

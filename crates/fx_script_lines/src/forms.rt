@@ -15,7 +15,7 @@ use std::alloc::Global;
 
 /// What the words behind the first one ask for.
 #[tactic(auto, unfolding(crate::specs::Forms::instruction_behind))]
-pub(crate) fn instruction(
+pub fn instruction(
     words: &mut Words<'_>,
     alloc: Global,
     first: &[u8],

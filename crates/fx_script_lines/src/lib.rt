@@ -13,10 +13,11 @@ mod shapes;
 mod stops;
 mod words;
 
-use crate::forms::instruction;
-use crate::stops::Stop;
-use crate::words::Words;
+pub use forms::instruction;
 pub use instructions::Instruction;
+pub use shapes::Shape;
+pub use stops::Stop;
+pub use words::{Words, behind_spaces};
 use std::alloc::{AllocError, Global};
 
 /// What the line asks for, if it is of one of these forms. Words are separated by spaces alone.

@@ -9,7 +9,7 @@ use fx_text::{is_identifier, is_letter, is_letter_or_digit};
 
 /// What a word has to be.
 #[derive(Clone, Copy)]
-pub(crate) enum Shape {
+pub enum Shape {
     Any,
     Identifier,
     /// The name of a declaration: an identifier of style sheets.

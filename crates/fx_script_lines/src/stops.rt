@@ -4,7 +4,7 @@ use std::alloc::AllocFailed;
 
 /// The line is of no form, or memory ran out.
 #[derive(Drop)]
-pub(crate) enum Stop {
+pub enum Stop {
     Form,
     Memory,
 }

@@ -15,8 +15,8 @@ use std::alloc::Global;
 
 /// What is left of a line behind a word and one space.
 #[derive(Clone, Copy)]
-pub(crate) struct Words<'a> {
-    pub(crate) left: &'a str,
+pub struct Words<'a> {
+    pub left: &'a str,
 }
 
 impl<'a> Words<'a> {
@@ -34,7 +34,7 @@ impl<'a> Words<'a> {
 
     /// A path of identifiers.
     #[tactic(auto, unfolding(crate::specs::Taking::path))]
-    pub(crate) fn path(&mut self, alloc: Global) -> Result<List<Text>, Stop>
+    pub fn path(&mut self, alloc: Global) -> Result<List<Text>, Stop>
         ensures { Takes result (spec.path self.old.left.now) self.new.left.now }
     {
         let word = self.next();
@@ -57,7 +57,7 @@ impl<'a> Words<'a> {
 
     /// The first word, which is empty where none is left.
     #[tactic(auto, unfolding(crate::specs::Taking::word_in, crate::specs::Taking::behind_word))]
-    pub(crate) fn next(&mut self) -> &'a str
+    pub fn next(&mut self) -> &'a str
         ensures word { result.now ≡ spec.word_in self.old.left.now }
         ensures left { self.new.left.now ≡ spec.behind_word self.old.left.now }
     {
@@ -81,7 +81,7 @@ impl<'a> Words<'a> {
     }
 
     /// Is nothing left but spaces?
-    pub(crate) fn is_over(&self) -> bool
+    pub fn is_over(&self) -> bool
         ensures { result ≡ spec.is_over self.now.left.now }
     {
         self.left.as_bytes().iter().all(|c| *c == b' ')
@@ -193,7 +193,8 @@ fn first_word(text: &str) -> (&str, &str)
     }
 }
 
-fn behind_spaces(text: &str) -> &str
+/// The text without the spaces in front of it.
+pub fn behind_spaces(text: &str) -> &str
     ensures { result.now ≡ behind spec.is_space text.now }
 {
     let mut rest = text;

@@ -1,0 +1,4 @@
+pub mod BraceLemmas
+pub mod CommandLemmas
+pub mod ExpressionLemmas
+pub mod LineLemmas

@@ -1,0 +1,20 @@
+//! Scripts: what each line asks for, with bindings and actions, and the reader of a whole file.
+//! It stands between the bytes of a script and the world that its lines change.
+#![tactic(auto)]
+
+mod actions;
+mod bindings;
+mod braces;
+mod commands;
+mod errors;
+mod lines;
+mod scripts;
+mod skipping;
+mod standing;
+
+pub use commands::{Command, Line};
+pub use errors::ScriptError;
+pub use scripts::read_script;
+
+#[cfg(test)]
+mod tests;

@@ -1,5 +1,5 @@
 -- What one line asks for by itself. Forms of fx_script_lines has the lines of words alone.
-use Rattle.std.specs.Prelude.{ℕ, Bool, false, ◌||◌, List, [], ◌∷◌, Option, None, Some, Result, Ok, Err, codes, nat_eq, if◌then◌else◌, option_and_then}
+use Rattle.std.specs.Prelude.{◌≡◌, ◌⊎◌, ℕ, Bool, true, false, ◌||◌, List, [], ◌∷◌, Option, None, Some, Result, Ok, Err, codes, nat_eq, if◌then◌else◌, option_and_then}
 use Rattle.std.specs.List.{list_all, list_any, starts_with}
 use Rattle.std.specs.Option.{option_map}
 use Rattle.std.specs.Str.{bytes_eq, chars}
@@ -68,6 +68,11 @@ request_behind standing first text = if is_barred standing first then bad else o
 -- what a line asks for that opens no action
 abbrev pub request_of : Standing → List ℕ → Request
 request_of standing text = request_behind standing (word_in text) (behind_word text)
+
+-- why a line is bad that opens no action: its first word may not stand there, or it is of no form
+abbrev pub IsBadLine : Standing → List ℕ → Type 0
+IsBadLine standing text =
+    (is_barred standing (word_in text) ≡ true) ⊎ (command_behind (word_in text) (behind_word text) ≡ None)
 
 -- `action NAME`
 unfoldable pub action_name : List ℕ → Option (List ℕ)

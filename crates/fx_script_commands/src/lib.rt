@@ -7,6 +7,7 @@ mod bindings;
 mod braces;
 mod commands;
 mod errors;
+mod laws;
 mod lines;
 mod scripts;
 mod skipping;
@@ -14,6 +15,7 @@ mod standing;
 
 pub use commands::{Command, Line};
 pub use errors::ScriptError;
+pub use laws::{expressions_are_written, lines_are_bad_by_a_cause};
 pub use scripts::read_script;
 
 #[cfg(test)]

@@ -6,6 +6,7 @@ use fx_script_commands::{Command, Line};
 use std::alloc::AllocError;
 
 /// Each line stands behind so many spaces.
+#[cycle(lines)]
 pub fn put_lines(out: &mut Printed, depth: u8, lines: &[Line]) -> Result<(), AllocError> {
     for line in lines {
         put_number(out, depth, line.number)?;
@@ -23,6 +24,7 @@ fn put_number(out: &mut Printed, depth: u8, number: u32) -> Result<(), AllocErro
     out.put(text.as_str())
 }
 
+#[cycle(lines)]
 fn put_command(out: &mut Printed, depth: u8, command: &Command) -> Result<(), AllocError> {
     match command {
         Command::Plain(instruction) => put_instruction(out, instruction),

@@ -1,5 +1,5 @@
 -- The first words of lines.
-use Rattle.std.specs.Prelude.{ℕ, List, [], ◌∷◌, Option, codes}
+use Rattle.std.specs.Prelude.{ℕ, List, [], ◌∷◌, ◌++◌, Option, codes}
 use Rattle.std.specs.List.{find}
 use Rattle.std.specs.Option.{option_map}
 use Rattle.std.specs.Str.{bytes_eq}
@@ -16,48 +16,70 @@ use Rattle.fx_script_lines.specs.declared.keywords.FocusWord.TheVariants as focu
 use Rattle.fx_script_lines.specs.declared.keywords.FrameWord.TheVariants as frame
 use Rattle.fx_script_lines.specs.declared.keywords.TimeWord.TheVariants as time
 
-unfoldable pub keywords : List (List ℕ × Keyword)
-keywords = (codes "prop", about.Property property.Prop)
-    ∷ (codes "set", about.Property property.Set)
+abbrev pub three_letters : List (List ℕ × Keyword)
+three_letters = (codes "set", about.Property property.Set)
     ∷ (codes "get", about.Property property.Get)
-    ∷ (codes "unbind", about.Property property.Unbind)
-    ∷ (codes "pair", about.Bond bond.Pair)
-    ∷ (codes "unpair", about.Bond bond.Unpair)
-    ∷ (codes "owner", about.Bond bond.Owner)
-    ∷ (codes "release", about.Bond bond.Release)
-    ∷ (codes "listen", about.Listener listener.Listen)
-    ∷ (codes "unlisten", about.Listener listener.Unlisten)
-    ∷ (codes "watch", about.Listener listener.Watch)
-    ∷ (codes "unwatch", about.Listener listener.Unwatch)
     ∷ (codes "new", about.Tree tree.New)
-    ∷ (codes "attach", about.Tree tree.Attach)
-    ∷ (codes "detach", about.Tree tree.Detach)
-    ∷ (codes "drop", about.Tree tree.Drop)
-    ∷ (codes "class", about.Look look.Class)
-    ∷ (codes "unclass", about.Look look.Unclass)
-    ∷ (codes "style", about.Look look.Style)
-    ∷ (codes "pseudo", about.Look look.Pseudo)
-    ∷ (codes "constrain", about.Node node.Constrain)
-    ∷ (codes "explain", about.Node node.Explain)
-    ∷ (codes "handle", about.Node node.Handle)
-    ∷ (codes "filter", about.Node node.Filter)
-    ∷ (codes "move", about.Input input.Move)
-    ∷ (codes "press", about.Input input.Press)
-    ∷ (codes "release-button", about.Input input.ReleaseButton)
     ∷ (codes "key", about.Input input.Key)
-    ∷ (codes "focus", about.Focus focus.Focus)
     ∷ (codes "tab", about.Focus focus.Tab)
-    ∷ (codes "backtab", about.Focus focus.Backtab)
-    ∷ (codes "resize", about.Frame frame.Resize)
-    ∷ (codes "pulse", about.Frame frame.Pulse)
     ∷ (codes "say", about.Frame frame.Say)
-    ∷ (codes "consume", about.Frame frame.Consume)
-    ∷ (codes "timeline", about.Time time.Timeline)
-    ∷ (codes "keyframe", about.Time time.Keyframe)
+    ∷ []
+
+abbrev pub four_letters : List (List ℕ × Keyword)
+four_letters = (codes "prop", about.Property property.Prop)
+    ∷ (codes "pair", about.Bond bond.Pair)
+    ∷ (codes "drop", about.Tree tree.Drop)
+    ∷ (codes "move", about.Input input.Move)
     ∷ (codes "play", about.Time time.Play)
     ∷ (codes "stop", about.Time time.Stop)
     ∷ (codes "tick", about.Time time.Tick)
     ∷ []
+
+abbrev pub five_letters : List (List ℕ × Keyword)
+five_letters = (codes "owner", about.Bond bond.Owner)
+    ∷ (codes "watch", about.Listener listener.Watch)
+    ∷ (codes "class", about.Look look.Class)
+    ∷ (codes "style", about.Look look.Style)
+    ∷ (codes "press", about.Input input.Press)
+    ∷ (codes "focus", about.Focus focus.Focus)
+    ∷ (codes "pulse", about.Frame frame.Pulse)
+    ∷ []
+
+abbrev pub six_letters : List (List ℕ × Keyword)
+six_letters = (codes "unbind", about.Property property.Unbind)
+    ∷ (codes "unpair", about.Bond bond.Unpair)
+    ∷ (codes "listen", about.Listener listener.Listen)
+    ∷ (codes "attach", about.Tree tree.Attach)
+    ∷ (codes "detach", about.Tree tree.Detach)
+    ∷ (codes "pseudo", about.Look look.Pseudo)
+    ∷ (codes "handle", about.Node node.Handle)
+    ∷ (codes "filter", about.Node node.Filter)
+    ∷ (codes "resize", about.Frame frame.Resize)
+    ∷ []
+
+abbrev pub seven_letters : List (List ℕ × Keyword)
+seven_letters = (codes "release", about.Bond bond.Release)
+    ∷ (codes "unwatch", about.Listener listener.Unwatch)
+    ∷ (codes "unclass", about.Look look.Unclass)
+    ∷ (codes "explain", about.Node node.Explain)
+    ∷ (codes "backtab", about.Focus focus.Backtab)
+    ∷ (codes "consume", about.Frame frame.Consume)
+    ∷ []
+
+abbrev pub eight_letters : List (List ℕ × Keyword)
+eight_letters = (codes "unlisten", about.Listener listener.Unlisten)
+    ∷ (codes "timeline", about.Time time.Timeline)
+    ∷ (codes "keyframe", about.Time time.Keyframe)
+    ∷ []
+
+abbrev pub more_letters : List (List ℕ × Keyword)
+more_letters = (codes "constrain", about.Node node.Constrain)
+    ∷ (codes "release-button", about.Input input.ReleaseButton)
+    ∷ []
+
+-- the first words of lines, by their length
+unfoldable pub keywords : List (List ℕ × Keyword)
+keywords = three_letters ++ (four_letters ++ (five_letters ++ (six_letters ++ (seven_letters ++ (eight_letters ++ more_letters)))))
 
 -- the keyword of the first row with this word
 abbrev pub keyword_at : List (List ℕ × Keyword) → List ℕ → Option Keyword

@@ -1,5 +1,5 @@
 //! The first words of lines, by what the lines are about.
-//! Each word is looked up once; forms.rt reads what is behind it.
+//! Each word is looked up once, among those of its length; forms.rt reads what is behind it.
 ghost use Rattle.std.specs.Prelude.{◌≡◌, map};
 ghost use Rattle.std.specs.List.{find};
 ghost use Rattle.std.specs.Option.{option_map};
@@ -111,55 +111,82 @@ pub(crate) enum TimeWord {
     Tick,
 }
 
-/// Each first word with what it says.
-const KEYWORDS: [(&str, Keyword); 40] = [
-    ("prop", Keyword::Property(PropertyWord::Prop)),
+/// Each first word with what it says, by the number of its letters.
+const THREE_LETTERS: [(&str, Keyword); 6] = [
     ("set", Keyword::Property(PropertyWord::Set)),
     ("get", Keyword::Property(PropertyWord::Get)),
-    ("unbind", Keyword::Property(PropertyWord::Unbind)),
-    ("pair", Keyword::Bond(BondWord::Pair)),
-    ("unpair", Keyword::Bond(BondWord::Unpair)),
-    ("owner", Keyword::Bond(BondWord::Owner)),
-    ("release", Keyword::Bond(BondWord::Release)),
-    ("listen", Keyword::Listener(ListenerWord::Listen)),
-    ("unlisten", Keyword::Listener(ListenerWord::Unlisten)),
-    ("watch", Keyword::Listener(ListenerWord::Watch)),
-    ("unwatch", Keyword::Listener(ListenerWord::Unwatch)),
     ("new", Keyword::Tree(TreeWord::New)),
-    ("attach", Keyword::Tree(TreeWord::Attach)),
-    ("detach", Keyword::Tree(TreeWord::Detach)),
-    ("drop", Keyword::Tree(TreeWord::Drop)),
-    ("class", Keyword::Look(LookWord::Class)),
-    ("unclass", Keyword::Look(LookWord::Unclass)),
-    ("style", Keyword::Look(LookWord::Style)),
-    ("pseudo", Keyword::Look(LookWord::Pseudo)),
-    ("constrain", Keyword::Node(NodeWord::Constrain)),
-    ("explain", Keyword::Node(NodeWord::Explain)),
-    ("handle", Keyword::Node(NodeWord::Handle)),
-    ("filter", Keyword::Node(NodeWord::Filter)),
-    ("move", Keyword::Input(InputWord::Move)),
-    ("press", Keyword::Input(InputWord::Press)),
-    ("release-button", Keyword::Input(InputWord::ReleaseButton)),
     ("key", Keyword::Input(InputWord::Key)),
-    ("focus", Keyword::Focus(FocusWord::Focus)),
     ("tab", Keyword::Focus(FocusWord::Tab)),
-    ("backtab", Keyword::Focus(FocusWord::Backtab)),
-    ("resize", Keyword::Frame(FrameWord::Resize)),
-    ("pulse", Keyword::Frame(FrameWord::Pulse)),
     ("say", Keyword::Frame(FrameWord::Say)),
-    ("consume", Keyword::Frame(FrameWord::Consume)),
-    ("timeline", Keyword::Time(TimeWord::Timeline)),
-    ("keyframe", Keyword::Time(TimeWord::Keyframe)),
+];
+
+const FOUR_LETTERS: [(&str, Keyword); 7] = [
+    ("prop", Keyword::Property(PropertyWord::Prop)),
+    ("pair", Keyword::Bond(BondWord::Pair)),
+    ("drop", Keyword::Tree(TreeWord::Drop)),
+    ("move", Keyword::Input(InputWord::Move)),
     ("play", Keyword::Time(TimeWord::Play)),
     ("stop", Keyword::Time(TimeWord::Stop)),
     ("tick", Keyword::Time(TimeWord::Tick)),
+];
+
+const FIVE_LETTERS: [(&str, Keyword); 7] = [
+    ("owner", Keyword::Bond(BondWord::Owner)),
+    ("watch", Keyword::Listener(ListenerWord::Watch)),
+    ("class", Keyword::Look(LookWord::Class)),
+    ("style", Keyword::Look(LookWord::Style)),
+    ("press", Keyword::Input(InputWord::Press)),
+    ("focus", Keyword::Focus(FocusWord::Focus)),
+    ("pulse", Keyword::Frame(FrameWord::Pulse)),
+];
+
+const SIX_LETTERS: [(&str, Keyword); 9] = [
+    ("unbind", Keyword::Property(PropertyWord::Unbind)),
+    ("unpair", Keyword::Bond(BondWord::Unpair)),
+    ("listen", Keyword::Listener(ListenerWord::Listen)),
+    ("attach", Keyword::Tree(TreeWord::Attach)),
+    ("detach", Keyword::Tree(TreeWord::Detach)),
+    ("pseudo", Keyword::Look(LookWord::Pseudo)),
+    ("handle", Keyword::Node(NodeWord::Handle)),
+    ("filter", Keyword::Node(NodeWord::Filter)),
+    ("resize", Keyword::Frame(FrameWord::Resize)),
+];
+
+const SEVEN_LETTERS: [(&str, Keyword); 6] = [
+    ("release", Keyword::Bond(BondWord::Release)),
+    ("unwatch", Keyword::Listener(ListenerWord::Unwatch)),
+    ("unclass", Keyword::Look(LookWord::Unclass)),
+    ("explain", Keyword::Node(NodeWord::Explain)),
+    ("backtab", Keyword::Focus(FocusWord::Backtab)),
+    ("consume", Keyword::Frame(FrameWord::Consume)),
+];
+
+const EIGHT_LETTERS: [(&str, Keyword); 3] = [
+    ("unlisten", Keyword::Listener(ListenerWord::Unlisten)),
+    ("timeline", Keyword::Time(TimeWord::Timeline)),
+    ("keyframe", Keyword::Time(TimeWord::Keyframe)),
+];
+
+const MORE_LETTERS: [(&str, Keyword); 2] = [
+    ("constrain", Keyword::Node(NodeWord::Constrain)),
+    ("release-button", Keyword::Input(InputWord::ReleaseButton)),
 ];
 
 /// What this first word says, if a line can begin with it.
 pub(crate) fn keyword_of(word: &[u8]) -> Option<Keyword>
     ensures { result ≡ spec.keyword_of word.now }
 {
-    keyword_at(&KEYWORDS, word)
+    match word.len() {
+        0..=2 => None,
+        3 => keyword_at(&THREE_LETTERS, word),
+        4 => keyword_at(&FOUR_LETTERS, word),
+        5 => keyword_at(&FIVE_LETTERS, word),
+        6 => keyword_at(&SIX_LETTERS, word),
+        7 => keyword_at(&SEVEN_LETTERS, word),
+        8 => keyword_at(&EIGHT_LETTERS, word),
+        9.. => keyword_at(&MORE_LETTERS, word),
+    }
 }
 
 fn keyword_at(table: &[(&str, Keyword)], word: &[u8]) -> Option<Keyword>

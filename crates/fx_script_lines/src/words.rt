@@ -124,6 +124,9 @@ fn is_reverse(word: &str) -> bool
 fn is_short(word: &str) -> bool
     ensures { result ≡ nat_le (length (chars word.now)) 4096 }
 {
+    if word.len() <= 4096 {
+        return true;
+    }
     char_count(word) <= 4096
 }
 

@@ -61,6 +61,7 @@ bad_by_a_cause standing text e = by_bar (is_barred standing (word_in text)) refl
     by_form : (o : Option Request) → command_behind (word_in text) (behind_word text) ≡ o → or_bad o ≡ bad → IsBadLine standing text
     by_form None h g = inr h
     by_form (Some r) h g = absurd (formed (word_in text) (behind_word text) (h ∙ ap (λ (x : Request). Some x) g))
+
     by_bar : (b : Bool) → is_barred standing (word_in text) ≡ b
         → (if b then bad else or_bad (command_behind (word_in text) (behind_word text))) ≡ bad → IsBadLine standing text
     by_bar true h g = inl h

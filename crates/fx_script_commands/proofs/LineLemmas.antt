@@ -74,7 +74,7 @@ pub line_turn : (texts : List (Bor (List ℕ))) (i : ℕ) (d : Bor (List ℕ)) (
     (line : Option Line) (behind : List (List ℕ)) (all : List Numbered) → i < length texts
     → behind ≡ seen (drop (i + 1) texts)
     → option_to_list (option_map line_view line) ++ lines_from now (n + 1) behind
-      ≡ lines_from was n ((get_or texts i d).now ∷ behind)
+    ≡ lines_from was n ((get_or texts i d).now ∷ behind)
     → new ≡ done ++ option_to_list line
     → map line_view done ++ lines_from was n (seen (drop i texts)) ≡ all
     → map line_view new ++ lines_from now (n + 1) (seen (drop (i + 1) texts)) ≡ all
@@ -120,7 +120,7 @@ pub place_seen : {X Y : Type 0} (f : X → Y) (p : Y → Bool) (xs : List X) →
 place_seen f p xs =
     ap (λ (n : ℕ). if nat_lt n (length (map f xs)) then Some n else None) (prefix_seen f (λ y. not (p y)) xs)
     ∙ ap (λ (m : ℕ). if nat_lt (prefix_len (λ x. not (p (f x))) xs) m then Some (prefix_len (λ x. not (p (f x))) xs) else None)
-      (length-map xs f)
+    (length-map xs f)
 
 -- the lines in front of a place, seen
 pub front_seen : (texts : List (Bor (List ℕ))) (end : Option ℕ) → end ≡ position (λ (text : Bor (List ℕ)). is_end text.now) texts

@@ -45,7 +45,5 @@ pub(crate) fn is_barred(standing: Standing, first: &str) -> bool
 fn is_among(words: &[&str], first: &str) -> bool
     ensures { result ≡ list_any (λ word. bytes_eq word.now first.now) words.now }
 {
-    words
-        .iter()
-        .any(|word| word.as_bytes() == first.as_bytes())
+    words.iter().any(|word| word.as_bytes() == first.as_bytes())
 }

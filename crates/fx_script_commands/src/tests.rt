@@ -14,7 +14,8 @@ fn letter(line: &Line) -> char {
 
 #[test]
 fn reads_a_script(rt: HostRuntime) -> Result<(), Fail> {
-    let script = b"# a script\nprop n int 1\r\n\t\nbind m.width  ${ n + '}' } \nbind m ${n} x\naction go\n\nsay hi\npulse\nend\nend\naction\nconsume\naction rest\nsay x";
+    let script =
+        b"# a script\nprop n int 1\r\n\t\nbind m.width  ${ n + '}' } \nbind m ${n} x\naction go\n\nsay hi\npulse\nend\nend\naction\nconsume\naction rest\nsay x";
     let lines = read_script(rt.alloc(), script)?;
     let mut seen = String::new(rt.alloc());
     for line in lines.as_slice() {

@@ -46,6 +46,7 @@ found_within test word front rows back fails before behind =
     or_none : (o : Option Row) → option_or o None ≡ o
     or_none None = refl
     or_none (Some row) = refl
+
     whole : found word (front ++ (rows ++ back)) ≡ found word rows
     whole =
         find-append (λ (row : Row). bytes_eq row.0 word) front (rows ++ back)

@@ -15,11 +15,7 @@ use std::alloc::Global;
 
 /// What the words behind the first one ask for.
 #[tactic(auto, unfolding(crate::specs::Forms::instruction_behind))]
-pub fn instruction(
-    words: &mut Words<'_>,
-    alloc: Global,
-    first: &[u8],
-) -> Result<Instruction, Stop>
+pub fn instruction(words: &mut Words<'_>, alloc: Global, first: &[u8]) -> Result<Instruction, Stop>
     ensures { Gives result (spec.instruction_behind first.now words.old.left.now) }
 {
     match keyword_of(first) {

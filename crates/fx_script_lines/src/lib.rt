@@ -16,9 +16,9 @@ mod words;
 pub use forms::instruction;
 pub use instructions::Instruction;
 pub use shapes::Shape;
+use std::alloc::{AllocError, Global};
 pub use stops::Stop;
 pub use words::{Words, behind_spaces};
-use std::alloc::{AllocError, Global};
 
 /// What the line asks for, if it is of one of these forms. Words are separated by spaces alone.
 pub fn read_instruction(alloc: Global, line: &str) -> Result<Option<Instruction>, AllocError>

@@ -14,7 +14,7 @@ const LINES: [&str; 20] = [
     "bind panel.row.label.prefWidth ${count * 10 + panel.row.width}",
     "get panel.row.label.prefWidth",
     "listen change panel.row.label.prefWidth watcher",
-    "# what a click on the button in the second row does when enabled",
+    "# what a click on the button in the second row of the panel does if enabled",
     "action clicked",
     "set panel.row.label.text You clicked the button in the second row once more",
     "say the button in the second row was clicked",

@@ -29,10 +29,18 @@ fn put_listener(out: &mut Printed, line: &Instruction) -> Result<(), AllocError>
             out.path("unlisten", name, &[notice.as_str(), label_of(label)])
         }
         Instruction::Watch(notice, name, action, label) => {
-            out.path("watch", name, &[notice.as_str(), action.as_str(), label_of(label)])
+            out.path(
+                "watch",
+                name,
+                &[notice.as_str(), action.as_str(), label_of(label)],
+            )
         }
         Instruction::Unwatch(notice, name, action, label) => {
-            out.path("unwatch", name, &[notice.as_str(), action.as_str(), label_of(label)])
+            out.path(
+                "unwatch",
+                name,
+                &[notice.as_str(), action.as_str(), label_of(label)],
+            )
         }
         _ => put_node(out, line),
     }
@@ -102,15 +110,15 @@ fn put_input(out: &mut Printed, line: &Instruction) -> Result<(), AllocError> {
 fn put_timeline(out: &mut Printed, line: &Instruction) -> Result<(), AllocError> {
     match line {
         Instruction::Timeline(label, count, reverse) => {
-            let last = if *reverse {
-                "reverse"
-            } else {
-                ""
-            };
+            let last = if *reverse { "reverse" } else { "" };
             out.words("timeline", &[label.as_str(), count.as_str(), last])
         }
         Instruction::Keyframe(label, time, name, rest) => {
-            out.path("keyframe", name, &[label.as_str(), time.as_str(), rest.as_str()])
+            out.path(
+                "keyframe",
+                name,
+                &[label.as_str(), time.as_str(), rest.as_str()],
+            )
         }
         Instruction::Play(label) => out.words("play", &[label.as_str()]),
         Instruction::Stop(label) => out.words("stop", &[label.as_str()]),

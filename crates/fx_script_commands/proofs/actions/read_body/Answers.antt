@@ -14,9 +14,9 @@ returns-then-len-gt-ACTION_LIMIT c =
 pub loop-text-preserved : goal.loop-text-preserved
 loop-text-preserved c = record {
   all =
-    body_turn c.args.texts.now c.loop-text.text-index _ c.loop-text.next c.loop-text.lines.items
-    c.push_some.new.lines.items c.in_ok-line.line _ c.loop-text-test.true c.in_ok-line.ensures
-    c.in_ok-push_some.ensures c.loop-text.invariant.all;
+      body_turn c.args.texts.now c.loop-text.text-index _ c.loop-text.next c.loop-text.lines.items
+      c.push_some.new.lines.items c.in_ok-line.line _ c.loop-text-test.true c.in_ok-line.ensures
+      c.in_ok-push_some.ensures c.loop-text.invariant.all;
   few = omega arith;
   count = omega arith;
 }

@@ -12,8 +12,8 @@ returns c =
 pub loop-others-preserved : goal.loop-others-preserved
 loop-others-preserved c = record {
   spaces =
-    sym (last_space c.loop-others.rest.now c.in-Some.others.now
-    (strip_suffix_char 32 c.loop-others.rest.now (Some c.in-Some.others) c.in-Some.ensures.cases (lit< tt)))
-    ∙ c.loop-others.invariant.spaces;
+      sym (last_space c.loop-others.rest.now c.in-Some.others.now
+      (strip_suffix_char 32 c.loop-others.rest.now (Some c.in-Some.others) c.in-Some.ensures.cases (lit< tt)))
+      ∙ c.loop-others.invariant.spaces;
   utf8 = search rules;
 }

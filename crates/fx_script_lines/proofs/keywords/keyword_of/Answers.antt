@@ -10,42 +10,42 @@ unfolding keyword_of keywords
 returns-in-3 c =
     c.keyword_at.ensures
     ∙ found_within (λ k. not (eqb k 3)) c.args.word.now ([]) three_letters (four_letters ++ (five_letters ++ (six_letters ++ (seven_letters ++ (eight_letters ++ (more_letters))))))
-      (ap (λ (n : ℕ). not (eqb n 3)) c.in-3.is) refl refl
+    (ap (λ (n : ℕ). not (eqb n 3)) c.in-3.is) refl refl
 
 pub returns-in-4 : goal.returns-in-4
 unfolding keyword_of keywords
 returns-in-4 c =
     c.keyword_at-in-4.ensures
     ∙ found_within (λ k. not (eqb k 4)) c.args.word.now (three_letters) four_letters (five_letters ++ (six_letters ++ (seven_letters ++ (eight_letters ++ (more_letters)))))
-      (ap (λ (n : ℕ). not (eqb n 4)) c.in-4.is) refl refl
+    (ap (λ (n : ℕ). not (eqb n 4)) c.in-4.is) refl refl
 
 pub returns-in-5 : goal.returns-in-5
 unfolding keyword_of keywords
 returns-in-5 c =
     c.keyword_at-in-5.ensures
     ∙ found_within (λ k. not (eqb k 5)) c.args.word.now (three_letters ++ (four_letters)) five_letters (six_letters ++ (seven_letters ++ (eight_letters ++ (more_letters))))
-      (ap (λ (n : ℕ). not (eqb n 5)) c.in-5.is) refl refl
+    (ap (λ (n : ℕ). not (eqb n 5)) c.in-5.is) refl refl
 
 pub returns-in-6 : goal.returns-in-6
 unfolding keyword_of keywords
 returns-in-6 c =
     c.keyword_at-in-6.ensures
     ∙ found_within (λ k. not (eqb k 6)) c.args.word.now (three_letters ++ (four_letters ++ (five_letters))) six_letters (seven_letters ++ (eight_letters ++ (more_letters)))
-      (ap (λ (n : ℕ). not (eqb n 6)) c.in-6.is) refl refl
+    (ap (λ (n : ℕ). not (eqb n 6)) c.in-6.is) refl refl
 
 pub returns-in-7 : goal.returns-in-7
 unfolding keyword_of keywords
 returns-in-7 c =
     c.keyword_at-in-7.ensures
     ∙ found_within (λ k. not (eqb k 7)) c.args.word.now (three_letters ++ (four_letters ++ (five_letters ++ (six_letters)))) seven_letters (eight_letters ++ (more_letters))
-      (ap (λ (n : ℕ). not (eqb n 7)) c.in-7.is) refl refl
+    (ap (λ (n : ℕ). not (eqb n 7)) c.in-7.is) refl refl
 
 pub returns-in-8 : goal.returns-in-8
 unfolding keyword_of keywords
 returns-in-8 c =
     c.keyword_at-in-8.ensures
     ∙ found_within (λ k. not (eqb k 8)) c.args.word.now (three_letters ++ (four_letters ++ (five_letters ++ (six_letters ++ (seven_letters))))) eight_letters (more_letters)
-      (ap (λ (n : ℕ). not (eqb n 8)) c.in-8.is) refl refl
+    (ap (λ (n : ℕ). not (eqb n 8)) c.in-8.is) refl refl
 
 no_less : (n : ℕ) → n ≤ 2 → ltb 2 n ≡ false
 no_less n h = grind (arith, nat_tests)
@@ -63,4 +63,4 @@ unfolding keyword_of keywords
 returns-in-9-to-max c =
     c.keyword_at-in-9-to-max.ensures
     ∙ found_within (λ k. ltb k 9) c.args.word.now (three_letters ++ (four_letters ++ (five_letters ++ (six_letters ++ (seven_letters ++ eight_letters))))) more_letters []
-      (no_more (length c.args.word.now) (omega arith)) refl refl
+    (no_more (length c.args.word.now) (omega arith)) refl refl

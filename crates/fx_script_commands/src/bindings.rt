@@ -19,7 +19,8 @@ pub(crate) fn command(
     first: &str,
     standing: Standing,
 ) -> Result<Command, AllocError>
-    ensures { IfOk result (λ command. command_view command ≡ spec.request_behind standing first.now words.old.left.now) }
+    ensures { IfOk result (λ command. command_view command
+        ≡ spec.request_behind standing first.now words.old.left.now) }
 {
     if is_barred(standing, first) {
         return Ok(Command::Bad);

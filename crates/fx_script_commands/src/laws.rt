@@ -5,7 +5,7 @@ ghost use Rattle.fx_expr.specs.Reading.{IsRead};
 ghost use Rattle.fx_expr.specs.Tree.{Tree};
 ghost use Rattle.fx_script_commands.specs.Commands.{IsBadLine, expression_of, request_of};
 ghost use Rattle.fx_script_commands.specs.Requests.{Expression, bad};
-ghost use Rattle.fx_script_commands.specs.declared.standing.Standing.{Standing as Stands};
+ghost use Rattle.fx_script_commands.specs.declared.standing.Standing.{Standing};
 
 /// The expression of a text is the one that it is written in, with at most 256 operands. A text has one at most.
 pub fn expressions_are_written()
@@ -18,6 +18,6 @@ pub fn expressions_are_written()
 
 /// A line that opens no action is bad just where its first word may not stand there, or where it is of no form.
 pub fn lines_are_bad_by_a_cause()
-    ensures bad { (standing : Stands) (text : List ℕ) → request_of standing text ≡ bad → IsBadLine standing text }
-    ensures cause { (standing : Stands) (text : List ℕ) → IsBadLine standing text → request_of standing text ≡ bad }
+    ensures bad { (standing : Standing) (text : List ℕ) → request_of standing text ≡ bad → IsBadLine standing text }
+    ensures cause { (standing : Standing) (text : List ℕ) → IsBadLine standing text → request_of standing text ≡ bad }
 {}

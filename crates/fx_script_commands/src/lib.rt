@@ -17,6 +17,3 @@ pub use commands::{Command, Line};
 pub use errors::ScriptError;
 pub use laws::{expressions_are_written, lines_are_bad_by_a_cause};
 pub use scripts::read_script;
-
-#[cfg(test)]
-mod tests;

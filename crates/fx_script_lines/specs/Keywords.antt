@@ -79,7 +79,9 @@ more_letters = (codes "constrain", about.Node node.Constrain)
 
 -- the first words of lines, by their length
 unfoldable pub keywords : List (List ℕ × Keyword)
-keywords = three_letters ++ (four_letters ++ (five_letters ++ (six_letters ++ (seven_letters ++ (eight_letters ++ more_letters)))))
+keywords =
+    three_letters ++ (four_letters ++ (five_letters ++ (six_letters ++ (seven_letters ++ (eight_letters
+    ++ more_letters)))))
 
 -- the keyword of the first row with this word
 abbrev pub keyword_at : List (List ℕ × Keyword) → List ℕ → Option Keyword

@@ -1,4 +1,5 @@
-//! Scripts that are written in one line: `\n`, `\r`, `\t` and `\b` are a line feed, a carriage return, a tab and a backslash, and `\x` with two digits is any byte.
+//! Scripts that are written in one line: `\n`, `\r`, `\t` and `\b` are a line feed, a carriage return, a tab and a
+//! backslash, and `\x` with two digits is any byte.
 ghost use Rattle.std.specs.Prelude.{◌<◌, IfOk};
 
 use anyhow::bail;

@@ -1,5 +1,5 @@
-//! Reads scripts, one to a line of its input, and prints what each line of a script asks for. Its input and output are a
-//! test of the reader of scripts.
+//! Reads scripts, one to a line of its input, and prints what each line of a script asks for. Its input and output are
+//! a test of the reader of scripts.
 #![tactic(auto)]
 
 mod escapes;

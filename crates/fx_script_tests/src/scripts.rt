@@ -1,5 +1,5 @@
 //! One script with lines of each kind.
-use crate::{Command, Line, read_script};
+use fx_script_commands::{Command, Line, read_script};
 use std::test::Fail;
 
 /// What a line is, in a letter.

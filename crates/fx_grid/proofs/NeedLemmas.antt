@@ -37,11 +37,11 @@ pub raises_one : (child : ChildAxis) (needs : List Need) (made d : Need) (k : �
     → get_or (set needs child.index made) k other ≡ raised child k (get_or needs k other)
 raises_one child needs made d k other within made_is =
     elim (eqb_tells child.index k) [
-    | inl same ↦ subst (λ (j : ℕ). get_or (set needs child.index made) j other ≡ raised child j (get_or needs j other)) same.1
-        (get_or-set_same needs child.index made other within
-        ∙ (made_is ∙ ap (raised child child.index) (get_or_default needs child.index d other within)))
-    | inr apart ↦ get_or-set_other needs child.index k made other (λ e. apart.1 (sym e))
-        ∙ sym (raised_other child k (get_or needs k other) (rw apart.0 (and_false (child.span == 1))))
+      | inl same ↦ subst (λ (j : ℕ). get_or (set needs child.index made) j other ≡ raised child j (get_or needs j other)) same.1
+          (get_or-set_same needs child.index made other within
+          ∙ (made_is ∙ ap (raised child child.index) (get_or_default needs child.index d other within)))
+      | inr apart ↦ get_or-set_other needs child.index k made other (λ e. apart.1 (sym e))
+          ∙ sym (raised_other child k (get_or needs k other) (rw apart.0 (and_false (child.span == 1))))
     ]
 
 -- one child more in front

@@ -115,7 +115,12 @@ fn track_at_place(given: &[Track], needs: &[Need], leasts: &[u64], wishes: &[u64
     let track = track_at(given, k);
     let least = leasts.get(k).copied().unwrap_or(0);
     let wish = wishes.get(k).copied().unwrap_or(0);
-    part_by(track, least, wish, track.grow.unwrap_or(need_at(needs, k).grow))
+    part_by(
+        track,
+        least,
+        wish,
+        track.grow.unwrap_or(need_at(needs, k).grow),
+    )
 }
 
 fn need_at(needs: &[Need], k: usize) -> Need

@@ -80,9 +80,12 @@ struct Task {
 fn main(rt: HostRuntime) -> anyhow::Result<()> {
     let mut words = env::args(&rt)?;
     let _program = words.next();
-    let (Some(pane), Some(count), Some(width), Some(rounds)) =
-        (words.next(), words.next(), words.next(), words.next())
-    else {
+    let (Some(pane), Some(count), Some(width), Some(rounds)) = (
+        words.next(),
+        words.next(),
+        words.next(),
+        words.next(),
+    ) else {
         bail!("usage: layout_bench row|grid COUNT WIDTH ROUNDS");
     };
     let task = Task {

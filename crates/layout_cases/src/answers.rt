@@ -79,5 +79,8 @@ fn placed<L: Ledgers>(
 }
 
 fn of_sizes(alloc: Global, sizes: Sizes) -> Result<String, AllocError> {
-    format!(in alloc; "{} {} {} {} {} {}", sizes.min_w, sizes.pref_w, sizes.max_w, sizes.min_h, sizes.pref_h, sizes.max_h)
+    format!(in alloc;
+        "{} {} {} {} {} {}",
+        sizes.min_w, sizes.pref_w, sizes.max_w, sizes.min_h, sizes.pref_h, sizes.max_h
+    )
 }

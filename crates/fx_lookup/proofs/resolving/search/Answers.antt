@@ -42,7 +42,7 @@ loop-current-smaller c =
     subst (λ (v : List (List ℕ)). left_of v (names_in (nodes c.args.chain.now)) < left_of
     (texts c.loop-current.visited.items) (names_in (nodes c.args.chain.now)))
     (sym (seen-push c.loop-current.visited.items c.loop-current.current c.push.new.self.items
-      c.in_ok-push-in-Named.ensures.items))
+    c.in_ok-push-in-Named.ensures.items))
     (next_fewer (nodes c.args.chain.now)
     (texts c.loop-current.visited.items) c.loop-current.current.now c.in-Named.next
     (test ∙ c.loop-current-test.true) (ap Some (sym c.in-Named.is) ∙ c.in-Some.ensures))

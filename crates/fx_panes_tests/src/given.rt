@@ -1,6 +1,6 @@
 //! The pane and the child that the tests begin with, and what they compare.
 use fx_base::{ChildSize, List, PaneFacts, Rect, Sides, Sizes, Text};
-use std::alloc::Global;
+use std::alloc::{AllocError, Global};
 use std::process::Abort;
 use std::test::Fail;
 
@@ -83,32 +83,24 @@ pub fn pane(alloc: Global) -> PaneFacts {
     }
 }
 
-/// The sizes, widths first, are these.
-pub fn expect_sizes<R: Abort + AllocGlobal>(
+/// The sizes are these, widths first, and the rectangles these, each with left, top, width and height.
+pub fn expect<R: Abort + AllocGlobal>(
     rt: &R,
-    sizes: Sizes,
+    sizes: Result<Sizes, AllocError>,
+    rects: Result<Vec<Rect>, AllocError>,
     expected: &str,
 ) -> Result<(), Fail> {
-    let alloc = rt.alloc();
-    let widths = format!(in alloc; "{} {} {}", sizes.min_w, sizes.pref_w, sizes.max_w)?;
-    let heights = format!(in alloc; "{} {} {}", sizes.min_h, sizes.pref_h, sizes.max_h)?;
-    let found = format!(in alloc; "{widths} {heights}")?;
+    let found = text_of(rt.alloc(), sizes?, rects?.as_slice())?;
     assert_eq!(rt; found.as_str(), expected);
     Ok(())
 }
 
-/// The rectangles are these, each with left, top, width and height.
-pub fn expect_rects<R: Abort + AllocGlobal>(
-    rt: &R,
-    rects: &[Rect],
-    expected: &str,
-) -> Result<(), Fail> {
-    let alloc = rt.alloc();
-    let mut found = String::new(alloc);
+fn text_of(alloc: Global, sizes: Sizes, rects: &[Rect]) -> Result<String, AllocError> {
+    let widths = format!(in alloc; "{} {} {}", sizes.min_w, sizes.pref_w, sizes.max_w)?;
+    let mut text = format!(in alloc; "{widths} {} {} {}", sizes.min_h, sizes.pref_h, sizes.max_h)?;
     for rect in rects {
-        let text = format!(in alloc; "{} {} {} {};", rect.x, rect.y, rect.w, rect.h)?;
-        found.push_str(text.as_str())?;
+        let word = format!(in alloc; "; {} {} {} {}", rect.x, rect.y, rect.w, rect.h)?;
+        text.push_str(word.as_str())?;
     }
-    assert_eq!(rt; found.as_str(), expected);
-    Ok(())
+    Ok(text)
 }

@@ -167,8 +167,8 @@ fn row_children(alloc: Global, count: u32) -> Result<Vec<ChildSize>, AllocError>
     Ok(children)
 }
 
-/// A child for each cell of so many columns and rows; in every row one child in eight covers two columns, and one in eight
-/// two rows.
+/// A child for each cell of so many columns and rows; in every row one child in eight covers two columns, and one in
+/// eight two rows.
 fn grid_children(alloc: Global, side: u32) -> Result<Vec<ChildSize>, AllocError> {
     let mut children = Vec::new(alloc);
     for row in 0..side {

@@ -79,8 +79,6 @@ fn placed<L: Ledgers>(
 }
 
 fn of_sizes(alloc: Global, sizes: Sizes) -> Result<String, AllocError> {
-    format!(in alloc;
-        "{} {} {} {} {} {}",
-        sizes.min_w, sizes.pref_w, sizes.max_w, sizes.min_h, sizes.pref_h, sizes.max_h
-    )
+    let widths = format!(in alloc; "{} {} {}", sizes.min_w, sizes.pref_w, sizes.max_w)?;
+    format!(in alloc; "{widths} {} {} {}", sizes.min_h, sizes.pref_h, sizes.max_h)
 }

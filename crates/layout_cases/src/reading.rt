@@ -1,7 +1,7 @@
-//! A pane and its children from the words of a line. A fact is a letter and a number: `a`, `b` and `c` are minimum, preferred
-//! and maximum width, `d`, `e` and `f` the same of the height, and `t`, `r`, `u` and `l` are the top, right, bottom and left
-//! of insets or a margin; the functions below have the other letters. What isn't said is as in a new pane, and a child
-//! grows without end.
+//! A pane and its children from the words of a line. A fact is a letter and a number: `a`, `b` and `c` are minimum,
+//! preferred and maximum width, `d`, `e` and `f` the same of the height, and `t`, `r`, `u` and `l` are the top, right,
+//! bottom and left of insets or a margin; the functions below have the other letters. What isn't said is as in a new pane,
+//! and a child grows without end.
 use anyhow::bail;
 use fx_base::{ChildSize, List, PaneFacts, Sides, Sizes, Text, Track};
 use std::alloc::Global;
@@ -151,8 +151,8 @@ fn set_length(sizes: &mut Sizes, sides: &mut Sides, letter: u8, number: i64) -> 
     true
 }
 
-/// `p` is alignment, `s` spacing, `h` and `v` are the gaps, `x` and `y` fillWidth and fillHeight, `z` is the font's size
-/// and `w` wrapText.
+/// `p` is alignment, `s` spacing, `h` and `v` are the gaps, `x` and `y` fillWidth and fillHeight, `z` is the font's
+/// size and `w` wrapText.
 fn read_facts(alloc: Global, words: &mut Split<'_, char>) -> anyhow::Result<PaneFacts> {
     let mut facts = PaneFacts {
         own: NO_SIZES,
@@ -206,8 +206,8 @@ fn read_child(facts: &str) -> anyhow::Result<ChildSize> {
     Ok(child)
 }
 
-/// `i` and `I` are column and column span, `j` and `J` row and row span, `h` and `v` the alignments in cells, and `x` and
-/// `y` fillWidth and fillHeight.
+/// `i` and `I` are column and column span, `j` and `J` row and row span, `h` and `v` the alignments in cells, and `x`
+/// and `y` fillWidth and fillHeight.
 fn set_cell(child: &mut ChildSize, letter: u8, number: i64) -> bool {
     match letter {
         b'i' => child.column = count(number),
@@ -223,8 +223,8 @@ fn set_cell(child: &mut ChildSize, letter: u8, number: i64) -> bool {
     true
 }
 
-/// `g` and `G` are hgrow and vgrow, `p` is alignment, `k` the edge, `T`, `R`, `U` and `L` are the anchors at the top, right,
-/// bottom and left, and `X` and `Y` the place.
+/// `g` and `G` are hgrow and vgrow, `p` is alignment, `k` the edge, `T`, `R`, `U` and `L` are the anchors at the top,
+/// right, bottom and left, and `X` and `Y` the place.
 fn set_place(child: &mut ChildSize, letter: u8, number: i64) {
     match letter {
         b'g' => child.hgrow = choice(number),

@@ -101,7 +101,11 @@ fn labels_wrap<L: Ledgers, R: Abort + AllocGlobal>(rt: &R, work: &mut Work<L>) -
         control::place(alloc, &label, &[], 4, 4, work),
         "0 20 20 6 6 6",
     )?;
-    for (width, expected) in [(8, "0 20 20 12 12 12"), (20, "0 20 20 6 6 6"), (4, "0 20 20 24 24 24")] {
+    for (width, expected) in [
+        (8, "0 20 20 12 12 12"),
+        (20, "0 20 20 6 6 6"),
+        (4, "0 20 20 24 24 24"),
+    ] {
         let sizes = control::wrapped(alloc, &label, width, work);
         expect(rt, sizes, Ok(Vec::new(alloc)), expected)?;
     }

@@ -223,7 +223,7 @@ fn set_cell(child: &mut ChildSize, letter: u8, number: i64) -> bool {
     true
 }
 
-/// `g` and `G` are hgrow and vgrow, `p` is alignment, `k` the edge, `T`, `R`, `U` and `L` are the anchors at the top,
+/// `g` and `G` are hgrow and vgrow, `p` is alignment, `k` the edge, `A`, `E`, `U` and `L` are the anchors at the top,
 /// right, bottom and left, and `X` and `Y` the place.
 fn set_place(child: &mut ChildSize, letter: u8, number: i64) {
     match letter {
@@ -231,8 +231,8 @@ fn set_place(child: &mut ChildSize, letter: u8, number: i64) {
         b'G' => child.vgrow = choice(number),
         b'p' => child.alignment = choice(number),
         b'k' => child.edge = choice(number),
-        b'T' => child.top = Some(number),
-        b'R' => child.right = Some(number),
+        b'A' => child.top = Some(number),
+        b'E' => child.right = Some(number),
         b'U' => child.bottom = Some(number),
         b'L' => child.left = Some(number),
         b'X' => child.layout_x = number,

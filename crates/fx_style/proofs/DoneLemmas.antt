@@ -12,9 +12,8 @@ use Rattle.fx_style.specs.declared.kept.Entry.{Entry}
 use Rattle.fx_style.specs.declared.kept.Fresh.{Fresh}
 use Rattle.fx_style.specs.declared.kept.Rest.{Rest}
 use Rattle.fx_style.specs.Kept.{Kept, entry, fresh_at, is_among, planned_at}
-use Rattle.fx_style.specs.Rules.{IsUpdate, KeepsOthers, kept_of, updated_style}
+use Rattle.fx_style.specs.Rules.{IsUpdate, kept_of, updated_style}
 use Rattle.fx_style.specs.Turns.{ArePut, AreRightBelow, HaveKeysOf}
-use Rattle.fx_style.proofs.FreshLemmas.{not_among}
 
 pub ok_both : {X Y P Q R : Type 0} (r : Result X Y) → (P → Q → R) → OnOk r P → OnOk r Q → OnOk r R
 ok_both (Ok x) f p q = f p q
@@ -48,9 +47,3 @@ update_done sheets facts restyle old new fresh right put = record {
       let within = slice_get_within facts at node is in
       put.each at within ∙ right.each at node within is;
 }
-
-pub others_done : (old new : Kept) (fresh : List Fresh) (count : ℕ) → ArePut old new fresh count
-    → new.changed ≡ map (λ (f : Fresh). f.at) fresh → KeepsOthers old new
-others_done old new fresh count put changed at within off =
-    put.others at (subst (λ (n : ℕ). at < n) put.looks within)
-    (not_among fresh at (sym (ap (λ (l : List ℕ). is_among l at) changed) ∙ off))

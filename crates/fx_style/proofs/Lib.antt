@@ -5,6 +5,7 @@ pub mod FreshLemmas
 pub mod PutLemmas
 pub mod UpdateLemmas
 pub mod TurnLemmas
+pub mod ChangeLemmas
 pub mod DoneLemmas
 pub mod CostLemmas
 pub mod ChainLaws

@@ -17,12 +17,13 @@ use Rattle.fx_style.specs.Turns.{ArePut, HaveKeysOf}
 use Rattle.fx_style.proofs.FreshLemmas.{or_assoc}
 use Rattle.fx_style.proofs.KeyLemmas.{key_is, same_key}
 
-get-set_same : {X : Type 0} (xs : List X) (i : ℕ) (x : X) → i < length xs → slice_get (set xs i x) i ≡ Some x
+pub get-set_same : {X : Type 0} (xs : List X) (i : ℕ) (x : X) → i < length xs → slice_get (set xs i x) i ≡ Some x
 get-set_same [] i x within = absurd (omega arith)
 get-set_same (y ∷ ys) zero x within = refl
 get-set_same (y ∷ ys) (suc i) x within = get-set_same ys i x (omega (arith, within))
 
-get-set_other : {X : Type 0} (xs : List X) (i k : ℕ) (x : X) → (i ≡ k → ⊥) → slice_get (set xs i x) k ≡ slice_get xs k
+pub get-set_other : {X : Type 0} (xs : List X) (i k : ℕ) (x : X) → (i ≡ k → ⊥)
+    → slice_get (set xs i x) k ≡ slice_get xs k
 get-set_other [] i k x differ = refl
 get-set_other (y ∷ ys) zero zero x differ = absurd (differ refl)
 get-set_other (y ∷ ys) zero (suc k) x differ = refl

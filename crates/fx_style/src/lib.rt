@@ -8,6 +8,7 @@ mod laws;
 mod making;
 mod marks;
 mod putting;
+mod same;
 mod styles;
 
 pub use kept::{Entry, Fresh, Rest};

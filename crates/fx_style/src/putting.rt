@@ -1,8 +1,11 @@
 //! Fresh entries put in their places, which takes no memory.
-ghost use Rattle.std.specs.Prelude.{◌≡◌, ◌+◌, ◌<◌, IfOk, length, map, slice_set};
+ghost use Rattle.std.specs.Prelude.{◌≡◌, IfOk, IsTrue, OnOk, Some, length, map, slice_get, slice_set};
+ghost use Rattle.std.specs.Option.{option_copied};
 ghost use Rattle.fx_style.specs.Kept.{put_looks, put_rest, rest_of};
+ghost use Rattle.fx_style.specs.Changes.{IsNoted, NamesChanges};
 
 use crate::kept::{Entry, Fresh, Rest};
+use crate::same::is_same_look;
 use fx_base::{Color, List, NodeKey, Sides};
 use fx_look::Look;
 use fx_node_style::NodeStyle;
@@ -42,6 +45,46 @@ pub(crate) fn places_of(alloc: Global, fresh: &[Fresh]) -> Result<Vec<usize>, Al
         places.push(one.at)?;
     }
     Ok(places)
+}
+
+/// The places whose looks are others once the entries stand there.
+pub(crate) fn changed_places(
+    alloc: Global,
+    looks: &[Look],
+    fresh: &[Fresh],
+) -> Result<Vec<usize>, AllocError>
+    ensures { IfOk result (λ places. NamesChanges looks.now fresh.now places.items) }
+{
+    let mut places = Vec::new(alloc);
+    for one in fresh {
+        push_change(&mut places, looks, one)?;
+    }
+    Ok(places)
+}
+
+fn push_change(places: &mut Vec<usize>, looks: &[Look], one: &Fresh) -> Result<(), AllocError>
+    ensures { OnOk result (IsNoted looks.now one.now places.old.items places.new.items) }
+{
+    if stands_there(looks, one.at, &one.entry.style.look) {
+        return Ok(());
+    }
+    places.push(one.at)?;
+    Ok(())
+}
+
+fn stands_there(looks: &[Look], at: usize, look: &Look) -> bool
+    ensures { IsTrue result → slice_get looks.now at ≡ Some look.now }
+{
+    match look_at(looks, at) {
+        Some(old) => is_same_look(old, look),
+        None => false,
+    }
+}
+
+fn look_at(looks: &[Look], at: usize) -> Option<&Look>
+    ensures { option_copied result ≡ slice_get looks.now at }
+{
+    looks.get(at)
 }
 
 /// So many looks that are to be replaced.

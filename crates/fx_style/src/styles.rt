@@ -1,13 +1,14 @@
 //! The looks of all nodes, kept from one update to the next.
-ghost use Rattle.std.specs.Prelude.{◌≡◌, ◌+◌, ◌<◌, [], ℕ, false, true, IfOk, OnErr, OnOk, is_some, length};
+ghost use Rattle.std.specs.Prelude.{◌≡◌, ◌+◌, ◌<◌, [], ℕ, false, true, IfOk, OnErr, OnOk, is_some, length, map};
 ghost use Rattle.fx_select.specs.Chains.{ParentsStandBefore};
+ghost use Rattle.fx_style.specs.Changes.{NamesChanges};
 ghost use Rattle.fx_style.specs.Kept.{AreDifferent, HaveDifferentKeys, fresh_at, kept_at, put_looks, put_rest};
 ghost use Rattle.fx_style.specs.Rules.{AreIndexed, HaveRows, IsUpdate, KeepsOthers, kept_of, needs, worked};
 ghost use Rattle.fx_style.specs.Turns.{ArePut, AreRightBelow, HaveKeysOf};
 
 use crate::kept::{Fresh, Rest};
 use crate::making::{Old, Scene, made};
-use crate::putting::{blank_looks, blank_rest, places_of, put_all};
+use crate::putting::{blank_looks, blank_rest, changed_places, places_of, put_all};
 use fx_base::{Ledgers, Work};
 use fx_css_types::SheetAt;
 use fx_kinds::StyleFacts;
@@ -93,7 +94,7 @@ impl Styles {
         };
         let stay = self.stays(facts.len());
         let fresh = self.fresh(alloc, scene, stay, restyle, work)?;
-        let changed = places_of(alloc, fresh.as_slice())?;
+        let changed = self.changes(alloc, stay, fresh.as_slice())?;
         self.put(alloc, facts, stay, fresh, changed)
     }
 
@@ -135,6 +136,18 @@ impl Styles {
         made(alloc, scene, old, restyle, work)
     }
 
+    /// The places whose looks may be others once the fresh entries stand there.
+    fn changes(&self, alloc: Global, stay: bool, fresh: &[Fresh]) -> Result<Vec<usize>, AllocError>
+        ensures named { IfOk result (λ places. stay ≡ true → NamesChanges self.now.looks fresh.now places.items) }
+        ensures all { IfOk result (λ places. stay ≡ false → places.items ≡ map (λ f. f.at) fresh.now) }
+    {
+        if stay {
+            changed_places(alloc, self.looks.as_slice(), fresh)
+        } else {
+            places_of(alloc, fresh)
+        }
+    }
+
     /// Puts the fresh entries in their places, of what is kept where that may stay.
     fn put(
         &mut self,
@@ -150,6 +163,7 @@ impl Styles {
         requires all { stay ≡ false → (at : ℕ) → at < length facts.now → is_some (fresh_at fresh.items at) ≡ true }
         requires right { HaveKeysOf facts.now self.old.looks self.old.rest fresh.items }
         ensures put { OnOk result (ArePut self.old self.new fresh.items (length facts.now)) }
+        ensures looks { OnOk result (stay ≡ true → self.new.looks ≡ put_looks self.old.looks fresh.items) }
         ensures changed { OnOk result (self.new.changed ≡ changed.items) }
         ensures err { OnErr result (self.new ≡ self.old) }
     {

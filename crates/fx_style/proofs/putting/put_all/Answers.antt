@@ -3,12 +3,8 @@ use Rattle.fx_look.specs.declared.looks.Look.{Look}
 use Rattle.fx_style.specs.declared.kept.Fresh.{Fresh}
 use Rattle.fx_style.specs.declared.kept.Rest.{Rest}
 use Rattle.fx_style.specs.Kept.{put_looks, put_rest, rest_of}
+use Rattle.fx_style.proofs.ChangeLemmas.{looks-push}
 use Rattle.fx_style.proofs.putting.put_all.Goals as goal
-
-looks-push : (looks : List Look) (fs : List Fresh) (f : Fresh)
-    → set (put_looks looks fs) f.at f.entry.style.look ≡ put_looks looks (fs ++ f ∷ [])
-looks-push looks [] f = refl
-looks-push looks (g ∷ gs) f = looks-push (set looks g.at g.entry.style.look) gs f
 
 rest-push : (rest : List Rest) (fs : List Fresh) (f : Fresh)
     → set (put_rest rest fs) f.at (rest_of f.entry) ≡ put_rest rest (fs ++ f ∷ [])

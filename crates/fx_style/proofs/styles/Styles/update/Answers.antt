@@ -1,7 +1,10 @@
-use Rattle.std.proofs.Common.{List, map, ◌∙◌, ap}
+use Rattle.std.proofs.Common.{◌≡◌, List, length, map, subst, ◌∙◌, ap}
 use Rattle.fx_style.specs.declared.kept.Fresh.{Fresh}
+use Rattle.fx_style.specs.Changes.{NamesChanges}
 use Rattle.fx_style.specs.Rules.{kept_of}
-use Rattle.fx_style.proofs.DoneLemmas.{ok_both, ok_then, others_done, right_keys, update_done}
+use Rattle.fx_style.specs.Turns.{ArePut}
+use Rattle.fx_style.proofs.ChangeLemmas.{changes_done}
+use Rattle.fx_style.proofs.DoneLemmas.{ok_both, ok_then, right_keys, update_done}
 use Rattle.fx_style.proofs.styles.Styles.update.Goals as goal
 
 pub put-requires-clause-right : goal.put-requires-clause-right
@@ -23,7 +26,16 @@ returns-clause-styles g c =
 
 pub returns-clause-changed : goal.returns-clause-changed
 returns-clause-changed g c =
+    let fresh = c.in_ok-fresh.fresh.items in
+    let places = c.in_ok-changed.changed.items in
+    let stay = c.stays-stay.result in
+    let seen : c.as_slice.result.now ≡ fresh = c.as_slice.ensures.value in
     ok_both c.put.result
-    (λ put changed. others_done c.args.self.now c.put.new.self c.in_ok-fresh.fresh.items _ put
-    (changed ∙ c.in_ok-changed.ensures ∙ ap (map (λ (f : Fresh). f.at)) c.as_slice.ensures.value))
-    c.put.ensures.put c.put.ensures.changed
+    (λ (p : ArePut c.args.self.now c.put.new.self fresh (length c.args.facts.now) ×
+    (c.put.new.self.changed ≡ places)) looks.
+    changes_done stay c.args.self.now c.put.new.self fresh (length c.args.facts.now) places p.0 p.1 looks
+    (λ may. subst (λ (l : List Fresh). NamesChanges c.args.self.now.looks l places) seen
+    (c.in_ok-changed.ensures.named may))
+    (λ off. c.in_ok-changed.ensures.all off ∙ ap (map (λ (f : Fresh). f.at)) seen))
+    (ok_both c.put.result (λ put changed. (put, changed)) c.put.ensures.put c.put.ensures.changed)
+    c.put.ensures.looks

@@ -5,11 +5,10 @@ use Rattle.fx_kinds.specs.declared.facts.StyleFacts.{StyleFacts}
 use Rattle.fx_css_types.specs.declared.sheets.SheetAt.{SheetAt}
 use Rattle.fx_select.specs.Chains.{ParentsStandBefore, chain, upward}
 use Rattle.fx_select.proofs.ChainLemmas.{upward-none, upward-some}
-use Rattle.fx_node_style.specs.declared.node_styles.NodeStyle.{NodeStyle}
 use Rattle.fx_style.specs.Places.{parent_at, places_up}
 use Rattle.fx_style.specs.Rules.{anew, chain_styles, chain_style, style_of}
 use Rattle.fx_style.specs.Styled.{first_of, onto, styled}
-use Rattle.fx_style.proofs.PlaceLemmas.{parent_before, places-none, places-some}
+use Rattle.fx_style.proofs.PlaceLemmas.{parent_before, places-none}
 use Rattle.fx_style.proofs.UpdateLemmas.{styled-some}
 
 slice_there : (facts : List StyleFacts) (at : ℕ) → at < length facts → slice_get facts at ≡ None → ⊥

@@ -1,6 +1,6 @@
 -- An update is done once the entries that it made stand in their places.
-use Rattle.std.proofs.Common.{◌≡◌, ◌<◌, ℕ, false, List, Option, Some, None, Result, Ok, Err, map, length, refl, sym, ◌∙◌, ap, subst}
-use Rattle.std.specs.Prelude.{slice_get, OnOk}
+use Rattle.std.proofs.Common.{◌≡◌, ℕ, List, Option, Some, None, Result, Ok, Err, length, sym, ◌∙◌, ap}
+use Rattle.std.specs.Prelude.{OnOk}
 use Rattle.std.specs.Option.{option_map}
 use Rattle.std.proofs.lemmas.Option.{slice_get_within}
 use Rattle.fx_base.specs.declared.keys.NodeKey.{NodeKey}
@@ -11,7 +11,7 @@ use Rattle.fx_node_style.specs.declared.node_styles.NodeStyle.{NodeStyle}
 use Rattle.fx_style.specs.declared.kept.Entry.{Entry}
 use Rattle.fx_style.specs.declared.kept.Fresh.{Fresh}
 use Rattle.fx_style.specs.declared.kept.Rest.{Rest}
-use Rattle.fx_style.specs.Kept.{Kept, entry, fresh_at, is_among, planned_at}
+use Rattle.fx_style.specs.Kept.{Kept, entry}
 use Rattle.fx_style.specs.Rules.{IsUpdate, kept_of, updated_style}
 use Rattle.fx_style.specs.Turns.{ArePut, AreRightBelow, HaveKeysOf}
 

@@ -1,19 +1,14 @@
 -- Keys that differ stand at one place at most.
-use Rattle.std.proofs.Common.{◌≡◌, ◌<◌, ◌≤◌, ◌==◌, ℕ, Bool, true, false, ◌&&◌, eqb, cond, ltb, List, Option, Some, None, get_or, length, refl, sym, ◌∙◌, ap, subst, inl, inr, arith, eq-eqb}
+use Rattle.std.proofs.Common.{◌≡◌, ◌<◌, ℕ, Bool, true, eqb, cond, ltb, List, Some, None, get_or, length, sym, ◌∙◌, ap, inl, inr, arith, eq-eqb}
 use Rattle.std.specs.Prelude.{slice_get}
-use Rattle.std.specs.List.{position, position_or_len}
-use Rattle.std.specs.Option.{option_map}
+use Rattle.std.specs.List.{position_or_len}
 use Rattle.std.proofs.lemmas.Bool.{and_from, and_parts, cases_Bool, eqb-true, lt-ltb}
 use Rattle.std.proofs.lemmas.List.Quantifiers.{position-Some}
 use Rattle.std.proofs.lemmas.List.Sums.{position_or_len_is}
 use Rattle.std.proofs.lemmas.Option.{get_or_from_slice_get, slice_get-get_or, slice_get_within}
 use Rattle.fx_base.specs.declared.keys.NodeKey.{NodeKey}
-use Rattle.fx_look.specs.declared.looks.Look.{Look}
-use Rattle.fx_kinds.specs.declared.facts.StyleFacts.{StyleFacts}
-use Rattle.fx_node_style.specs.declared.node_styles.NodeStyle.{NodeStyle}
-use Rattle.fx_style.specs.declared.kept.Entry.{Entry}
 use Rattle.fx_style.specs.declared.kept.Rest.{Rest}
-use Rattle.fx_style.specs.Kept.{AreDifferent, HaveDifferentKeys, entry, entry_in, is_key, joined, place_of_key}
+use Rattle.fx_style.specs.Kept.{HaveDifferentKeys, is_key, place_of_key}
 
 pub same_key : (a b : NodeKey) → is_key a b ≡ true → a ≡ b
 same_key a b e =

@@ -1,14 +1,12 @@
 -- What is left of a node, and what becomes of it.
-use Rattle.std.proofs.Common.{◌≡◌, ◌<◌, ◌≤◌, ℕ, zero, suc, Bool, true, false, ◌||◌, cond, List, [], ◌∷◌, Option, Some, None, length, refl, sym, ◌∙◌, ap, subst, inl, inr, arith}
+use Rattle.std.proofs.Common.{◌≡◌, ◌<◌, ℕ, zero, suc, Bool, true, false, ◌||◌, List, [], ◌∷◌, Option, Some, None, length, refl, sym, ◌∙◌, ap, arith}
 use Rattle.std.specs.Prelude.{slice_get, is_none, option_and_then}
-use Rattle.std.specs.Option.{option_map}
 use Rattle.fx_base.specs.declared.keys.NodeKey.{NodeKey}
 use Rattle.fx_look.specs.declared.looks.Look.{Look}
 use Rattle.fx_node_style.specs.declared.node_styles.NodeStyle.{NodeStyle}
-use Rattle.fx_style.specs.declared.kept.Entry.{Entry}
 use Rattle.fx_style.specs.declared.kept.Rest.{Rest}
 use Rattle.fx_style.specs.declared.making.Turn.{Turn}
-use Rattle.fx_style.specs.Kept.{entry, entry_in, joined, kept_under, or_else, place_of_key, style_of_entry}
+use Rattle.fx_style.specs.Kept.{entry, entry_in, joined, kept_under, place_of_key, style_of_entry}
 use Rattle.fx_style.specs.Rules.{needs_by, or_made, renewed_by, ticks}
 use Rattle.fx_style.specs.Turns.{Stays}
 use Rattle.fx_style.proofs.KeyLemmas.{key_found}

@@ -1,6 +1,6 @@
 -- An update node by node: the styles that stand are those of the recursion from the root.
-use Rattle.std.proofs.Common.{◌≡◌, ◌++◌, ◌∷◌, [], ◌<◌, ◌≤◌, ◌+◌, ℕ, zero, suc, Bool, true, false, cond, List, Option, Some, None, length, refl, sym, ◌∙◌, ap, subst, arith, inl, inr}
-use Rattle.std.specs.Prelude.{slice_get, is_some}
+use Rattle.std.proofs.Common.{◌≡◌, ◌++◌, ◌∷◌, [], ◌<◌, ◌≤◌, ◌+◌, ℕ, zero, suc, Bool, true, false, List, Option, Some, None, length, refl, sym, ◌∙◌, ap, subst, arith, inl, inr}
+use Rattle.std.specs.Prelude.{slice_get}
 use Rattle.std.specs.Option.{option_map}
 use Rattle.std.specs.List.{filter_map}
 use Rattle.std.proofs.lemmas.Bool.{cases_eq}
@@ -17,7 +17,7 @@ use Rattle.fx_style.specs.declared.kept.Rest.{Rest}
 use Rattle.fx_style.specs.Kept.{entry, entry_in, fresh_at, is_among, or_else, planned_at, style_of_entry}
 use Rattle.fx_style.specs.Places.{parent_at, places_up}
 use Rattle.fx_style.specs.Plans.{made_fresh}
-use Rattle.fx_style.specs.Rules.{anew, or_made, renewed, renewed_by, style_of, updated_style}
+use Rattle.fx_style.specs.Rules.{anew, renewed, renewed_by, style_of, updated_style}
 use Rattle.fx_style.specs.Turns.{AreRightBelow}
 use Rattle.fx_style.specs.Styled.{first_of, onto, styled}
 use Rattle.fx_style.proofs.AboveLemmas.{Now, made_first}

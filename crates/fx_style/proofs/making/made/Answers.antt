@@ -1,4 +1,4 @@
-use Rattle.std.proofs.Common.{◌≡◌, ◌++◌, ◌∷◌, [], ◌<◌, ◌≤◌, ◌+◌, ℕ, Bool, true, false, List, Option, Some, None, get_or, length, refl, sym, ◌∙◌, ap, subst, inl, inr, arith, add_assoc}
+use Rattle.std.proofs.Common.{◌≡◌, ◌++◌, ◌∷◌, [], ◌<◌, ◌+◌, ℕ, Bool, true, false, List, Option, Some, None, get_or, length, refl, sym, ◌∙◌, ap, subst, inl, inr, arith, add_assoc}
 use Rattle.std.specs.Prelude.{slice_get, is_some, option_and_then}
 use Rattle.std.specs.List.{filter_map}
 use Rattle.std.specs.Option.{option_map}
@@ -10,7 +10,7 @@ use Rattle.fx_kinds.specs.declared.facts.StyleFacts.{StyleFacts}
 use Rattle.fx_node_style.specs.declared.node_styles.NodeStyle.{NodeStyle}
 use Rattle.fx_style.specs.declared.kept.Entry.{Entry}
 use Rattle.fx_style.specs.declared.kept.Fresh.{Fresh}
-use Rattle.fx_style.specs.Kept.{entry, entry_in, fresh_at, is_among, kept_at, kept_under, or_else, planned_at, style_of_entry}
+use Rattle.fx_style.specs.Kept.{entry, fresh_at, is_among, kept_at, kept_under}
 use Rattle.fx_style.specs.Places.{parent_at, places_up}
 use Rattle.fx_style.specs.Plans.{AreSteps, made_fresh, step_of}
 use Rattle.fx_style.specs.Rules.{anew, needs, needs_by, renewed_by, ticks, worked}

@@ -11,7 +11,7 @@ use Rattle.fx_kinds.specs.declared.facts.StyleFacts.{StyleFacts}
 use Rattle.fx_select.specs.Chains.{chain, upward}
 use Rattle.fx_select.proofs.ChainLemmas.{upward-some}
 use Rattle.fx_node_style.specs.declared.node_styles.NodeStyle.{NodeStyle}
-use Rattle.fx_node_style.specs.Styling.{look_above, paints_above, style_by, style_under}
+use Rattle.fx_node_style.specs.Styling.{look_above, style_by, style_under}
 use Rattle.fx_style.specs.Plans.{seen_style}
 use Rattle.fx_style.specs.Rules.{chain_style, matching_nodes}
 use Rattle.fx_style.proofs.making.node_style.Goals as goal

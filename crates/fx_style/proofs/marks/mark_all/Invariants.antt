@@ -1,4 +1,4 @@
-use Rattle.std.proofs.Common.{◌≡◌, ◌||◌, ◌<◌, ℕ, Bool, false, get_or, length, take}
+use Rattle.std.proofs.Common.{◌≡◌, ◌||◌, ◌<◌, ℕ, false, get_or, length, take}
 use Rattle.fx_style.specs.Kept.{is_among}
 use Rattle.fx_style.proofs.marks.mark_all.Given as goal
 

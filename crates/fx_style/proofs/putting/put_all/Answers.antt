@@ -2,7 +2,7 @@ use Rattle.std.proofs.Common.{◌≡◌, ◌++◌, ◌∷◌, [], List, set, ref
 use Rattle.fx_look.specs.declared.looks.Look.{Look}
 use Rattle.fx_style.specs.declared.kept.Fresh.{Fresh}
 use Rattle.fx_style.specs.declared.kept.Rest.{Rest}
-use Rattle.fx_style.specs.Kept.{put_looks, put_rest, rest_of}
+use Rattle.fx_style.specs.Kept.{put_rest, rest_of}
 use Rattle.fx_style.proofs.ChangeLemmas.{looks-push}
 use Rattle.fx_style.proofs.putting.put_all.Goals as goal
 

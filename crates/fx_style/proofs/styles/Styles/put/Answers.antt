@@ -1,4 +1,4 @@
-use Rattle.std.proofs.Common.{◌≡◌, ◌<◌, ℕ, None, length, ◌∙◌, ap}
+use Rattle.std.proofs.Common.{length, ◌∙◌, ap}
 use Rattle.std.specs.Prelude.{slice_get}
 use Rattle.fx_style.specs.Kept.{Kept, fresh_at, planned_at}
 use Rattle.fx_style.proofs.PutLemmas.{all_fresh, none_some, put_different, put_there}

@@ -1,5 +1,5 @@
 -- the ledgers of the four counters
-use Rattle.fx_expr.proofs.tests.reads_and_means.Given as goal
+use Rattle.fx_expr_tests.proofs.expressions.reads_and_means.Given as goal
 
 abbrev pub ghosts-compare : goal.ghosts-compare
 ghosts-compare g a = record {

@@ -1,5 +1,5 @@
 -- the ledgers of the four counters
-use Rattle.fx_graph.proofs.tests.follows_what_it_reads.Given as goal
+use Rattle.fx_graph_tests.proofs.bindings.follows_what_it_reads.Given as goal
 
 abbrev pub ghosts-follow : goal.ghosts-follow
 ghosts-follow g a = record {

@@ -12,7 +12,7 @@ use Rattle.fx_graph_model.specs.Changes.{State}
 use Rattle.fx_graph_model.proofs.Flags.{marked-by, length-by}
 use Rattle.fx_graph_model.proofs.Members.{tally_most}
 use Rattle.fx_graph_model.proofs.Walks.{leads-refl}
-use Rattle.fx_graph.proofs.tests.read_twice.Goals as goal
+use Rattle.fx_graph_tests.proofs.bindings.read_twice.Goals as goal
 
 read_off : (es : List Entry) (name : ℕ) (flags : List Bool) → marked (after_reading es name flags) name ≡ false
 read_off es name flags =

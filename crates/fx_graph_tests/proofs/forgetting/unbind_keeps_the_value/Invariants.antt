@@ -1,5 +1,5 @@
 -- the ledgers of the four counters
-use Rattle.fx_graph.proofs.forget_tests.unbind_keeps_the_value.Given as goal
+use Rattle.fx_graph_tests.proofs.forgetting.unbind_keeps_the_value.Given as goal
 
 abbrev pub ghosts-unbind_both : goal.ghosts-unbind_both
 ghosts-unbind_both g a = record {

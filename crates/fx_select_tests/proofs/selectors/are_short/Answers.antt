@@ -4,7 +4,7 @@ use Rattle.std.proofs.lemmas.List.{take_all}
 use Rattle.std.proofs.lemmas.List.Elements.{All-more}
 use Rattle.fx_css_types.specs.declared.sheets.SheetAt.{SheetAt}
 use Rattle.fx_css_types.specs.Limits.{AreShortRules, AreShort}
-use Rattle.fx_select.proofs.tests.are_short.Goals as goal
+use Rattle.fx_select_tests.proofs.selectors.are_short.Goals as goal
 
 pub loop-sheet-preserved : goal.loop-sheet-preserved
 loop-sheet-preserved c =

@@ -1,7 +1,7 @@
 -- the parts of the compounds so far are counted
 use Rattle.std.proofs.Common.{◌+◌, ◌≤◌, take}
 use Rattle.fx_css_types.specs.Specificity.{class_count, id_count, type_count}
-use Rattle.fx_select.proofs.tests.is_short.Given as goal
+use Rattle.fx_select_tests.proofs.selectors.is_short.Given as goal
 
 abbrev pub invariant-loop-compound : goal.invariant-loop-compound
 invariant-loop-compound l = record {

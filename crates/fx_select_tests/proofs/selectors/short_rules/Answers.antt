@@ -4,7 +4,7 @@ use Rattle.std.proofs.lemmas.List.{take_all}
 use Rattle.std.proofs.lemmas.List.Elements.{All-more}
 use Rattle.fx_css_types.specs.declared.sheets.Rule.{Rule}
 use Rattle.fx_css_types.specs.Limits.{AreShortSelectors, AreShortRules}
-use Rattle.fx_select.proofs.tests.short_rules.Goals as goal
+use Rattle.fx_select_tests.proofs.selectors.short_rules.Goals as goal
 
 pub loop-rule-preserved : goal.loop-rule-preserved
 loop-rule-preserved c =

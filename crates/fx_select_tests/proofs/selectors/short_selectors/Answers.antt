@@ -5,7 +5,7 @@ use Rattle.std.proofs.lemmas.List.Elements.{All-more}
 use Rattle.fx_css_types.specs.declared.selectors.Selector.{Selector}
 use Rattle.fx_css_types.specs.Specificity.{part_count}
 use Rattle.fx_css_types.specs.Limits.{AreShortSelectors}
-use Rattle.fx_select.proofs.tests.short_selectors.Goals as goal
+use Rattle.fx_select_tests.proofs.selectors.short_selectors.Goals as goal
 
 pub loop-selector-preserved : goal.loop-selector-preserved
 loop-selector-preserved c =

@@ -1,0 +1,4 @@
+pub mod SpanLemmas
+pub mod DotLemmas
+pub mod CutLemmas
+pub mod LetterLemmas

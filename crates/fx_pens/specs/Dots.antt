@@ -1,0 +1,48 @@
+-- What painting does to one row: the dots are laid over once each, and counted.
+use Rattle.std.specs.Prelude.{◌≡◌, ◌<◌, ◌≤◌, ℕ, ℤ, pos, Bool, ◌&&◌, ◌+◌, ◌-◌, ◌*◌, ◌/◌, ◌+ℤ◌, ◌-ℤ◌, List, [], ◌∷◌, count_by, length, nat_le, nat_lt, slice_index, if◌then◌else◌}
+use Rattle.std.specs.List.{range_with_len}
+use Rattle.fx_base.specs.Pixel.{blended}
+use Rattle.fx_base.specs.declared.color.Color.{Color}
+use Rattle.fx_pens.specs.declared.spans.Pen.{Pen}
+use Rattle.fx_cells.specs.Columns.{cell_width, cells_of}
+use Rattle.fx_cells.specs.Font.{glyph_of}
+use Rattle.fx_picture.specs.Bounds.{in_range}
+use Rattle.fx_picture.specs.Shapes.{has_dot, ink, whole}
+
+-- from this column on and before that one
+abbrev pub is_in : ℕ → ℕ → ℕ → Bool
+is_in from to x = nat_le from x && nat_lt x to
+
+-- how many columns, from one on and before another, pass a test
+abbrev pub count_in : (ℕ → Bool) → ℕ → ℕ → ℕ
+count_in test from to = count_by test (range_with_len from (to - from))
+
+-- the columns of the pen that are dots are laid over once each, and counted
+pub record IsLaid (pen : Pen) (dots : ℕ → Bool) (old new : List ℕ) (before after : ℕ) : Type 0 where
+  pub long : length new ≡ length old
+  pub pixels : (x : ℕ) → x < length old → slice_index new x
+      ≡ (if is_in pen.left pen.right x && dots x then blended pen.color (slice_index old x) else slice_index old x)
+  pub count : after ≡ before + count_in dots pen.left pen.right
+
+-- the pen stays within a row
+pub record IsPen (pen : Pen) (row : List ℕ) : Type 0 where
+  pub rises : pen.left ≤ pen.right
+  pub within : pen.right ≤ length row
+  pub some : 0 < pen.scale
+  pub most : pen.scale ≤ 9223372036854775807
+  pub near : pen.right ≤ 65536
+
+-- one bit of a glyph: a scale of columns from here on
+abbrev pub bit_dots : Pen → ℤ → ℕ → Bool
+bit_dots pen start x = in_range start (start +ℤ pos pen.scale) x
+
+-- the row of a glyph that the pen paints, in the first of the cells of a character that begin here
+unfoldable pub char_dots : Pen → ℤ → ℕ → ℕ → Bool
+char_dots pen start c x =
+    in_range start (start +ℤ pos (4 * cell_width c * pen.scale)) x
+    && has_dot (glyph_of c) (whole (pos x -ℤ start) / pen.scale) (pen.below / pen.scale)
+
+-- the row of letters that the pen paints, whose first cell begins here
+unfoldable pub line_dots : Pen → ℤ → List ℕ → ℕ → Bool
+line_dots pen start cs x =
+    in_range start (start +ℤ pos (4 * cells_of cs * pen.scale)) x && ink cs pen.scale (whole (pos x -ℤ start)) pen.below

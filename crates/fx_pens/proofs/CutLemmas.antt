@@ -1,5 +1,5 @@
 -- A place cut to the columns of a pen tells the same of each of them.
-use Rattle.std.proofs.Common.{◌≡◌, ◌<◌, ◌≤◌, ◌≤ℤ◌, ◌<ℤ◌, ◌+ℤ◌, ◌&&◌, ℕ, ℤ, pos, suc, Bool, true, false, refl, sym, ap, ◌∙◌, arith, leb, ltb}
+use Rattle.std.proofs.Common.{◌≡◌, ◌<◌, ◌≤◌, ◌≤ℤ◌, ◌<ℤ◌, ◌&&◌, ℕ, ℤ, pos, suc, true, false, sym, ap, ◌∙◌, arith, leb}
 use Rattle.std.specs.Prelude.{int_le, int_lt}
 use Rattle.std.proofs.lemmas.Bool.Decides.{nat_tests}
 use Rattle.std.proofs.lemmas.Int.{ints, by_lt_z}
@@ -30,11 +30,11 @@ cut_from : (left right r x : ℕ) (at : ℤ) → left ≤ x → x < right
 cut_from left right r x at a b low among high =
     by_lt_z (pos left) at
     (λ p. by_lt_z at (pos right)
-        (λ q. (let e : pos r ≡ at = among (omega (arith, ints, p)) (omega (arith, ints, q)) in ap (λ z. int_le z (pos x)) e))
-        (λ q. (let e : r ≡ right = high q in
-            ap (λ n. leb n x) e ∙ (leb_no right x b ∙ sym (le_false at (pos x) (omega (arith, ints, q, b)))))))
+    (λ q. (let e : pos r ≡ at = among (omega (arith, ints, p)) (omega (arith, ints, q)) in ap (λ z. int_le z (pos x)) e))
+    (λ q. (let e : r ≡ right = high q in
+    ap (λ n. leb n x) e ∙ (leb_no right x b ∙ sym (le_false at (pos x) (omega (arith, ints, q, b)))))))
     (λ p. (let e : r ≡ left = low p in
-        ap (λ n. leb n x) e ∙ (leb_yes left x a ∙ sym (le_true at (pos x) (omega (arith, ints, p, a))))))
+    ap (λ n. leb n x) e ∙ (leb_yes left x a ∙ sym (le_true at (pos x) (omega (arith, ints, p, a))))))
 
 cut_to : (left right r x : ℕ) (at : ℤ) → left ≤ x → x < right
     → (at ≤ℤ pos left → r ≡ left) → (pos left ≤ℤ at → at ≤ℤ pos right → pos r ≡ at) → (pos right ≤ℤ at → r ≡ right)
@@ -42,11 +42,11 @@ cut_to : (left right r x : ℕ) (at : ℤ) → left ≤ x → x < right
 cut_to left right r x at a b low among high =
     by_lt_z (pos left) at
     (λ p. by_lt_z at (pos right)
-        (λ q. (let e : pos r ≡ at = among (omega (arith, ints, p)) (omega (arith, ints, q)) in ap (λ z. int_lt (pos x) z) e))
-        (λ q. (let e : r ≡ right = high q in
-            ap (λ n. leb (suc x) n) e ∙ (leb_yes (suc x) right b ∙ sym (lt_true (pos x) at (omega (arith, ints, q, b)))))))
+    (λ q. (let e : pos r ≡ at = among (omega (arith, ints, p)) (omega (arith, ints, q)) in ap (λ z. int_lt (pos x) z) e))
+    (λ q. (let e : r ≡ right = high q in
+    ap (λ n. leb (suc x) n) e ∙ (leb_yes (suc x) right b ∙ sym (lt_true (pos x) at (omega (arith, ints, q, b)))))))
     (λ p. (let e : r ≡ left = low p in
-        ap (λ n. leb (suc x) n) e ∙ (leb_no (suc x) left (omega (arith, a)) ∙ sym (lt_false (pos x) at (omega (arith, ints, p, a))))))
+    ap (λ n. leb (suc x) n) e ∙ (leb_no (suc x) left (omega (arith, a)) ∙ sym (lt_false (pos x) at (omega (arith, ints, p, a))))))
 
 pub bit_span : (left right from to x : ℕ) (start end : ℤ) → left ≤ x → x < right
     → (start ≤ℤ pos left → from ≡ left) → (pos left ≤ℤ start → start ≤ℤ pos right → pos from ≡ start) → (pos right ≤ℤ start → from ≡ right)

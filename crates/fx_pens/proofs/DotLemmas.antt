@@ -1,14 +1,12 @@
 -- Counting the columns that pass a test, and laying dots over a row one after another.
-use Rattle.std.proofs.Common.{◌≡◌, ◌<◌, ◌≤◌, ◌+◌, ◌-◌, ◌*◌, ◌/◌, ◌&&◌, ◌||◌, ◌+ℤ◌, ◌-ℤ◌, ◌≤ℤ◌, ◌<ℤ◌, ℕ, ℤ, pos, suc, zero, Bool, true, false, cond, not, List, [], ◌∷◌, length, get_or, refl, sym, ap, ◌∙◌, arith, inl, inr, leb, ◌⊎◌}
-use Rattle.std.specs.Prelude.{count_by, nat_le, nat_lt}
+use Rattle.std.proofs.Common.{◌≡◌, ◌<◌, ◌≤◌, ◌+◌, ◌-◌, ◌&&◌, ◌||◌, ℕ, suc, zero, Bool, true, false, cond, List, ◌∷◌, get_or, refl, sym, ap, ◌∙◌, arith, inl, inr, leb, ◌⊎◌}
+use Rattle.std.specs.Prelude.{count_by}
 use Rattle.std.specs.List.{range_with_len}
 use Rattle.std.proofs.lemmas.Bool.Decides.{leb_tells, nat_tests}
 use Rattle.std.proofs.lemmas.List.Sums.{sum_by-cons}
 use Rattle.fx_base.specs.Pixel.{blended}
-use Rattle.fx_base.specs.declared.color.Color.{Color}
 use Rattle.fx_pens.specs.declared.spans.Pen.{Pen}
-use Rattle.fx_pens.specs.Dots.{IsLaid, IsPen, count_in, is_in}
-
+use Rattle.fx_pens.specs.Dots.{IsLaid, count_in, is_in}
 
 count-cons : (p : ℕ → Bool) (x : ℕ) (xs : List ℕ) → count_by p (x ∷ xs) ≡ cond (p x) 1 0 + count_by p xs
 count-cons p x xs = sum_by-cons (λ y. cond (p y) 1 0) x xs
@@ -47,7 +45,7 @@ count-none from zero = refl
 count-none from (suc n) = let c = count-cons (λ x. false) from (range_with_len (from + 1) n) in let r = count-none (from + 1) n in omega (arith, c, r)
 
 -- ---- a span
-in_true : (from to x : ℕ) → from ≤ x → x < to → is_in from to x ≡ true
+pub in_true : (from to x : ℕ) → from ≤ x → x < to → is_in from to x ≡ true
 in_true from to x a b = grind (arith, nat_tests)
 
 in_low : (from to x : ℕ) → x < from → is_in from to x ≡ false
@@ -79,7 +77,7 @@ count-span from to start (suc n) a b c = elim (leb_tells from start) [
       let here : is_in from to start ≡ false = in_low from to start t.1 in
       let rest = count-span from to (start + 1) n (omega (arith, t.1)) b (omega (arith, c)) in
       let first : count_by (is_in from to) (start ∷ range_with_len (start + 1) n) ≡ 0 + count_by (is_in from to) (range_with_len (start + 1) n) =
-          count-cons (is_in from to) start (range_with_len (start + 1) n) ∙ ap (λ u. cond u 1 0 + count_by (is_in from to) (range_with_len (start + 1) n)) here in
+      count-cons (is_in from to) start (range_with_len (start + 1) n) ∙ ap (λ u. cond u 1 0 + count_by (is_in from to) (range_with_len (start + 1) n)) here in
       omega (arith, first, rest))
 ]
 

@@ -1,9 +1,8 @@
 -- A row of letters is the rows of its glyphs side by side, and a row of a glyph is three bits side by side.
-use Rattle.std.proofs.Common.{◌≡◌, ◌<◌, ◌≤◌, ◌+◌, ◌-◌, ◌*◌, ◌/◌, ◌%◌, ◌&&◌, ◌||◌, ◌+ℤ◌, ◌-ℤ◌, ◌≤ℤ◌, ◌<ℤ◌, ◌⊎◌, ℕ, ℤ, pos, negsuc, suc, zero, Bool, true, false, cond, List, [], ◌∷◌, ◌++◌, length, take, drop, get_or, refl, sym, ap, subst, ◌∙◌, arith, inl, inr, leb, nat_lt, append-nil}
+use Rattle.std.proofs.Common.{◌≡◌, ◌<◌, ◌≤◌, ◌+◌, ◌-◌, ◌*◌, ◌/◌, ◌%◌, ◌&&◌, ◌||◌, ◌+ℤ◌, ◌-ℤ◌, ◌≤ℤ◌, ◌<ℤ◌, ℕ, ℤ, pos, negsuc, suc, zero, Bool, true, false, cond, List, [], ◌∷◌, ◌++◌, refl, sym, ap, ◌∙◌, arith, inl, inr, leb, nat_lt}
 use Rattle.std.specs.Prelude.{int_le, int_lt}
 use Rattle.std.proofs.lemmas.Bool.Decides.{leb_tells, nat_tests}
 use Rattle.std.proofs.lemmas.Int.{ints, by_lt_z}
-use Rattle.std.proofs.lemmas.List.{take_more, take-append-drop}
 use Rattle.std.proofs.lemmas.List.Sums.{sum_by-append, sum_by-cons}
 use Rattle.std.proofs.lemmas.Nat.{div-mul-add}
 use Rattle.fx_cells.specs.Columns.{cell_width, cells_of}
@@ -42,7 +41,6 @@ whole_pos : (z : ℤ) → pos 0 ≤ℤ z → pos (whole z) ≡ z
 whole_pos (pos n) h = refl
 whole_pos (negsuc n) h = absurd (omega (arith, ints, h))
 
-
 -- ---- three bits of a glyph
 third : (g r : ℕ) (q : ℕ) → 3 ≤ q → has_dot g q r ≡ false
 unfolding has_dot
@@ -74,7 +72,6 @@ in_high a b m p = grind (arith, nat_tests)
 and_false : (a : Bool) → (a && false) ≡ false
 and_false true = refl
 and_false false = refl
-
 
 second : (a b c : Bool) → (((a && false) || (b && true)) || (c && false)) ≡ b
 second true true true = refl
@@ -219,7 +216,7 @@ before_start start b x h =
 by_column : (P : Type 0) (start : ℤ) (x : ℕ) → (pos x <ℤ start → P) → ((m : ℕ) → pos x ≡ start +ℤ pos m → P) → P
 by_column P start x low high = by_lt_z (pos x) start low
     (λ p. high (whole (pos x -ℤ start))
-        (let e : pos (whole (pos x -ℤ start)) ≡ pos x -ℤ start = whole_pos (pos x -ℤ start) (omega (arith, ints, p)) in omega (arith, ints, e)))
+    (let e : pos (whole (pos x -ℤ start)) ≡ pos x -ℤ start = whole_pos (pos x -ℤ start) (omega (arith, ints, p)) in omega (arith, ints, e)))
 
 -- ---- a character
 bit_low : (pen : Pen) (start at : ℤ) (k x : ℕ) → at ≡ start +ℤ pos k → pos x <ℤ start → bit_dots pen at x ≡ false
@@ -247,24 +244,24 @@ char_nat pen start c x m e =
 pub char_none : (pen : Pen) (start : ℤ) (c x : ℕ) → cell_width c ≡ 0 → char_dots pen start c x ≡ false
 char_none pen start c x h = by_column (char_dots pen start c x ≡ false) start x (λ p. char_low pen start c x p)
     (λ m e. (let off : is_in 0 (4 * cell_width c * pen.scale) m ≡ false = in_high 0 (4 * cell_width c * pen.scale) m (rw h (omega arith)) in
-        char_nat pen start c x m e ∙ rw off refl))
+    char_nat pen start c x m e ∙ rw off refl))
 
 three_false : (a b c : Bool) (t u v : Bool) → t ≡ false → u ≡ false → v ≡ false → (((a && t) || (b && u)) || (c && v)) ≡ false
 three_false a b c t u v p q r = rw (p, q, r) (none a b c)
 
 pub bits_are : (pen : Pen) (start one two : ℤ) (c x : ℕ) → 0 < pen.scale → 1 ≤ cell_width c → one ≡ start +ℤ pos (1 * pen.scale) → two ≡ start +ℤ pos (2 * pen.scale)
     → (((has_dot (glyph_of c) 0 (pen.below / pen.scale) && bit_dots pen start x) || (has_dot (glyph_of c) 1 (pen.below / pen.scale) && bit_dots pen one x))
-        || (has_dot (glyph_of c) 2 (pen.below / pen.scale) && bit_dots pen two x)) ≡ char_dots pen start c x
+    || (has_dot (glyph_of c) 2 (pen.below / pen.scale) && bit_dots pen two x)) ≡ char_dots pen start c x
 bits_are pen start one two c x some wide p q =
     let zero' : start ≡ start +ℤ pos 0 = omega (arith, ints) in
     by_column ((((has_dot (glyph_of c) 0 (pen.below / pen.scale) && bit_dots pen start x) || (has_dot (glyph_of c) 1 (pen.below / pen.scale) && bit_dots pen one x))
-        || (has_dot (glyph_of c) 2 (pen.below / pen.scale) && bit_dots pen two x)) ≡ char_dots pen start c x) start x
+    || (has_dot (glyph_of c) 2 (pen.below / pen.scale) && bit_dots pen two x)) ≡ char_dots pen start c x) start x
     (λ low. three_false _ _ _ _ _ _ (bit_low pen start start 0 x zero' low) (bit_low pen start one (1 * pen.scale) x p low) (bit_low pen start two (2 * pen.scale) x q low)
-        ∙ sym (char_low pen start c x low))
+    ∙ sym (char_low pen start c x low))
     (λ m e. (let b0 : bit_dots pen start x ≡ is_in 0 pen.scale m = bit_nat pen start start 0 x m zero' e ∙ ap (λ n. is_in 0 n m) (zero_plus pen.scale) in
-        let b1 = bit_nat pen start one (1 * pen.scale) x m p e in
-        let b2 = bit_nat pen start two (2 * pen.scale) x m q e in
-        rw (b0, b1, b2) (glyph_bits (glyph_of c) (pen.below / pen.scale) pen.scale (cell_width c) m some wide) ∙ sym (char_nat pen start c x m e)))
+    let b1 = bit_nat pen start one (1 * pen.scale) x m p e in
+    let b2 = bit_nat pen start two (2 * pen.scale) x m q e in
+    rw (b0, b1, b2) (glyph_bits (glyph_of c) (pen.below / pen.scale) pen.scale (cell_width c) m some wide) ∙ sym (char_nat pen start c x m e)))
   where
     zero_plus : (n : ℕ) → 0 + n ≡ n
     zero_plus n = omega arith
@@ -285,8 +282,8 @@ pub bits_apart : (pen : Pen) (start at to : ℤ) (k l x : ℕ) (a b : Bool) → 
     → ((a && bit_dots pen at x) && (b && bit_dots pen to x)) ≡ false
 bits_apart pen start at to k l x a b p q h = apart_two a b (bit_dots pen at x) (bit_dots pen to x)
     (by_column ((bit_dots pen at x && bit_dots pen to x) ≡ false) start x
-        (λ low. (let off = bit_low pen start at k x p low in rw off refl))
-        (λ m e. (let one = bit_nat pen start at k x m p e in let two = bit_nat pen start to l x m q e in rw (one, two) (in_apart k (k + pen.scale) l (l + pen.scale) m h))))
+    (λ low. (let off = bit_low pen start at k x p low in rw off refl))
+    (λ m e. (let one = bit_nat pen start at k x m p e in let two = bit_nat pen start to l x m q e in rw (one, two) (in_apart k (k + pen.scale) l (l + pen.scale) m h))))
 
 -- ---- a line
 line_low : (pen : Pen) (start : ℤ) (cs : List ℕ) (x : ℕ) → pos x <ℤ start → line_dots pen start cs x ≡ false
@@ -360,7 +357,7 @@ line_more pen start cs c x =
     by_column ((line_dots pen start cs x || char_dots pen (start +ℤ pos w) c x) ≡ line_dots pen start (cs ++ c ∷ []) x) start x
     (λ p. (let a = line_low pen start cs x p in let b = char_low pen (start +ℤ pos w) c x (omega (arith, ints, p)) in let d = line_low pen start (cs ++ c ∷ []) x p in rw (a, b, d) refl))
     (λ m e. (let a = line_nat pen start cs x m e in let b = behind_nat pen start w c x m e in let d = line_nat pen start (cs ++ c ∷ []) x m e in
-        rw (a, b) (sym (more_nat cs c pen.scale m pen.below)) ∙ sym d))
+    rw (a, b) (sym (more_nat cs c pen.scale m pen.below)) ∙ sym d))
 
 pub line_apart : (pen : Pen) (start : ℤ) (cs : List ℕ) (c x : ℕ)
     → (line_dots pen start cs x && char_dots pen (start +ℤ pos (4 * cells_of cs * pen.scale)) c x) ≡ false
@@ -369,7 +366,7 @@ line_apart pen start cs c x =
     by_column ((line_dots pen start cs x && char_dots pen (start +ℤ pos w) c x) ≡ false) start x
     (λ p. (let a = line_low pen start cs x p in rw a refl))
     (λ m e. (let a = line_nat pen start cs x m e in let b = behind_nat pen start w c x m e in
-        rw (a, b) (mixed (is_in 0 w m) (is_in w (w + 4 * cell_width c * pen.scale) m) (ink cs pen.scale m pen.below) (has_dot (glyph_of c) ((m - w) / pen.scale) (pen.below / pen.scale)) (in_apart 0 w w (w + 4 * cell_width c * pen.scale) m (omega arith)))))
+    rw (a, b) (mixed (is_in 0 w m) (is_in w (w + 4 * cell_width c * pen.scale) m) (ink cs pen.scale m pen.below) (has_dot (glyph_of c) ((m - w) / pen.scale) (pen.below / pen.scale)) (in_apart 0 w w (w + 4 * cell_width c * pen.scale) m (omega arith)))))
   where
     mixed : (a b t u : Bool) → (a && b) ≡ false → ((a && t) && (b && u)) ≡ false
     mixed true true t u h = cc
@@ -385,13 +382,13 @@ line_rest pen start cs ds x h =
     by_column (line_dots pen start cs x ≡ line_dots pen start (cs ++ ds) x) start x
     (λ p. line_low pen start cs x p ∙ sym (line_low pen start (cs ++ ds) x p))
     (λ m e. (
-        let less : m < w = omega (arith, ints, h, e) in
-        let all : 4 * cells_of (cs ++ ds) * pen.scale ≡ w + 4 * cells_of ds * pen.scale = wide-append cs ds pen.scale in
-        let i0 = in_yes 0 w m (omega arith) less in
-        let i1 : is_in 0 (4 * cells_of (cs ++ ds) * pen.scale) m ≡ true = in_yes 0 (4 * cells_of (cs ++ ds) * pen.scale) m (omega arith) (omega (arith, all, less)) in
-        let here : nat_lt m w ≡ true = grind (arith, nat_tests, less) in
-        let inks = ink-append cs ds pen.scale m pen.below in
-        line_nat pen start cs x m e ∙ (rw (i0, i1, inks, here) refl ∙ sym (line_nat pen start (cs ++ ds) x m e))))
+    let less : m < w = omega (arith, ints, h, e) in
+    let all : 4 * cells_of (cs ++ ds) * pen.scale ≡ w + 4 * cells_of ds * pen.scale = wide-append cs ds pen.scale in
+    let i0 = in_yes 0 w m (omega arith) less in
+    let i1 : is_in 0 (4 * cells_of (cs ++ ds) * pen.scale) m ≡ true = in_yes 0 (4 * cells_of (cs ++ ds) * pen.scale) m (omega arith) (omega (arith, all, less)) in
+    let here : nat_lt m w ≡ true = grind (arith, nat_tests, less) in
+    let inks = ink-append cs ds pen.scale m pen.below in
+    line_nat pen start cs x m e ∙ (rw (i0, i1, inks, here) refl ∙ sym (line_nat pen start (cs ++ ds) x m e))))
 
 pub bits_same : (pen : Pen) (start at0 at1 at2 : ℤ) (c x : ℕ) (a0 a1 a2 : Bool) → 0 < pen.scale → 1 ≤ cell_width c
     → at0 ≡ start → at1 ≡ start +ℤ pos (1 * pen.scale) → at2 ≡ start +ℤ pos (2 * pen.scale)

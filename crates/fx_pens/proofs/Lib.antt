@@ -2,3 +2,4 @@ pub mod SpanLemmas
 pub mod DotLemmas
 pub mod CutLemmas
 pub mod LetterLemmas
+pub mod ShapeLemmas

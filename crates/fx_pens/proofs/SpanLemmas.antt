@@ -1,5 +1,5 @@
 -- A colour laid over a part of a row.
-use Rattle.std.proofs.Common.{suc, replicate, lit<, inl, inr, get_or-drop, ◌≡◌, ◌<◌, ◌≤◌, ℕ, ◌+◌, ◌-◌, ◌*◌, ◌&&◌, List, [], ◌∷◌, ◌++◌, cond, length, get_or, take, drop, map, sym, ◌∙◌, ap, refl, arith, length-take, length-drop, length-append}
+use Rattle.std.proofs.Common.{suc, replicate, lit<, inl, inr, get_or-drop, ◌≡◌, ◌<◌, ◌≤◌, ℕ, ◌+◌, ◌-◌, ◌*◌, List, [], ◌∷◌, ◌++◌, cond, length, get_or, take, drop, map, ◌∙◌, ap, refl, arith, length-take, length-drop, length-append}
 use borrow.Rule.Slice.PartMut.{mid_of, post_of, put_mid, mid_len, Post-is}
 use Rattle.std.proofs.lemmas.Bool.Decides.{leb_tells}
 use Rattle.std.proofs.lemmas.List.{get_or_append_left, get_or-append_right, get_or-map, get_or-take, length-map}

@@ -1,8 +1,7 @@
 -- What painting does to one row: the dots are laid over once each, and counted.
-use Rattle.std.specs.Prelude.{◌≡◌, ◌<◌, ◌≤◌, ℕ, ℤ, pos, Bool, ◌&&◌, ◌+◌, ◌-◌, ◌*◌, ◌/◌, ◌+ℤ◌, ◌-ℤ◌, List, [], ◌∷◌, count_by, length, nat_le, nat_lt, slice_index, if◌then◌else◌}
+use Rattle.std.specs.Prelude.{◌≡◌, ◌<◌, ◌≤◌, ℕ, ℤ, pos, Bool, ◌&&◌, ◌+◌, ◌-◌, ◌*◌, ◌/◌, ◌+ℤ◌, ◌-ℤ◌, List, count_by, length, nat_le, nat_lt, slice_index, if◌then◌else◌}
 use Rattle.std.specs.List.{range_with_len}
 use Rattle.fx_base.specs.Pixel.{blended}
-use Rattle.fx_base.specs.declared.color.Color.{Color}
 use Rattle.fx_pens.specs.declared.spans.Pen.{Pen}
 use Rattle.fx_cells.specs.Columns.{cell_width, cells_of}
 use Rattle.fx_cells.specs.Font.{glyph_of}

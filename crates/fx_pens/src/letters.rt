@@ -32,13 +32,7 @@ pub(crate) fn lay_line<P: Ledger>(
 }
 
 /// Paints the row of the glyph of a character whose first cell begins at this column.
-fn lay_character<P: Ledger>(
-    row: &mut [u32],
-    pen: Pen,
-    start: i128,
-    c: char,
-    painted: &mut Steps<P>,
-)
+fn lay_character<P: Ledger>(row: &mut [u32], pen: Pen, start: i128, c: char, painted: &mut Steps<P>)
     requires pen { IsPen pen row.old }
     requires least { negsuc (2 ^ 70) ≤ℤ start }
     requires most { start ≤ℤ pos (2 ^ 70) }
@@ -50,8 +44,20 @@ fn lay_character<P: Ledger>(
     let glyph = glyph(c);
     let line = pen.below / pen.scale;
     lay_bit(row, pen, start, has_dot(glyph, 0, line), painted);
-    lay_bit(row, pen, behind(start, pen.scale, 1), has_dot(glyph, 1, line), painted);
-    lay_bit(row, pen, behind(start, pen.scale, 2), has_dot(glyph, 2, line), painted);
+    lay_bit(
+        row,
+        pen,
+        behind(start, pen.scale, 1),
+        has_dot(glyph, 1, line),
+        painted,
+    );
+    lay_bit(
+        row,
+        pen,
+        behind(start, pen.scale, 2),
+        has_dot(glyph, 2, line),
+        painted,
+    );
 }
 
 /// So many scales behind a column.

@@ -1,6 +1,10 @@
-//! The kept buffer of a window: rows of pixels, painted anew where a picture changed.
-//! It stands on the picture and on the row kernels, below what keeps a frame.
+//! One row of a shape, painted by runs over the row kernels: each pixel that the shape holds is laid over once, and
+//! counted. It stands on the picture, below the canvas.
 #![tactic(auto)]
 
 mod letters;
+mod shapes;
 mod spans;
+
+pub use shapes::lay_shape;
+pub use spans::{Columns, Pen};

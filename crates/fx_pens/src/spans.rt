@@ -19,6 +19,13 @@ pub struct Pen {
     pub color: Color,
 }
 
+/// The columns of a row from one on and before another.
+#[derive(Clone, Copy)]
+pub struct Columns {
+    pub left: usize,
+    pub right: usize,
+}
+
 /// Paints the columns from one on and before another.
 pub(crate) fn lay_span<P: Ledger>(
     row: &mut [u32],

@@ -40,8 +40,8 @@ returns g c =
     let some = c.requires.pen.some in
     let wide : 1 ≤ cell_width c.args.c = omega (arith, c.width_of.ensures.width, c.if-width_of-eq0.false) in
     let two = laid-then pen d0 d1 c.args.row.now c.lay_bit.new.row c.lay_bit-2.new.row c.args.painted.now c.lay_bit.new.painted c.lay_bit-2.new.painted
-        c.requires.pen.rises (λ x a b. bits_apart pen start at0 at1 0 (1 * pen.scale) x a0 a1 zero' p1 (omega arith)) c.lay_bit.ensures c.lay_bit-2.ensures in
+    c.requires.pen.rises (λ x a b. bits_apart pen start at0 at1 0 (1 * pen.scale) x a0 a1 zero' p1 (omega arith)) c.lay_bit.ensures c.lay_bit-2.ensures in
     let three = laid-then pen (λ x. d0 x || d1 x) d2 c.args.row.now c.lay_bit-2.new.row c.lay_bit-3.new.row c.args.painted.now c.lay_bit-2.new.painted c.lay_bit-3.new.painted
-        c.requires.pen.rises (λ x a b. bits_apart_both pen start at0 at1 at2 x a0 a1 a2 p0 p1 p2) two c.lay_bit-3.ensures in
+    c.requires.pen.rises (λ x a b. bits_apart_both pen start at0 at1 at2 x a0 a1 a2 p0 p1 p2) two c.lay_bit-3.ensures in
     laid-same pen (λ x. (d0 x || d1 x) || d2 x) (char_dots pen start c.args.c) c.args.row.now c.lay_bit-3.new.row c.args.painted.now c.lay_bit-3.new.painted
-        (λ x a b. bits_same pen start at0 at1 at2 c.args.c x a0 a1 a2 some wide p0 p1 p2 e0 e1 e2) c.requires.pen.rises three
+    (λ x a b. bits_same pen start at0 at1 at2 c.args.c x a0 a1 a2 some wide p0 p1 p2 e0 e1 e2) c.requires.pen.rises three

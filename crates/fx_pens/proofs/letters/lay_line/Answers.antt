@@ -1,4 +1,4 @@
-use Rattle.std.proofs.Common.{◌≡◌, ◌<ℤ◌, ◌+ℤ◌, ◌*◌, ◌++◌, ◌∷◌, [], ◌||◌, ◌&&◌, ◌≤ℤ◌, ◌∙◌, ℤ, ℕ, Bool, List, pos, ap, sym, arith, rules, take, drop, length, w64, FitsSigned, to_z, of_z}
+use Rattle.std.proofs.Common.{◌≡◌, ◌+ℤ◌, ◌*◌, ◌++◌, ◌∷◌, [], ◌||◌, ◌&&◌, ◌≤ℤ◌, ◌∙◌, ℤ, pos, ap, sym, arith, rules, take, drop, length, w64, FitsSigned, to_z, of_z}
 use Rattle.std.specs.Int.{w128}
 use Rattle.std.specs.Str.{chars}
 use Rattle.std.proofs.lemmas.Int.{ints, to_z-of_z}
@@ -14,10 +14,11 @@ use Rattle.fx_pens.proofs.letters.lay_line.Goals as goal
 pub loop-c-init : goal.loop-c-init
 loop-c-init g c =
     let from = c.from-start.ensures in
-    let first = c.ranges.first in
-    (omega (arith, ints, from),
-    laid-none c.args.pen (line_dots c.args.pen (to_z w64 (of_z w64 c.args.first)) []) c.args.row.now c.args.painted.now c.requires.rises
-        (λ x a b. line_nil c.args.pen (to_z w64 (of_z w64 c.args.first)) x))
+    let first = c.ranges.first in (
+      omega (arith, ints, from),
+      laid-none c.args.pen (line_dots c.args.pen (to_z w64 (of_z w64 c.args.first)) []) c.args.row.now c.args.painted.now c.requires.rises
+          (λ x a b. line_nil c.args.pen (to_z w64 (of_z w64 c.args.first)) x),
+    )
 
 pub returns-then-start-pen : goal.returns-then-start-pen
 returns-then-start-pen g c =
@@ -34,7 +35,7 @@ returns-then-start-pen g c =
     let stop : pos pen.right ≤ℤ (first +ℤ pos (4 * cells_of (take n cs) * pen.scale)) = omega (arith, ints, right, past, at) in
     laid-same pen (line_dots pen first (take n cs)) (line_dots pen c.args.first cs) c.args.row.now c.loop-c.row c.args.painted.now c.loop-c.painted
     (λ x a b. line_rest pen first (take n cs) (drop n cs) x (omega (arith, ints, b, stop))
-        ∙ (ap (λ l. line_dots pen first l x) (take-append-drop n cs) ∙ ap (λ z. line_dots pen z cs x) same))
+    ∙ (ap (λ l. line_dots pen first l x) (take-append-drop n cs) ∙ ap (λ z. line_dots pen z cs x) same))
     c.requires.rises c.loop-c.invariant.1
 
 pub loop-c-preserved : goal.loop-c-preserved
@@ -48,23 +49,24 @@ loop-c-preserved g c =
     let now : ℤ = to_z w128 c.loop-c.start-bits in
     let wide = 4 * cells_of (take n cs) * pen.scale in
     let new : take (length (c.loop-c.yielded ++ ch ∷ [])) cs ≡ take n cs ++ ch ∷ [] =
-        ap (λ k. take k cs) (length_push c.loop-c.yielded ch) ∙ (take_more cs n ch t.0 ∙ ap (λ y. take n cs ++ y ∷ []) (sym t.1)) in
+    ap (λ k. take k cs) (length_push c.loop-c.yielded ch) ∙ (take_more cs n ch t.0 ∙ ap (λ y. take n cs ++ y ∷ []) (sym t.1)) in
     let at : now ≡ first +ℤ pos wide = c.loop-c.invariant.0 in
     let next : c.behind-start.result ≡ now +ℤ pos (4 * c.width_of.result * pen.scale) = c.behind-start.ensures.value in
     let fits : FitsSigned w128 c.behind-start.result = search rules in
     let step : now +ℤ pos (4 * cell_width ch * pen.scale) ≡ first +ℤ pos (4 * cells_of (take n cs ++ ch ∷ []) * pen.scale) =
-        add_more now first wide (4 * cell_width ch * pen.scale) at ∙ ap (λ k. first +ℤ pos k) (sym (wide_one (take n cs) ch pen.scale)) in
+    add_more now first wide (4 * cell_width ch * pen.scale) at ∙ ap (λ k. first +ℤ pos k) (sym (wide_one (take n cs) ch pen.scale)) in
     let both = laid-then pen (line_dots pen first (take n cs)) (char_dots pen now ch) c.args.row.now c.loop-c.row c.lay_character.new.row
-        c.args.painted.now c.loop-c.painted c.lay_character.new.painted c.requires.rises
-        (λ x a b. ap (λ z. line_dots pen first (take n cs) x && char_dots pen z ch x) at ∙ line_apart pen first (take n cs) ch x)
-        c.loop-c.invariant.1 c.lay_character.ensures in
-    (to_z-of_z w128 c.behind-start.result fits
-        ∙ (next ∙ (ap (λ k. now +ℤ pos (4 * k * pen.scale)) c.width_of.ensures.width ∙ (step ∙ ap (λ l. first +ℤ pos (4 * cells_of l * pen.scale)) (sym new)))),
-    laid-same pen (λ x. line_dots pen first (take n cs) x || char_dots pen now ch x) (line_dots pen first (take (length (c.loop-c.yielded ++ ch ∷ [])) cs))
-        c.args.row.now c.lay_character.new.row c.args.painted.now c.lay_character.new.painted
-        (λ x a b. ap (λ z. line_dots pen first (take n cs) x || char_dots pen z ch x) at
-            ∙ (line_more pen first (take n cs) ch x ∙ ap (λ l. line_dots pen first l x) (sym new)))
-        c.requires.rises both)
+    c.args.painted.now c.loop-c.painted c.lay_character.new.painted c.requires.rises
+    (λ x a b. ap (λ z. line_dots pen first (take n cs) x && char_dots pen z ch x) at ∙ line_apart pen first (take n cs) ch x)
+    c.loop-c.invariant.1 c.lay_character.ensures in (
+      to_z-of_z w128 c.behind-start.result fits
+          ∙ (next ∙ (ap (λ k. now +ℤ pos (4 * k * pen.scale)) c.width_of.ensures.width ∙ (step ∙ ap (λ l. first +ℤ pos (4 * cells_of l * pen.scale)) (sym new)))),
+      laid-same pen (λ x. line_dots pen first (take n cs) x || char_dots pen now ch x) (line_dots pen first (take (length (c.loop-c.yielded ++ ch ∷ [])) cs))
+          c.args.row.now c.lay_character.new.row c.args.painted.now c.lay_character.new.painted
+          (λ x a b. ap (λ z. line_dots pen first (take n cs) x || char_dots pen z ch x) at
+          ∙ (line_more pen first (take n cs) ch x ∙ ap (λ l. line_dots pen first l x) (sym new)))
+          c.requires.rises both,
+    )
 
 pub returns : goal.returns
 returns g c =

@@ -1,4 +1,4 @@
-use Rattle.std.proofs.Common.{◌≡◌, ◌∙◌, ◌&&◌, ◌+ℤ◌, pos, ap, sym, rules, arith, FitsSigned, false}
+use Rattle.std.proofs.Common.{◌∙◌, ◌&&◌, ap, sym, rules, FitsSigned}
 use Rattle.std.specs.Int.{w128}
 use Rattle.std.proofs.lemmas.Int.{to_z-of_z}
 use Rattle.fx_picture.specs.Bounds.{in_range}
@@ -20,10 +20,10 @@ returns-then-set g c =
     let among_end = simp to_z-of_z at c.cut-to.ensures.among in
     let high_end = simp to_z-of_z at c.cut-to.ensures.high in
     laid-same pen (is_in c.cut-from.result c.cut-to.result) (λ x. c.args.set && bit_dots pen c.args.start x)
-        c.args.row.now c.lay_span.new.row c.args.painted.now c.lay_span.new.painted
-        (λ x a b. bit_span pen.left pen.right c.cut-from.result c.cut-to.result x c.args.start c.behind.result a b low among high low_end among_end high_end
-            ∙ (ap (λ e. in_range c.args.start e x) behind ∙ ap (λ t. t && bit_dots pen c.args.start x) (sym c.if-set.true)))
-        c.requires.pen.rises c.lay_span.ensures
+    c.args.row.now c.lay_span.new.row c.args.painted.now c.lay_span.new.painted
+    (λ x a b. bit_span pen.left pen.right c.cut-from.result c.cut-to.result x c.args.start c.behind.result a b low among high low_end among_end high_end
+    ∙ (ap (λ e. in_range c.args.start e x) behind ∙ ap (λ t. t && bit_dots pen c.args.start x) (sym c.if-set.true)))
+    c.requires.pen.rises c.lay_span.ensures
 
 pub returns-else-set : goal.returns-else-set
 returns-else-set g c =

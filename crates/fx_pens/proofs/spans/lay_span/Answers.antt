@@ -1,4 +1,4 @@
-use Rattle.std.proofs.Common.{◌≡◌, ◌+◌, ◌-◌, ◌∙◌, ℕ, List, get_or, length, map, cond, ap, sym, arith}
+use Rattle.std.proofs.Common.{◌≡◌, ◌+◌, ◌-◌, ◌∙◌, ℕ, List, get_or, length, cond, ap, sym, arith}
 use Rattle.std.proofs.lemmas.List.{length-map}
 use borrow.Rule.Slice.PartMut.{mid_of, mid_len}
 use Rattle.fx_base.specs.Pixel.{blended}
@@ -17,7 +17,7 @@ returns g c =
     let right = c.requires.right in
     let part = c.lay_color.new.row in
     let long : length part ≡ to - from =
-        ap (λ (l : List ℕ). length l) c.lay_color.ensures ∙ (length-map (mid_of from (to - from) row) (blended pen.color) ∙ mid_len from to row (omega arith)) in
+    ap (λ (l : List ℕ). length l) c.lay_color.ensures ∙ (length-map (mid_of from (to - from) row) (blended pen.color) ∙ mid_len from to row (omega arith)) in
     record {
       long = length-put from to row part c.requires.rises (omega arith) long;
       pixels = λ x b. span_changed from to pen.color row part c.requires.rises (omega arith) c.lay_color.ensures x b

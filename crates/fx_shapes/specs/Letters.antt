@@ -54,7 +54,8 @@ lines_of block lines = map (line_at block) (enumerate_from 0 lines)
 
 -- the text has these lines, as ranges of its bytes: one, unless it is wrapped at so many cells
 abbrev pub HasLines : Bool → ℕ → List ℕ → List (ℕ × ℕ) → Type 0
-HasLines wrap columns text ranges = MatchBool wrap (IsWrapping columns (chars text) ranges) (ranges ≡ (0, length text) ∷ [])
+HasLines wrap columns text ranges =
+    MatchBool wrap (IsWrapping columns (chars text) ranges) (ranges ≡ (0, length text) ∷ [])
 
 -- the letters of a text with these lines
 abbrev pub letters_of : Look → Rect → List ℕ → List (ℕ × ℕ) → List Shape

@@ -21,7 +21,8 @@ pub fn lay_shape<P: Ledger>(
 )
     requires columns { AreColumns part row.old }
     requires bounds { LieWithin (bounds shape.now) part y }
-    ensures { IsLaid (plain_pen part (color_of shape.now)) (λ x. holds shape.now x y) row.old row.new painted.old painted.new }
+    ensures { IsLaid (plain_pen part (color_of shape.now)) (λ x. holds shape.now x y) row.old row.new
+        painted.old painted.new }
 {
     match shape {
         Shape::Fill { color, .. } => lay_all(row, part, *color, painted),

@@ -139,7 +139,7 @@ fn across_of(block: &Block, line: &Text) -> i64
     requires most { block.now.scale ≤ 2 ^ 61 }
     ensures { result ≡ block.now.clip.x
         +ℤ pos (aligned (block.now.alignment % 3) (4 * cells_of (chars line.now) * block.now.scale)
-            (whole block.now.clip.w)) }
+        (whole block.now.clip.w)) }
 {
     let used = (4 * block.scale).saturating_mul(cells(line.as_str()));
     block.clip.x + aligned(block.alignment % 3, used, length(block.clip.w)) as i64

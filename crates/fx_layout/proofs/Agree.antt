@@ -66,7 +66,7 @@ same_number x y e = elim (cases_Bool (nat_eq x y)) [
   | inr miss ↦ absurd (true≢false (sym (ap not miss) ∙ e))
 ]
 
-key_is : (k : NodeKey) → is_key k k ≡ true
+pub key_is : (k : NodeKey) → is_key k k ≡ true
 key_is k = and_from (eqb k.slot k.slot) (eqb k.birth k.birth) (eq-eqb k.slot k.slot refl) (eq-eqb k.birth k.birth refl)
 
 -- a node's own key stands at its place

@@ -5,3 +5,4 @@ pub mod Shifts
 pub mod Agree
 pub mod One
 pub mod Updating
+pub mod Fitting

@@ -68,7 +68,7 @@ fn searched_place(old: &[NodeKey], key: NodeKey) -> usize
     old.iter().take_while(|one| !is_key(**one, key)).count()
 }
 
-fn is_key(one: NodeKey, other: NodeKey) -> bool
+pub(crate) fn is_key(one: NodeKey, other: NodeKey) -> bool
     ensures { result ≡ is_key one other }
 {
     one.slot == other.slot && one.birth == other.birth

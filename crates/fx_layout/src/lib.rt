@@ -6,7 +6,9 @@ mod keys;
 mod laws;
 mod layouts;
 mod lengths;
+mod nodes;
 mod rects;
 
 pub use laws::{anew_is_layout, one_layout, updates_agree};
 pub use layouts::Layouts;
+pub use nodes::can_be_laid;

@@ -34,7 +34,7 @@ pub(crate) fn rects_of(
     Ok(rects)
 }
 
-fn parent_at(nodes: &[BoxFacts], place: usize) -> Option<usize>
+pub(crate) fn parent_at(nodes: &[BoxFacts], place: usize) -> Option<usize>
     ensures { result ≡ (node_at nodes.now place).parent }
 {
     match nodes.get(place) {

@@ -1,0 +1,54 @@
+//! Lays out stored trees of nodes, each again and again with nodes that changed, and prints the size of the root and all
+//! rectangles. Its input and output are a test of the layout of whole scenes: the output was computed by another program.
+//!
+//! A line is an update: `new` where nothing is kept yet or else `again`, the window or `-`, the places that are measured
+//! anew, and behind bars the nodes, as in `new 10x4 0,1|HBox 0.1 - s1|Region 1.2 0 b4`. reading.rt has what is said of a
+//! node.
+#![tactic(auto)]
+
+mod answers;
+mod reading;
+mod updates;
+
+ghost use Rattle.std.specs.Prelude.{◌≡◌};
+
+use answers::answer;
+use fx_base::{Ledgers, Work};
+use fx_layout::Layouts;
+use std::marker::Brand;
+use std::sync::ledger::Blank;
+use updates::read_update;
+
+fn main(rt: HostRuntime) -> anyhow::Result<()> {
+    play::<Brand, HostRuntime>(
+        &rt,
+        Blank::new(1),
+        Blank::new(1),
+        Blank::new(1),
+        Blank::new(1),
+    )
+}
+
+fn play<L: Ledgers, R: Input + Print + AllocGlobal>(
+    rt: &R,
+    evaluated: Blank,
+    styled: Blank,
+    laid: Blank,
+    painted: Blank,
+) -> anyhow::Result<()>
+    requires evaluated { (evaluated.name ≡ L.evaluated_name) × (evaluated.parts ≡ 1) }
+    requires styled { (styled.name ≡ L.styled_name) × (styled.parts ≡ 1) }
+    requires laid { (laid.name ≡ L.laid_name) × (laid.parts ≡ 1) }
+    requires painted { (painted.name ≡ L.painted_name) × (painted.parts ≡ 1) }
+{
+    let alloc = rt.alloc();
+    let mut work: Work<L> = Work::new(evaluated, styled, laid, painted);
+    let mut layouts = Layouts::new(alloc);
+    for line in rt.lines(alloc) {
+        let line = line?;
+        let update = read_update(alloc, line.as_str())?;
+        let text = answer(alloc, &update, &mut layouts, &mut work)?;
+        rt.println(text.as_str())?;
+    }
+    Ok(())
+}

@@ -14,8 +14,8 @@ use std::env;
 use std::marker::Brand;
 use std::sync::ledger::Blank;
 
-/// How many leaves a pane has.
-const LEAVES: usize = 9;
+/// How many children a pane has.
+const CHILDREN: usize = 9;
 
 /// What is laid out, and how often.
 #[derive(Clone, Copy)]
@@ -69,23 +69,34 @@ fn start<L: Ledgers>(
         bail!("too many nodes, or none");
     }
     let all = places(alloc, nodes.len())?;
-    let chain = [0, 1, 2];
+    let chain = chain(alloc, nodes.len())?;
     let mut layouts = Layouts::new(alloc);
     let slice = nodes.as_slice();
-    layouts.update(alloc, slice, looks.as_slice(), None, all.as_slice(), &mut work)?;
+    layouts.update(
+        alloc,
+        slice,
+        looks.as_slice(),
+        None,
+        all.as_slice(),
+        &mut work,
+    )?;
     for round in 0..task.rounds {
-        widen(&mut looks, round % 2 == 0);
-        let listed = if task.anew { all.as_slice() } else { &chain };
+        widen(&mut looks, slice.len().saturating_sub(1), round % 2 == 0);
+        let listed = if task.anew {
+            all.as_slice()
+        } else {
+            chain.as_slice()
+        };
         layouts.update(alloc, slice, looks.as_slice(), None, listed, &mut work)?;
     }
     Ok(checksum(layouts.rects()))
 }
 
-/// Makes the first leaf wider or narrower.
-fn widen(looks: &mut Vec<Look>, is_wide: bool)
+/// Makes a leaf wider or narrower.
+fn widen(looks: &mut Vec<Look>, leaf: usize, is_wide: bool)
     ensures { length looks.new.items ≡ length looks.old.items }
 {
-    if let Some(look) = looks.get_mut(2) {
+    if let Some(look) = looks.get_mut(leaf) {
         look.pref_width = if is_wide { 31 } else { 30 };
     }
 }
@@ -98,27 +109,40 @@ fn places(alloc: Global, count: usize) -> Result<Vec<usize>, AllocError> {
     Ok(places)
 }
 
-/// A VBox over panes of each kind in turn, each with as many leaves.
+/// The last leaf and its ancestors.
+fn chain(alloc: Global, count: usize) -> Result<Vec<usize>, AllocError> {
+    let mut chain = Vec::new(alloc);
+    let mut place = count.saturating_sub(1);
+    chain.push(place)?;
+    for _ in 0..64 {
+        if place == 0 {
+            break;
+        }
+        place = (place - 1) / CHILDREN;
+        chain.push(place)?;
+    }
+    Ok(chain)
+}
+
+/// A tree in which each pane has as many children, and each node stands behind its parent.
 fn nodes(alloc: Global, count: usize) -> anyhow::Result<Vec<BoxFacts>> {
     let mut nodes = Vec::with_capacity(alloc, count)?;
     for place in 0..count {
-        nodes.push(node(alloc, place)?)?;
+        nodes.push(node(alloc, place, count)?)?;
     }
     Ok(nodes)
 }
 
-fn node(alloc: Global, place: usize) -> anyhow::Result<BoxFacts> {
-    let group = LEAVES + 1;
-    let within = if place == 0 { 0 } else { (place - 1) % group };
+fn node(alloc: Global, place: usize, count: usize) -> anyhow::Result<BoxFacts> {
     Ok(BoxFacts {
         key: NodeKey {
             slot: place,
             birth: 1,
         },
-        parent: parent(place, within),
-        class: class(place / group, place, within),
+        parent: parent(place),
+        class: class(place, count),
         constraints: List::new(alloc),
-        edge: edge(within),
+        edge: edge(place % CHILDREN),
         columns: List::new(alloc),
         rows: List::new(alloc),
         text: Text::from_str(alloc, "a label")?,
@@ -128,25 +152,19 @@ fn node(alloc: Global, place: usize) -> anyhow::Result<BoxFacts> {
     })
 }
 
-fn parent(place: usize, within: usize) -> Option<usize> {
+fn parent(place: usize) -> Option<usize> {
     if place == 0 {
         return None;
     }
-    if within == 0 || place < within {
-        return Some(0);
-    }
-    Some(place - within)
+    Some((place - 1) / CHILDREN)
 }
 
-/// The root is a VBox, the first of each group a pane, and the others are labels and regions.
-fn class(group: usize, place: usize, within: usize) -> Class {
-    if place == 0 {
-        return Class::VBox;
+/// Nodes with children are panes of each kind in turn, and the others labels and regions.
+fn class(place: usize, count: usize) -> Class {
+    if place < count / CHILDREN {
+        return pane(place % 7);
     }
-    if within == 0 {
-        return pane(group % 7);
-    }
-    if within % 2 == 0 {
+    if place % 2 == 0 {
         Class::Label
     } else {
         Class::Region
@@ -165,15 +183,12 @@ fn pane(kind: usize) -> Class {
     }
 }
 
-/// The first five leaves of a pane have an edge each.
+/// Five children of a pane have an edge each.
 fn edge(within: usize) -> Option<u8> {
-    match within {
-        1 => Some(0),
-        2 => Some(1),
-        3 => Some(2),
-        4 => Some(3),
-        5 => Some(4),
-        _ => None,
+    if within < 5 {
+        u8::try_from(within).ok()
+    } else {
+        None
     }
 }
 
@@ -190,7 +205,9 @@ fn looks(alloc: Global, count: usize) -> Result<Vec<Look>, AllocError> {
 fn checksum(rects: &[Rect]) -> i64 {
     let mut sum = 0i64;
     for rect in rects {
-        sum = sum.wrapping_mul(31).wrapping_add(rect.x ^ rect.y ^ rect.w ^ rect.h);
+        sum = sum
+            .wrapping_mul(31)
+            .wrapping_add(rect.x ^ rect.y ^ rect.w ^ rect.h);
     }
     sum
 }

@@ -1,0 +1,4 @@
+pub mod Cuts
+pub mod Explained
+pub mod Standings
+pub mod Told

@@ -1,0 +1,2 @@
+pub mod ClimbLemmas
+pub mod FocusLemmas

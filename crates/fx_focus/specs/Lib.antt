@@ -1,0 +1,4 @@
+pub mod Attached
+pub mod Focus
+pub mod Hover
+pub mod Picks

@@ -9,10 +9,10 @@ use fx_base::NodeKey;
 use fx_picture::{Entry, Picture};
 use fx_tree::Tree;
 
-/// The node of the picture that takes the focus after the one that has it: the next in pre-order that can take it, isn't
-/// disabled and still stands in the scene, and behind the last one the first; backwards the other way round. Where none
-/// has the focus, or one that isn't in the picture, the first; backwards the last. None where none can take it. Takes no
-/// memory.
+/// The node of the picture that takes the focus after the one that has it: the next in pre-order that can take it,
+/// isn't disabled and still stands in the scene, and behind the last one the first; backwards the other way round.
+/// Where none has the focus, or one that isn't in the picture, the first; backwards the last. None where none can take
+/// it. Takes no memory.
 pub fn next_focus(
     tree: &Tree,
     picture: &Picture,

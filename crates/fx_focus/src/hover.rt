@@ -8,7 +8,7 @@ use crate::attached::is_same;
 use fx_base::{List, NodeKey};
 use std::alloc::{AllocError, Global};
 
-/// The nodes that the pointer isn't over any more, the deepest first, and those that it is over now, the outermost first.
+/// The nodes that the pointer isn't over any more, the deepest first, and those that it came to, the outermost first.
 #[derive(Drop)]
 pub struct HoverChange {
     pub left: List<NodeKey>,

@@ -2,7 +2,7 @@
 ghost use Rattle.std.specs.Prelude.{◌≡◌, ◌<◌, IfSome, length, reverse};
 ghost use Rattle.std.specs.List.{find};
 ghost use Rattle.std.specs.Option.{option_map};
-ghost use Rattle.fx_focus.specs.Focus.{backward, first_key, next_focus, onward, place_of, takes_focus};
+ghost use Rattle.fx_focus.specs.Focus.{backward, first_key, next_focus, onward, or_else, place_of, takes_focus};
 
 use crate::attached::{is_attached, is_same};
 use fx_base::NodeKey;
@@ -61,10 +61,7 @@ fn first_onward(tree: &Tree, entries: &[Entry], place: Option<usize>) -> Option<
     match place {
         Some(place) => {
             let (front, behind) = entries.split_at(place + 1);
-            match first_of(tree, behind) {
-                Some(key) => Some(key),
-                None => first_of(tree, front),
-            }
+            or_first(first_of(tree, behind), tree, front)
         }
         None => first_of(tree, entries),
     }
@@ -77,12 +74,29 @@ fn first_backward(tree: &Tree, entries: &[Entry], place: Option<usize>) -> Optio
     match place {
         Some(place) => {
             let (front, behind) = entries.split_at(place);
-            match last_of(tree, front) {
-                Some(key) => Some(key),
-                None => last_of(tree, behind),
-            }
+            or_last(last_of(tree, front), tree, behind)
         }
         None => last_of(tree, entries),
+    }
+}
+
+/// What was found, or else the first of these that takes the focus.
+fn or_first(found: Option<NodeKey>, tree: &Tree, others: &[Entry]) -> Option<NodeKey>
+    ensures { result ≡ or_else found (first_key tree.now others.now) }
+{
+    match found {
+        Some(key) => Some(key),
+        None => first_of(tree, others),
+    }
+}
+
+/// What was found, or else the last of these that takes the focus.
+fn or_last(found: Option<NodeKey>, tree: &Tree, others: &[Entry]) -> Option<NodeKey>
+    ensures { result ≡ or_else found (first_key tree.now (reverse others.now)) }
+{
+    match found {
+        Some(key) => Some(key),
+        None => last_of(tree, others),
     }
 }
 

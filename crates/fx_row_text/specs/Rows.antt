@@ -1,0 +1,14 @@
+-- A row of pixels as text.
+use Rattle.std.specs.Prelude.{ℕ, List, [], ◌∷◌, ◌++◌, map}
+use Rattle.std.specs.List.{join_with_byte}
+use Rattle.fx_text.specs.Characters.{line_feed, space}
+use Rattle.fx_base.specs.Pixel.{red_of, green_of, blue_of}
+use Rattle.fx_base.specs.Printing.{two_digits}
+
+-- six hexadecimal digits
+unfoldable pub pixel_text : ℕ → List ℕ
+pixel_text pixel = two_digits (red_of pixel) ++ (two_digits (green_of pixel) ++ two_digits (blue_of pixel))
+
+-- the pixels behind one another, with a space between two, and a line feed
+unfoldable pub row_text : List ℕ → List ℕ
+row_text pixels = join_with_byte space (map pixel_text pixels) ++ (line_feed ∷ [])

@@ -1,0 +1,105 @@
+//! Printing a row. Equal pixels one after another are printed from one text.
+ghost use Rattle.std.specs.Prelude.{◌≡◌, ◌<◌, ◌++◌, ◌∷◌, OnOk, false, map};
+ghost use Rattle.std.specs.Fmt.{digit_glyph};
+ghost use Rattle.std.specs.List.{flat_map, join_with_byte};
+ghost use Rattle.fx_text.specs.Characters.{space};
+ghost use Rattle.fx_row_text.specs.Rows.{pixel_text, row_text};
+ghost use Rattle.fx_row_text.specs.Runs.{IsRun};
+
+use std::alloc::AllocError;
+
+/// Makes the text that of a row of pixels, each 0x00RRGGBB, with a line feed. It keeps its room, so a text that was
+/// as long takes no memory.
+#[tactic(auto, unfolding(crate::specs::Rows::row_text))]
+pub fn print_row(text: &mut Vec<u8>, row: &[u32]) -> Result<(), AllocError>
+    ensures { OnOk result (text.new.items ≡ row_text row.now) }
+{
+    text.clear();
+    print_pixels(text, row)?;
+    text.push(b'\n')?;
+    Ok(())
+}
+
+fn print_pixels(text: &mut Vec<u8>, row: &[u32]) -> Result<(), AllocError>
+    ensures { OnOk result (text.new.items ≡ text.old.items ++ join_with_byte space (map pixel_text row.now)) }
+{
+    match row {
+        [first, rest @ ..] => {
+            text.extend_from_slice(&pixel_digits(*first))?;
+            print_behind(text, rest)
+        }
+        [] => Ok(()),
+    }
+}
+
+fn print_behind(text: &mut Vec<u8>, row: &[u32]) -> Result<(), AllocError>
+    ensures { OnOk result (text.new.items ≡ text.old.items ++ flat_map (λ p. space ∷ pixel_text p) row.now) }
+{
+    let mut run = Run::of(0);
+    for pixel in row {
+        run.go_on(*pixel);
+        text.extend_from_slice(&run.text)?;
+    }
+    Ok(())
+}
+
+/// A pixel with its text, which serves as long as the pixels are the same.
+#[derive(Clone, Copy)]
+struct Run {
+    pixel: u32,
+    text: [u8; 7],
+}
+
+impl Run {
+    fn of(pixel: u32) -> Run
+        ensures { IsRun result × (result.pixel ≡ pixel) }
+    {
+        Run {
+            pixel,
+            text: spaced_digits(pixel),
+        }
+    }
+
+    /// Behind the next pixel.
+    fn go_on(&mut self, pixel: u32)
+        requires { IsRun self.old }
+        ensures { IsRun self.new × (self.new.pixel ≡ pixel) }
+    {
+        if self.pixel != pixel {
+            *self = Run::of(pixel);
+        }
+    }
+}
+
+#[tactic(auto, unfolding(crate::specs::Rows::pixel_text))]
+fn pixel_digits(pixel: u32) -> [u8; 6]
+    ensures { result ≡ pixel_text pixel }
+{
+    let (red, green, blue) = (pixel / 65536 % 256, pixel / 256 % 256, pixel % 256);
+    [
+        digit(red / 16),
+        digit(red % 16),
+        digit(green / 16),
+        digit(green % 16),
+        digit(blue / 16),
+        digit(blue % 16),
+    ]
+}
+
+fn spaced_digits(pixel: u32) -> [u8; 7]
+    ensures { result ≡ space ∷ pixel_text pixel }
+{
+    let [a, b, c, d, e, f] = pixel_digits(pixel);
+    [b' ', a, b, c, d, e, f]
+}
+
+fn digit(number: u32) -> u8
+    requires { number < 16 }
+    ensures { result ≡ digit_glyph false number }
+{
+    if number < 10 {
+        b'0' + number as u8
+    } else {
+        b'a' + (number - 10) as u8
+    }
+}

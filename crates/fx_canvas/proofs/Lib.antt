@@ -1,0 +1,6 @@
+pub mod DrawingLemmas
+pub mod BlockLemmas
+pub mod CountLemmas
+pub mod AreaLemmas
+pub mod RepaintLemmas
+pub mod SurfaceLemmas

@@ -1,0 +1,209 @@
+//! The canvas.
+ghost use Rattle.std.specs.Prelude.{◌≡◌, ◌↔◌, ◌<◌, ◌≤◌, ◌+◌, ℕ, Err, IfOk, OnOk, false, true, length, replicate};
+ghost use Rattle.std.specs.List.{list_all, sum_by};
+ghost use Rattle.fx_base.specs.Pixel.{white};
+ghost use Rattle.fx_canvas.specs.Painting.{is_met, most_writes, repainted, writes};
+ghost use Rattle.fx_canvas.specs.Surfaces.{begins, encloses, ends, is_size, lies_in, pixel_at, row_at, white_line, window};
+ghost use Rattle.fx_canvas.specs.declared.canvas.CanvasError.TheVariants.{Memory};
+ghost use Rattle.fx_row_text.specs.Rows.{row_text};
+
+use crate::painting::repaint;
+use crate::rows::Row;
+use fx_base::{Ledgers, Rect, Work};
+use fx_picture::{Bounds, Picture, bounds_of};
+use std::alloc::{AllocError, Global};
+use std::marker::Model;
+use thiserror::Error;
+
+/// The most columns and rows of a canvas.
+const MOST: u32 = 2048;
+
+/// The pixels of a window, row by row. Contracts see its size, and of each row the pixels and whether its text is
+/// stale.
+#[derive(Drop)]
+pub struct Canvas {
+    width: u32,
+    height: u32,
+    rows: Vec<Row>,
+}
+
+impl Model for Canvas {
+    ghost use Rattle.fx_canvas.specs.Surfaces.{IsSurface, Surface};
+
+    ghost Value = { Surface };
+
+    ghost view = { λ c. record { width = c.width; height = c.height; rows = c.rows.items } };
+
+    ghost invariant = { λ c. IsSurface (record { width = c.width; height = c.height; rows = c.rows.items }) };
+}
+
+/// Why there is no canvas.
+#[derive(Debug, Drop, PartialEq, Eq, Error)]
+pub enum CanvasError {
+    /// The width or the height is 0 or more than 2,048.
+    #[error("a canvas has 1 to 2048 columns and rows")]
+    Size,
+    #[error("out of memory")]
+    Memory,
+}
+
+impl From<AllocError> for CanvasError {
+    ghost from_gives = { λ _ e. e ≡ Memory };
+
+    fn from(_e: AllocError) -> CanvasError {
+        CanvasError::Memory
+    }
+}
+
+impl Canvas {
+    /// A white canvas of so many columns and rows.
+    pub fn new(alloc: Global, w: u32, h: u32) -> Result<Canvas, CanvasError>
+        ensures size { (result ≡ Err CanvasError.Size) ↔ (is_size w h ≡ false) }
+        ensures width { IfOk result (λ canvas. canvas.width ≡ w) }
+        ensures height { IfOk result (λ canvas. canvas.height ≡ h) }
+        ensures white { IfOk result (λ canvas. (x y : ℕ) → x < w → y < h → pixel_at canvas.rows x y ≡ white) }
+    {
+        if !is_size(w, h) {
+            return Err(CanvasError::Size);
+        }
+        let rows = white_rows(alloc, w as usize, h as usize)?;
+        Ok(Canvas {
+            width: w,
+            height: h,
+            rows,
+        })
+    }
+
+    /// How many columns it has.
+    pub fn width(&self) -> u32
+        ensures { result ≡ self.now.width }
+    {
+        self.width
+    }
+
+    /// How many rows it has.
+    pub fn height(&self) -> u32
+        ensures { result ≡ self.now.height }
+    {
+        self.height
+    }
+
+    /// Whether all of the rectangles lie within the canvas, so that they can be painted anew.
+    pub fn has_all(&self, rects: &[Rect]) -> bool
+        ensures { result ≡ list_all (lies_in self.now.width self.now.height) rects.now }
+    {
+        rects
+            .iter()
+            .all(|rect| lies_in(*rect, self.width, self.height))
+    }
+
+    /// Paints the rectangles anew: whitens each, and lays each shape of the picture over it in order. Each pixel that
+    /// is written is counted; rows that no rectangle meets stay as they are, with their texts.
+    pub fn repaint<L: Ledgers>(&mut self, picture: &Picture, damage: &[Rect], work: &mut Work<L>)
+        requires { list_all (lies_in self.old.width self.old.height) damage.now ≡ true }
+        ensures width { self.new.width ≡ self.old.width }
+        ensures height { self.new.height ≡ self.old.height }
+        ensures pixels { (x y : ℕ) → x < self.old.width → y < self.old.height → pixel_at self.new.rows x y
+            ≡ repainted picture.now.entries damage.now x y (pixel_at self.old.rows x y) }
+        ensures kept { (y : ℕ) → is_met damage.now y ≡ false → row_at self.new.rows y ≡ row_at self.old.rows y }
+        ensures work { work.new ≡ record work.old {
+          painted = work.old.painted + sum_by (writes picture.now.entries) damage.now;
+        } }
+        ensures bound { work.new.painted ≤ work.old.painted + sum_by (most_writes picture.now.entries) damage.now }
+    {
+        repaint(
+            self.rows.as_mut_slice(),
+            damage,
+            picture.entries.as_slice(),
+            &mut work.painted,
+        );
+    }
+
+    /// The pixels of a row, each 0x00RRGGBB, counted from the top.
+    pub fn row(&self, y: u32) -> &[u32]
+        requires { y < self.now.height }
+        ensures { result.now ≡ (row_at self.now.rows y).pixels }
+    {
+        self.rows[y as usize].pixels()
+    }
+
+    /// Prints each row whose text is stale. Want of memory leaves some stale, and nothing else.
+    pub fn refresh(&mut self) -> Result<(), AllocError>
+        ensures fresh { OnOk result ((y : ℕ) → y < self.old.height → (row_at self.new.rows y).stale ≡ false) }
+        ensures pixels { (y : ℕ) → (row_at self.new.rows y).pixels ≡ (row_at self.old.rows y).pixels }
+        ensures width { self.new.width ≡ self.old.width }
+        ensures height { self.new.height ≡ self.old.height }
+    {
+        refresh_all(self.rows.as_mut_slice())
+    }
+
+    /// The text of a row, six hexadecimal digits a pixel, with a line feed.
+    pub fn text(&self, y: u32) -> &[u8]
+        requires within { y < self.now.height }
+        requires fresh { (row_at self.now.rows y).stale ≡ false }
+        ensures { result.now ≡ row_text (row_at self.now.rows y).pixels }
+    {
+        self.rows[y as usize].text()
+    }
+}
+
+fn is_size(w: u32, h: u32) -> bool
+    ensures { result ≡ is_size w h }
+{
+    1 <= w && w <= MOST && 1 <= h && h <= MOST
+}
+
+fn lies_in(rect: Rect, width: u32, height: u32) -> bool
+    ensures { result ≡ lies_in width height rect }
+{
+    encloses(window(width, height), bounds_of(rect))
+}
+
+fn window(width: u32, height: u32) -> Bounds
+    ensures { result ≡ window width height }
+{
+    Bounds {
+        min_x: 0,
+        min_y: 0,
+        max_x: i128::from(width),
+        max_y: i128::from(height),
+    }
+}
+
+fn encloses(outer: Bounds, inner: Bounds) -> bool
+    ensures { result ≡ encloses outer inner }
+{
+    begins(outer, inner) && ends(outer, inner)
+}
+
+fn begins(outer: Bounds, inner: Bounds) -> bool
+    ensures { result ≡ begins outer inner }
+{
+    outer.min_x <= inner.min_x && outer.min_y <= inner.min_y
+}
+
+fn ends(outer: Bounds, inner: Bounds) -> bool
+    ensures { result ≡ ends outer inner }
+{
+    inner.max_x <= outer.max_x && inner.max_y <= outer.max_y
+}
+
+fn white_rows(alloc: Global, width: usize, height: usize) -> Result<Vec<Row>, AllocError>
+    ensures { IfOk result (λ rows. rows.items ≡ replicate height (white_line width)) }
+{
+    let mut rows = Vec::with_capacity(alloc, height)?;
+    for _ in 0..height {
+        rows.push(Row::new(alloc, width)?)?;
+    }
+    Ok(rows)
+}
+
+fn refresh_all(rows: &mut [Row]) -> Result<(), AllocError>
+    ensures fresh { OnOk result ((y : ℕ) → y < length rows.old → (row_at rows.new y).stale ≡ false) }
+    ensures pixels { (y : ℕ) → (row_at rows.new y).pixels ≡ (row_at rows.old y).pixels }
+{
+    for row in rows.iter_mut() {
+        row.refresh()?;
+    }
+    Ok(())
+}

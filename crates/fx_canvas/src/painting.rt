@@ -1,0 +1,99 @@
+//! Shapes laid over the rows of a window: each is cut to the area that is painted before its rows are walked.
+ghost use Rattle.std.specs.Prelude.{◌∷◌, [], All, if◌then◌else◌};
+ghost use Rattle.std.specs.List.{sum_by};
+ghost use Rattle.fx_base.specs.Rectangle.{in_span, inside};
+ghost use Rattle.fx_canvas.specs.Painting.{FitsIn, IsBlock, IsDrawn, is_met, laid_above, laid_in, points_above, points_of, repainted, writes};
+ghost use Rattle.fx_pens.specs.Dots.{is_in};
+ghost use Rattle.fx_picture.specs.Bounds.{bounds_of, in_range};
+ghost use Rattle.fx_picture.specs.Pixels.{pixel, shapes_of};
+ghost use Rattle.fx_picture.specs.Shapes.{bounds};
+
+use crate::blocks::{Block, block_of};
+use crate::rows::Row;
+use fx_base::{Color, Rect, Steps};
+use fx_pens::Columns;
+use fx_picture::{Bounds, Entry, Shape, bounds, bounds_of, is_empty, meeting};
+use std::sync::ledger::Ledger;
+
+/// What is painted before any shape.
+const WHITE: Color = Color {
+    r: 255,
+    g: 255,
+    b: 255,
+    a: 255,
+};
+
+/// Paints each of the rectangles anew.
+pub(crate) fn repaint<P: Ledger>(
+    rows: &mut [Row],
+    rects: &[Rect],
+    entries: &[Entry],
+    painted: &mut Steps<P>,
+)
+    requires { All (λ r. FitsIn (bounds_of r) rows.old) rects.now }
+    ensures { IsDrawn (repainted entries.now rects.now) (is_met rects.now) (sum_by (writes entries.now) rects.now)
+        rows.old rows.new painted.old painted.new }
+{
+    for rect in rects {
+        repaint_rect(rows, *rect, entries, painted);
+    }
+}
+
+/// Whitens a rectangle, and lays each shape over it in order.
+fn repaint_rect<P: Ledger>(rows: &mut [Row], rect: Rect, entries: &[Entry], painted: &mut Steps<P>)
+    requires { FitsIn (bounds_of rect) rows.old }
+    ensures { IsDrawn (λ x y under. if inside rect x y then pixel entries.now x y else under)
+        (in_span rect.y rect.h) (writes entries.now rect) rows.old rows.new painted.old painted.new }
+{
+    let area = bounds_of(rect);
+    lay_shape(rows, area, &Shape::Fill { rect, color: WHITE }, painted);
+    lay_entries(rows, area, entries, painted);
+}
+
+fn lay_entries<P: Ledger>(rows: &mut [Row], area: Bounds, entries: &[Entry], painted: &mut Steps<P>)
+    requires { FitsIn area rows.old }
+    ensures { IsDrawn (laid_in area (shapes_of entries.now)) (in_range area.min_y area.max_y)
+        (sum_by (points_of area) (shapes_of entries.now)) rows.old rows.new painted.old painted.new }
+{
+    for entry in entries {
+        lay_shapes(rows, area, entry.shapes.as_slice(), painted);
+    }
+}
+
+fn lay_shapes<P: Ledger>(rows: &mut [Row], area: Bounds, shapes: &[Shape], painted: &mut Steps<P>)
+    requires { FitsIn area rows.old }
+    ensures { IsDrawn (laid_in area shapes.now) (in_range area.min_y area.max_y)
+        (sum_by (points_of area) shapes.now) rows.old rows.new painted.old painted.new }
+{
+    for shape in shapes {
+        lay_shape(rows, area, shape, painted);
+    }
+}
+
+/// Lays a shape over an area.
+fn lay_shape<P: Ledger>(rows: &mut [Row], area: Bounds, shape: &Shape, painted: &mut Steps<P>)
+    requires { FitsIn area rows.old }
+    ensures { IsDrawn (laid_in area (shape.now ∷ [])) (in_range area.min_y area.max_y)
+        (points_of area shape.now) rows.old rows.new painted.old painted.new }
+{
+    let cut = meeting(area, bounds(shape));
+    if is_empty(cut) {
+        return;
+    }
+    lay_block(rows, block_of(cut), shape, painted);
+}
+
+/// Lays a shape over a block, which lies within its bounds, row by row.
+fn lay_block<P: Ledger>(rows: &mut [Row], block: Block, shape: &Shape, painted: &mut Steps<P>)
+    requires { IsBlock block (bounds shape.now) rows.old }
+    ensures { IsDrawn (laid_above block block.bottom shape.now) (is_in block.top block.bottom)
+        (points_above block block.bottom shape.now) rows.old rows.new painted.old painted.new }
+{
+    let columns = Columns {
+        left: block.left,
+        right: block.right,
+    };
+    for y in block.top..block.bottom {
+        rows[y].lay(columns, y as u32, shape, painted);
+    }
+}

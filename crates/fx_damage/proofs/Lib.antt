@@ -4,3 +4,4 @@ pub mod OutsideLemmas
 pub mod WindowLemmas
 pub mod CandidateLemmas
 pub mod FindingLemmas
+pub mod EditLemmas

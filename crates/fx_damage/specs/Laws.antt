@@ -6,5 +6,6 @@ use Rattle.fx_picture.specs.Pixels.{covered, pixel}
 use Rattle.fx_picture.specs.declared.entries.Entry.{Entry}
 
 abbrev pub SameOutside : Type 0
-SameOutside = (olds nows : List Entry) (w h x y : ℕ) → Rises olds → Rises nows → HasDistinctBirths olds → HasDistinctBirths nows
-    → x < w → y < h → covered (damage (Some olds) nows w h) x y ≡ false → pixel olds x y ≡ pixel nows x y
+SameOutside = (olds nows : List Entry) (w h x y : ℕ)
+    → Rises olds → Rises nows → HasDistinctBirths olds → HasDistinctBirths nows → x < w → y < h
+    → covered (damage (Some olds) nows w h) x y ≡ false → pixel olds x y ≡ pixel nows x y

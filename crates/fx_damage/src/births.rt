@@ -21,7 +21,7 @@ pub(crate) fn changed_births(
 }
 
 /// The numbers in their order, each once.
-fn ordered(listed: Vec<u32>) -> Vec<u32>
+pub(crate) fn ordered(listed: Vec<u32>) -> Vec<u32>
     ensures rising { RisesStrictly result.items }
     ensures members { HasMembers result.items listed.items }
 {
@@ -44,7 +44,7 @@ fn candidates(alloc: Global, olds: &[Entry], nows: &[Entry]) -> Result<Vec<u32>,
     Ok(births)
 }
 
-fn add_changed(births: &mut Vec<u32>, old: &Entry, now: &Entry) -> Result<(), AllocError>
+pub(crate) fn add_changed(births: &mut Vec<u32>, old: &Entry, now: &Entry) -> Result<(), AllocError>
     ensures { OnOk result (births.new.items ≡ births.old.items ++ changed_at old.now now.now) }
 {
     if old.key.birth == now.key.birth && stays(old, now) {

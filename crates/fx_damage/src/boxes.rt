@@ -60,7 +60,7 @@ fn boxes_with(
 }
 
 /// Adds the boxes of a node that doesn't stay: the old one, and the new one if it is another.
-fn add_boxes(
+pub(crate) fn add_boxes(
     boxes: &mut Vec<Bounds>,
     old: Option<&Entry>,
     now: Option<&Entry>,

@@ -6,9 +6,11 @@ ghost use Rattle.fx_damage.specs.Laws.{SameOutside};
 
 mod births;
 mod boxes;
+mod edits;
 mod finding;
 mod rects;
 
+pub use edits::{Edit, damage_of_edits};
 pub use rects::damage;
 
 /// Outside the damage, at every point of the window, both pictures show the same, also where children change places.

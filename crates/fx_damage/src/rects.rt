@@ -44,7 +44,7 @@ pub fn damage(
     }
 }
 
-fn window(w: u32, h: u32) -> Bounds
+pub(crate) fn window(w: u32, h: u32) -> Bounds
     ensures value { result ≡ window w h }
     ensures inside { IsInWindow result }
 {
@@ -57,7 +57,7 @@ fn window(w: u32, h: u32) -> Bounds
 }
 
 /// The rectangles of boxes, of which more than sixteen become their bounding box.
-fn joined_rects(alloc: Global, boxes: &[Bounds]) -> Result<Vec<Rect>, AllocError>
+pub(crate) fn joined_rects(alloc: Global, boxes: &[Bounds]) -> Result<Vec<Rect>, AllocError>
     requires { All IsInWindow boxes.now }
     ensures { IfOk result (λ rects. rects.items ≡ map rect_of (at_most_sixteen boxes.now)) }
 {

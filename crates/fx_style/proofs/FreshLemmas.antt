@@ -1,12 +1,13 @@
 -- Entries made anew, one after another.
-use Rattle.std.proofs.Common.{◌≡◌, ◌++◌, ◌∷◌, [], ◌<◌, ◌≤◌, ℕ, zero, suc, Bool, true, false, ◌||◌, cond, eqb, List, Option, Some, None, map, get_or, length, refl, sym, ◌∙◌, ap, subst, inl, inr, arith, eq-eqb}
+use Rattle.std.proofs.Common.{◌≡◌, ◌++◌, ◌∷◌, [], ◌<◌, ◌≤◌, ℕ, zero, suc, Bool, true, false, ◌||◌, cond, eqb, List, Option, Some, None, map, get_or, length, replicate, set, refl, sym, ◌∙◌, ap, subst, inl, inr, arith, eq-eqb}
 use Rattle.std.specs.Prelude.{slice_get}
 use Rattle.std.specs.Option.{option_map}
 use Rattle.std.proofs.lemmas.Bool.{cases_eq, cases_lt, ne_eqb}
+use Rattle.std.proofs.lemmas.List.{get_or-replicate, get_or-set_other, get_or-set_same, get_or_past, length-replicate, length-set}
 use Rattle.fx_style.specs.declared.kept.Entry.{Entry}
 use Rattle.fx_style.specs.declared.kept.Fresh.{Fresh}
 use Rattle.fx_style.specs.Kept.{fresh_at, if_at, is_among, or_else}
-use Rattle.fx_style.specs.Plans.{AreSteps, made_fresh, step_entry, step_of}
+use Rattle.fx_style.specs.Plans.{AreSteps, made_fresh, put_step, step_entry}
 
 or_none : {X : Type 0} (o : Option X) → or_else o None ≡ o
 or_none None = refl
@@ -59,24 +60,6 @@ get-last (x ∷ xs) y = get-last xs y
 pub record AreFew (fresh : List Fresh) (steps : List (Option ℕ)) : Type 0 where
   pub each : (k s : ℕ) → get_or steps k None ≡ Some s → s < length fresh
 
-or-push : (steps : List (Option ℕ)) (o : Option ℕ) (k : ℕ) → k < length steps
-    → get_or (steps ++ o ∷ []) k None ≡ get_or steps k None
-or-push [] o k within = absurd (omega arith)
-or-push (x ∷ xs) o zero within = refl
-or-push (x ∷ xs) o (suc k) within = or-push xs o k (omega (arith, within))
-
-or-last : (steps : List (Option ℕ)) (o : Option ℕ) (n : ℕ) → length steps ≡ n → get_or (steps ++ o ∷ []) n None ≡ o
-or-last [] o n long = subst (λ (m : ℕ). get_or (o ∷ []) m None ≡ o) long refl
-or-last (x ∷ xs) o zero long = absurd (omega (arith, long))
-or-last (x ∷ xs) o (suc n) long = or-last xs o n (omega (arith, long))
-
-or-past : (steps : List (Option ℕ)) (o : Option ℕ) (k : ℕ) → length steps < k → get_or (steps ++ o ∷ []) k None ≡ None
-or-past [] o zero past = absurd (omega (arith, past))
-or-past [] o (suc zero) past = refl
-or-past [] o (suc (suc k)) past = refl
-or-past (x ∷ xs) o zero past = absurd (omega (arith, past))
-or-past (x ∷ xs) o (suc k) past = or-past xs o k (omega (arith, past))
-
 length-made : (fs : List Fresh) (at : ℕ) (o : Option Entry) → length fs ≤ length (fs ++ made_fresh at o)
 length-made [] at o = omega arith
 length-made (f ∷ fs) at o = omega (arith, length-made fs at o)
@@ -98,55 +81,79 @@ step-kept fs at None (Some s) few = ap (λ (l : List Fresh). step_entry l (Some 
 step-kept fs at (Some e) (Some s) few =
     ap (option_map (λ (f : Fresh). f.entry)) (get-push fs (record { at = at; entry = e }) s (few s refl))
 
-step-last : (fs : List Fresh) (at : ℕ) (o : Option Entry)
-    → step_entry (fs ++ made_fresh at o) (step_of o (length fs)) ≡ o
-step-last fs at None = refl
-step-last fs at (Some e) = ap (option_map (λ (f : Fresh). f.entry)) (get-last fs (record { at = at; entry = e }))
+append-none : (fs : List Fresh) → fs ++ [] ≡ fs
+append-none [] = refl
+append-none (f ∷ fs) = ap (λ (l : List Fresh). f ∷ l) (append-none fs)
 
 -- the steps after one more place
 pub steps_more : (fs : List Fresh) (steps : List (Option ℕ)) (at : ℕ) (o : Option Entry) → AreSteps fs steps
-    → AreFew fs steps → length steps ≡ at → fresh_at fs at ≡ None
-    → AreSteps (fs ++ made_fresh at o) (steps ++ step_of o (length fs) ∷ [])
-steps_more fs steps at o are few long none k within = elim (cases_eq at k) [
+    → AreFew fs steps → fresh_at fs at ≡ None
+    → AreSteps (fs ++ made_fresh at o) (put_step steps at o (length fs))
+steps_more fs steps at None are few none k within =
+    subst (λ (l : List Fresh). AreSteps l steps) (sym (append-none fs)) are k within
+steps_more fs steps at (Some e) are few none k within = elim (cases_eq k at) [
   | inl same ↦
-      subst (λ (n : ℕ). fresh_at (fs ++ made_fresh at o) n
-      ≡ step_entry (fs ++ made_fresh at o) (get_or (steps ++ step_of o (length fs) ∷ []) n None)) same
-      (fresh-here fs at o none ∙ sym (step-last fs at o)
-      ∙ ap (step_entry (fs ++ made_fresh at o)) (sym (or-last steps (step_of o (length fs)) at long)))
+      let there : at < length steps = let h : k < length steps =
+      subst (λ (n : ℕ). k < n) (length-set steps at (Some (length fs))) within in omega (arith, h, same) in
+      ap (fresh_at (fs ++ made_fresh at (Some e))) same
+      ∙ fresh-here fs at (Some e) none
+      ∙ sym (ap (option_map (λ (f : Fresh). f.entry)) (get-last fs (record { at = at; entry = e })))
+      ∙ ap (step_entry (fs ++ made_fresh at (Some e)))
+      (sym (ap (λ (n : ℕ). get_or (set steps at (Some (length fs))) n None) same
+      ∙ get_or-set_same steps at (Some (length fs)) None there))
   | inr other ↦
       let below : k < length steps =
-      below_last steps (step_of o (length fs)) k within (λ e. other (sym long ∙ sym e)) in
-      fresh-other fs at o k other ∙ are k below
-      ∙ sym (step-kept fs at o (get_or steps k None) (λ s e. few.each k s e))
-      ∙ ap (step_entry (fs ++ made_fresh at o)) (sym (or-push steps (step_of o (length fs)) k below))
+      subst (λ (n : ℕ). k < n) (length-set steps at (Some (length fs))) within in
+      fresh-other fs at (Some e) k (λ s. other (sym s)) ∙ are k below
+      ∙ sym (step-kept fs at (Some e) (get_or steps k None) (λ s g. few.each k s g))
+      ∙ ap (step_entry (fs ++ made_fresh at (Some e)))
+      (sym (get_or-set_other steps at k (Some (length fs)) None other))
 ]
-  where
-    below_last : (l : List (Option ℕ)) (x : Option ℕ) (n : ℕ) → n < length (l ++ x ∷ []) → (n ≡ length l → ⊥)
-        → n < length l
-    below_last [] x zero w differ = absurd (differ refl)
-    below_last [] x (suc n) w differ = absurd (omega (arith, w))
-    below_last (y ∷ ys) x zero w differ = omega arith
-    below_last (y ∷ ys) x (suc n) w differ =
-        let h : n < length ys = below_last ys x n (omega (arith, w)) (λ e. differ (ap suc e)) in omega (arith, h)
 
-few-last : (fs : List Fresh) (at : ℕ) (o : Option Entry) (s : ℕ) → step_of o (length fs) ≡ Some s
-    → s < length (fs ++ made_fresh at o)
-few-last fs at None s e = absurd (cc)
-few-last fs at (Some x) s e = let same : length fs ≡ s = cc in omega (arith, length-some fs at x, same)
+pub few_more : (fs : List Fresh) (steps : List (Option ℕ)) (at : ℕ) (o : Option Entry) → at < length steps
+    → AreFew fs steps → AreFew (fs ++ made_fresh at o) (put_step steps at o (length fs))
+few_more fs steps at None within few =
+    subst (λ (l : List Fresh). AreFew l steps) (sym (append-none fs)) few
+few_more fs steps at (Some e) within few = record {
+  each = λ k s is. elim (cases_eq k at) [
+    | inl same ↦
+        let here : Some (length fs) ≡ Some s =
+        sym (ap (λ (n : ℕ). get_or (set steps at (Some (length fs))) n None) same
+        ∙ get_or-set_same steps at (Some (length fs)) None within) ∙ is in
+        let one : length fs ≡ s = cc in
+        omega (arith, length-some fs at e, one)
+    | inr other ↦
+        let h : s < length fs =
+        few.each k s (sym (get_or-set_other steps at k (Some (length fs)) None other) ∙ is) in
+        omega (arith, h, length-made fs at (Some e))
+  ];
+}
 
-pub few_more : (fs : List Fresh) (steps : List (Option ℕ)) (at : ℕ) (o : Option Entry) → AreFew fs steps
-    → AreFew (fs ++ made_fresh at o) (steps ++ step_of o (length fs) ∷ [])
-few_more fs steps at o few = record {
-  each = λ k s e. elim (cases_lt k (length steps)) [
-    | inl below ↦
-        let h : s < length fs = few.each k s (sym (or-push steps (step_of o (length fs)) k below) ∙ e) in
-        omega (arith, h, length-made fs at o)
-    | inr past ↦ elim (cases_eq k (length steps)) [
-      | inl same ↦ few-last fs at o s (sym (or-last steps (step_of o (length fs)) k (sym same)) ∙ e)
-      | inr differ ↦ absurd (
-          let beyond : length steps < k = omega arith in
-          let h : None ≡ Some s = sym (or-past steps (step_of o (length fs)) k beyond) ∙ e in cc)
-    ]
+pub long_more : (steps : List (Option ℕ)) (at : ℕ) (o : Option Entry) (count : ℕ)
+    → length (put_step steps at o count) ≡ length steps
+long_more steps at None count = refl
+long_more steps at (Some e) count = length-set steps at (Some count)
+
+-- of places without step
+
+abbrev nones : ℕ → List (Option ℕ)
+nones n = replicate n None
+
+long_nones : (n : ℕ) → length (nones n) ≡ n
+long_nones n = length-replicate n None
+
+pub no_steps : (n : ℕ) → AreSteps [] (replicate n None)
+no_steps n k within =
+    let below : k < n = subst (λ (m : ℕ). k < m) (long_nones n) within in
+    ap (step_entry []) (sym (get_or-replicate n k None None below))
+
+pub no_few : (n : ℕ) → AreFew [] (replicate n None)
+no_few n = record {
+  each = λ k s is. elim (cases_lt k n) [
+    | inl below ↦ absurd (let h : None ≡ Some s = sym (get_or-replicate n k None None below) ∙ is in cc)
+    | inr past ↦ absurd (
+        let beyond : length (nones n) ≤ k = subst (λ (m : ℕ). m ≤ k) (sym (long_nones n)) past in
+        let h : None ≡ Some s = sym (get_or_past (nones n) k None beyond) ∙ is in cc)
   ];
 }
 

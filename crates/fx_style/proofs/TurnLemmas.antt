@@ -47,10 +47,11 @@ get_there (x ∷ xs) zero within = (x, refl)
 get_there (x ∷ xs) (suc i) within = get_there xs i (omega (arith, within))
 
 -- what is kept of a node in its own place
-pub stays_here : (looks : List Look) (rest : List Rest) (key : NodeKey) (turn : Turn) → turn.listed ≡ false
-    → turn.stay ≡ true → place_of_key rest key ≡ Some turn.at → turn.at < length looks → turn.at < length rest
-    → Stays looks rest key turn
-stays_here looks rest key turn unlisted may e within inside =
+pub stays_here : (looks : List Look) (rest : List Rest) (turn : Turn) → turn.listed ≡ false
+    → turn.stay ≡ true → place_of_key rest turn.key ≡ Some turn.at → turn.at < length looks → turn.at < length rest
+    → Stays looks rest turn
+stays_here looks rest turn unlisted may e within inside =
+    let key = turn.key in
     let l = get_there looks turn.at within in
     let r = get_there rest turn.at inside in
     let style : NodeStyle = record { look = l.0; paints = r.0.paints } in
@@ -68,11 +69,11 @@ stays_here looks rest key turn unlisted may e within inside =
 
 -- what becomes of a node
 
-pub stays_style : (looks : List Look) (rest : List Rest) (key : NodeKey) (turn : Turn) (anew : NodeStyle)
-    → Stays looks rest key turn
+pub stays_style : (looks : List Look) (rest : List Rest) (turn : Turn) (anew : NodeStyle) → Stays looks rest turn
     → entry_in looks rest turn.at
-    ≡ Some (entry key (renewed_by turn.listed (kept_under looks rest key) anew))
-stays_style looks rest key turn anew s =
+    ≡ Some (entry turn.key (renewed_by turn.listed (kept_under looks rest turn.key) anew))
+stays_style looks rest turn anew s =
+    let key = turn.key in
     s.here
     ∙ ap (λ (o : Option NodeStyle). Some (entry key (or_made o anew))) (sym s.kept)
     ∙ ap (λ (b : Bool). Some (entry key (renewed_by b (kept_under looks rest key) anew))) (sym s.unlisted)

@@ -1,5 +1,5 @@
 -- An update on its way: what is kept, and what was made so far.
-use Rattle.std.specs.Prelude.{ℕ, ◌≡◌, ◌<◌, List, [], ◌∷◌, length, slice_get, slice_index_or, Option, Some, None}
+use Rattle.std.specs.Prelude.{ℕ, ◌≡◌, ◌<◌, List, [], ◌∷◌, length, slice_get, slice_index_or, slice_set, Option, Some, None}
 use Rattle.std.specs.Option.{option_map}
 use Rattle.fx_node_style.specs.declared.node_styles.NodeStyle.{NodeStyle}
 use Rattle.fx_style.specs.declared.above.Plan.{Plan}
@@ -30,6 +30,7 @@ abbrev pub made_fresh : ℕ → Option Entry → List Fresh
 made_fresh at None = []
 made_fresh at (Some entry) = record { at = at; entry = entry } ∷ []
 
-abbrev pub step_of : Option Entry → ℕ → Option ℕ
-step_of None next = None
-step_of (Some entry) next = Some next
+-- the steps once the entry of a place, if it has one, stands behind so many
+abbrev pub put_step : List (Option ℕ) → ℕ → Option Entry → ℕ → List (Option ℕ)
+put_step steps at None count = steps
+put_step steps at (Some entry) count = slice_set steps at (Some count)

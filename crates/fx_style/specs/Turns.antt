@@ -1,7 +1,6 @@
 -- What an update does with a node, and how far it has come.
 use Rattle.std.specs.Prelude.{ℕ, ◌≡◌, ◌<◌, true, false, List, length, slice_get, Option, Some, None}
 use Rattle.std.specs.Option.{option_map}
-use Rattle.fx_base.specs.declared.keys.NodeKey.{NodeKey}
 use Rattle.fx_look.specs.declared.looks.Look.{Look}
 use Rattle.fx_css_types.specs.declared.sheets.SheetAt.{SheetAt}
 use Rattle.fx_kinds.specs.declared.facts.StyleFacts.{StyleFacts}
@@ -16,18 +15,18 @@ use Rattle.fx_style.specs.Kept.{Kept, entry, entry_in, fresh_at, kept_under, pla
 use Rattle.fx_style.specs.Rules.{needs_by, updated_style}
 
 -- a node that isn't listed and of which something is kept, in its own place
-pub record Stays (looks : List Look) (rest : List Rest) (key : NodeKey) (turn : Turn) : Type 0 where
+pub record Stays (looks : List Look) (rest : List Rest) (turn : Turn) : Type 0 where
   pub unlisted : turn.listed ≡ false
   pub may : turn.stay ≡ true
   pub style : NodeStyle
-  pub here : entry_in looks rest turn.at ≡ Some (entry key style)
-  pub kept : kept_under looks rest key ≡ Some style
+  pub here : entry_in looks rest turn.at ≡ Some (entry turn.key style)
+  pub kept : kept_under looks rest turn.key ≡ Some style
 
 -- what is left of a node is what is kept of it, unless it is to be styled anew
-abbrev pub IsLeft : List Look → List Rest → NodeKey → Turn → Left → Type 0
-IsLeft looks rest key turn left.Stays = Stays looks rest key turn
-IsLeft looks rest key turn (left.Copied style) = (turn.listed ≡ false) × (kept_under looks rest key ≡ Some style)
-IsLeft looks rest key turn left.Nothing = needs_by turn.listed (kept_under looks rest key) ≡ true
+abbrev pub IsLeft : List Look → List Rest → Turn → Left → Type 0
+IsLeft looks rest turn left.Stays = Stays looks rest turn
+IsLeft looks rest turn (left.Copied style) = (turn.listed ≡ false) × (kept_under looks rest turn.key ≡ Some style)
+IsLeft looks rest turn left.Nothing = needs_by turn.listed (kept_under looks rest turn.key) ≡ true
 
 -- the places below one have their keys and their styles of the update
 pub record AreRightBelow (sheets : List SheetAt) (facts : List StyleFacts) (restyle : List ℕ)

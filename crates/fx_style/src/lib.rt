@@ -13,4 +13,5 @@ mod styles;
 
 pub use kept::{Entry, Fresh, Rest};
 pub use laws::{few_are_worked, same_ancestors_same_style, updates_agree};
+pub use making::Scene;
 pub use styles::Styles;

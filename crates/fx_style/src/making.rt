@@ -9,7 +9,7 @@ ghost use Rattle.fx_node_style.specs.Styling.{paints_above as paints_up, look_ab
 ghost use Rattle.fx_style.specs.Kept.{HaveDifferentKeys, entry, entry_in, fresh_at, is_among, kept_at, kept_under, or_else, place_of_key, style_of_entry};
 ghost use Rattle.fx_style.specs.Turns.{AreRightBelow, IsLeft};
 ghost use Rattle.fx_style.specs.Places.{parent_at, places_up};
-ghost use Rattle.fx_style.specs.Plans.{AreSteps, made_fresh, plan_style, seen_style, step_of};
+ghost use Rattle.fx_style.specs.Plans.{AreSteps, made_fresh, plan_style, put_step, seen_style};
 ghost use Rattle.fx_style.specs.Rules.{AreIndexed, HaveRows, anew, chain_style, matching_nodes, needs, needs_by, renewed_by, ticks, updated_style, worked};
 
 use crate::above::{Plan, Seen, look_above, paints_above, parent_at, styles_up};
@@ -25,7 +25,7 @@ use std::alloc::{AllocError, Global};
 
 /// The nodes of a scene in their order, and its sheets with their index.
 #[derive(Clone, Copy)]
-pub(crate) struct Scene<'a> {
+pub struct Scene<'a> {
     pub index: &'a RuleIndex,
     pub sheets: &'a [SheetAt],
     pub facts: &'a [StyleFacts],
@@ -90,7 +90,7 @@ fn style_anew<L: Ledgers>(
 ) -> Result<NodeStyle, AllocError>
     requires before { ParentsStandBefore scene.facts.now }
     requires there { at < length scene.facts.now }
-    requires long { length plan.steps.now ≡ at }
+    requires long { length plan.steps.now ≡ length scene.facts.now }
     requires plan { AreSteps plan.fresh.now plan.steps.now }
     requires sheets { AreIndexed scene.index.now scene.sheets.now }
     requires codes { HaveRows scene.facts.now }
@@ -120,10 +120,12 @@ fn copied_style(
     }
 }
 
-/// What an update does with a node: is it listed, may what is kept stay in its place, and where does its key stand?
+/// What an update does with a node of this key: is it listed, may what is kept stay in its place, and where does its
+/// key stand?
 #[derive(Clone, Copy)]
 pub(crate) struct Turn {
     pub at: usize,
+    pub key: NodeKey,
     pub listed: bool,
     pub stay: bool,
     pub place: Option<usize>,
@@ -144,12 +146,11 @@ fn left_of(
     alloc: Global,
     looks: &[Look],
     rest: &[Rest],
-    key: NodeKey,
     turn: Turn,
 ) -> Result<Left, AllocError>
-    requires place { turn.place ≡ place_of_key rest.now key }
+    requires place { turn.place ≡ place_of_key rest.now turn.key }
     requires stay { turn.stay ≡ true → (turn.at < length looks.now) × (turn.at < length rest.now) }
-    ensures { IfOk result (IsLeft looks.now rest.now key turn) }
+    ensures { IfOk result (IsLeft looks.now rest.now turn) }
 {
     if turn.listed {
         return Ok(Left::Nothing);
@@ -171,39 +172,38 @@ fn remade<L: Ledgers>(
     alloc: Global,
     scene: Scene<'_>,
     plan: Plan<'_>,
-    node: &StyleFacts,
     turn: Turn,
     work: &mut Work<L>,
 ) -> Result<Option<NodeStyle>, AllocError>
     requires before { ParentsStandBefore scene.facts.now }
-    requires node { slice_get scene.facts.now turn.at ≡ Some node.now }
-    requires long { length plan.steps.now ≡ turn.at }
+    requires there { turn.at < length scene.facts.now }
+    requires long { length plan.steps.now ≡ length scene.facts.now }
     requires plan { AreSteps plan.fresh.now plan.steps.now }
     requires sheets { AreIndexed scene.index.now scene.sheets.now }
     requires codes { HaveRows scene.facts.now }
-    requires place { turn.place ≡ place_of_key plan.rest.now node.now.key }
+    requires place { turn.place ≡ place_of_key plan.rest.now turn.key }
     requires stay { turn.stay ≡ true → (turn.at < length plan.looks.now) × (turn.at < length plan.rest.now) }
     ensures style { IfOk result (λ made.
-        or_else (option_map (entry node.now.key) made) (entry_in plan.entry.looks.now plan.entry.rest.now turn.at)
-        ≡ Some (entry node.now.key
-        (renewed_by turn.listed (kept_under plan.entry.looks.now plan.entry.rest.now node.now.key)
+        or_else (option_map (entry turn.key) made) (entry_in plan.entry.looks.now plan.entry.rest.now turn.at)
+        ≡ Some (entry turn.key
+        (renewed_by turn.listed (kept_under plan.entry.looks.now plan.entry.rest.now turn.key)
         (anew scene.entry.sheets.now scene.entry.facts.now turn.at
         (filter_map (plan_style plan.entry)
         (places_up scene.entry.facts.now (parent_at scene.entry.facts.now turn.at))))))) }
     ensures made { IfOk result (λ made. turn.stay ≡ false → is_some made ≡ true) }
     ensures cost { OnOk result (work.new ≡ record work.old {
       styled = work.old.styled
-          + ticks (needs_by turn.listed (kept_under plan.entry.looks.now plan.entry.rest.now node.now.key));
+          + ticks (needs_by turn.listed (kept_under plan.entry.looks.now plan.entry.rest.now turn.key));
     }) }
 {
-    match left_of(alloc, plan.looks, plan.rest, node.key, turn)? {
+    match left_of(alloc, plan.looks, plan.rest, turn)? {
         Left::Stays => Ok(None),
         Left::Copied(style) => Ok(Some(style)),
         Left::Nothing => Ok(Some(style_anew(alloc, scene, plan, turn.at, work)?)),
     }
 }
 
-/// Puts what was made of a node behind the fresh entries, and its step behind the steps.
+/// Puts what was made of a node behind the fresh entries, and its step to its place.
 fn push_made(
     fresh: &mut Vec<Fresh>,
     steps: &mut Vec<Option<usize>>,
@@ -211,21 +211,19 @@ fn push_made(
     key: NodeKey,
     made: Option<NodeStyle>,
 ) -> Result<(), AllocError>
+    requires { at < length steps.old.items }
     ensures fresh { OnOk result (fresh.new.items ≡ fresh.old.items ++ made_fresh at (option_map (entry key) made)) }
     ensures steps { OnOk result (steps.new.items
-        ≡ steps.old.items ++ step_of (option_map (entry key) made) (length fresh.old.items) ∷ []) }
+        ≡ put_step steps.old.items at (option_map (entry key) made) (length fresh.old.items)) }
 {
     match made {
         Some(style) => {
-            steps.push(Some(fresh.len()))?;
+            steps[at] = Some(fresh.len());
             let entry = Entry { key, style };
             fresh.push(Fresh { at, entry })?;
             Ok(())
         }
-        None => {
-            steps.push(None)?;
-            Ok(())
-        }
+        None => Ok(()),
     }
 }
 
@@ -273,13 +271,14 @@ pub(crate) fn made<L: Ledgers>(
     let facts = scene.facts;
     let marks = marked(alloc, restyle, facts.len())?;
     let mut fresh = Vec::new(alloc);
-    let mut steps = Vec::with_capacity(alloc, facts.len())?;
+    let mut steps = vec![in alloc; None; facts.len()]?;
     let mut guess = 0;
     for (at, node) in facts.iter().enumerate() {
         let place = place_of_key(old.rest, node.key, guess);
         guess = next_guess(place, guess);
         let turn = Turn {
             at,
+            key: node.key,
             listed: marks[at],
             stay: old.stay,
             place,
@@ -290,7 +289,7 @@ pub(crate) fn made<L: Ledgers>(
             fresh: fresh.as_slice(),
             steps: steps.as_slice(),
         };
-        let style = remade(alloc, scene, plan, node, turn, work)?;
+        let style = remade(alloc, scene, plan, turn, work)?;
         push_made(&mut fresh, &mut steps, at, node.key, style)?;
     }
     Ok(fresh)

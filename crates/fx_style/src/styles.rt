@@ -10,10 +10,8 @@ use crate::kept::{Fresh, Rest};
 use crate::making::{Old, Scene, made};
 use crate::putting::{blank_looks, blank_rest, changed_places, places_of, put_all};
 use fx_base::{Ledgers, Work};
-use fx_css_types::SheetAt;
 use fx_kinds::StyleFacts;
 use fx_look::Look;
-use fx_select::RuleIndex;
 use std::alloc::{AllocError, Global};
 use std::marker::Model;
 use std::mem;
@@ -65,37 +63,31 @@ impl Styles {
 
     /// Styles the nodes of these places anew, from the root downwards, and those of which nothing is kept; every other
     /// node keeps what it had, whatever the facts and sheets say now. Counts one styled node for each that is styled
-    /// anew. `index` is that of `sheets`. Memory is taken before anything that is kept is changed.
+    /// anew. Memory is taken before anything that is kept is changed.
     pub fn update<L: Ledgers>(
         &mut self,
         alloc: Global,
-        index: &RuleIndex,
-        facts: &[StyleFacts],
-        sheets: &[SheetAt],
+        scene: Scene<'_>,
         restyle: &[usize],
         work: &mut Work<L>,
     ) -> Result<(), AllocError>
-        requires before { ParentsStandBefore facts.now }
-        requires keys { AreDifferent facts.now }
-        requires sheets { AreIndexed index.now sheets.now }
-        requires codes { HaveRows facts.now }
-        ensures styles { OnOk result (IsUpdate sheets.now facts.now restyle.now self.old self.new) }
+        requires before { ParentsStandBefore scene.facts.now }
+        requires keys { AreDifferent scene.facts.now }
+        requires sheets { AreIndexed scene.index.now scene.sheets.now }
+        requires codes { HaveRows scene.facts.now }
+        ensures styles { OnOk result
+            (IsUpdate scene.entry.sheets.now scene.entry.facts.now restyle.now self.old self.new) }
         ensures changed { OnOk result (KeepsOthers self.old self.new) }
         ensures err { OnErr result (self.new ≡ self.old) }
         ensures cost { OnOk result (work.new ≡ record work.old {
           styled = work.old.styled
-              + worked (needs restyle.now (kept_of self.old facts.now)) (length facts.now);
+              + worked (needs restyle.now (kept_of self.old scene.entry.facts.now)) (length scene.entry.facts.now);
         }) }
     {
-        let scene = Scene {
-            index,
-            sheets,
-            facts,
-        };
-        let stay = self.stays(facts.len());
+        let stay = self.stays(scene.facts.len());
         let fresh = self.fresh(alloc, scene, stay, restyle, work)?;
         let changed = self.changes(alloc, stay, fresh.as_slice())?;
-        self.put(alloc, facts, stay, fresh, changed)
+        self.put(alloc, scene.facts, stay, fresh, changed)
     }
 
     /// Are there as many entries as nodes now, so that what is kept may stay in its places?

@@ -5,23 +5,23 @@ use Rattle.fx_style.proofs.making.left_of.Goals as goal
 
 pub returns-in_default : goal.returns-in_default
 returns-in_default c =
-    nowhere_needs c.args.looks.now c.args.rest.now c.args.key c.args.turn.listed
+    nowhere_needs c.args.looks.now c.args.rest.now c.args.turn.key c.args.turn.listed
     (sym c.requires.place ∙ c.in_default.is)
 
 pub returns-then-place-turn : goal.returns-then-place-turn
 returns-then-place-turn c =
     let there = c.requires.stay c.if-turn-2.true in
-    stays_here c.args.looks.now c.args.rest.now c.args.key c.args.turn c.if-turn.false c.if-turn-2.true
+    stays_here c.args.looks.now c.args.rest.now c.args.turn c.if-turn.false c.if-turn-2.true
     (sym c.requires.place ∙ c.in-Some.is ∙ ap Some c.if-place-turn.true) there.0 there.1
 
 pub returns-in-Some-2 : goal.returns-in-Some-2
 returns-in-Some-2 c = (
   c.if-turn.false,
-  kept_found c.args.looks.now c.args.rest.now c.args.key c.in-Some.place (sym c.requires.place ∙ c.in-Some.is)
+  kept_found c.args.looks.now c.args.rest.now c.args.turn.key c.in-Some.place (sym c.requires.place ∙ c.in-Some.is)
       ∙ sym c.in_ok-style.ensures ∙ c.in-Some-2.is,
 )
 
 pub returns-in-None : goal.returns-in-None
 returns-in-None c =
-    nothing_needs c.args.looks.now c.args.rest.now c.args.key c.args.turn.listed c.in-Some.place
+    nothing_needs c.args.looks.now c.args.rest.now c.args.turn.key c.args.turn.listed c.in-Some.place
     (sym c.requires.place ∙ c.in-Some.is) (sym c.in_ok-style.ensures ∙ c.in-None.is)

@@ -3,7 +3,6 @@ use Rattle.std.specs.Prelude.{slice_get, is_some, option_and_then}
 use Rattle.std.specs.List.{filter_map}
 use Rattle.std.specs.Option.{option_map}
 use Rattle.std.proofs.lemmas.Bool.{cases_eq}
-use Rattle.std.proofs.lemmas.List.{length_push}
 use Rattle.std.proofs.lemmas.Option.{slice_get-get_or, slice_get_read}
 use Rattle.fx_base.specs.declared.work.Work.{Work}
 use Rattle.fx_kinds.specs.declared.facts.StyleFacts.{StyleFacts}
@@ -12,11 +11,11 @@ use Rattle.fx_style.specs.declared.kept.Entry.{Entry}
 use Rattle.fx_style.specs.declared.kept.Fresh.{Fresh}
 use Rattle.fx_style.specs.Kept.{entry, fresh_at, is_among, kept_at, kept_under}
 use Rattle.fx_style.specs.Places.{parent_at, places_up}
-use Rattle.fx_style.specs.Plans.{AreSteps, made_fresh, step_of}
+use Rattle.fx_style.specs.Plans.{AreSteps, made_fresh, put_step}
 use Rattle.fx_style.specs.Rules.{anew, needs, needs_by, renewed_by, ticks, worked}
 use Rattle.fx_style.specs.Turns.{AreRightBelow}
 use Rattle.fx_style.proofs.CostLemmas.{worked_more}
-use Rattle.fx_style.proofs.FreshLemmas.{AreFew, few_more, fresh-here, fresh-other, steps_more}
+use Rattle.fx_style.proofs.FreshLemmas.{AreFew, few_more, fresh-here, fresh-other, long_more, steps_more}
 use Rattle.fx_style.proofs.UpdateLemmas.{now_of, right_more}
 use Rattle.fx_style.proofs.making.made.Goals as goal
 
@@ -60,7 +59,8 @@ loop-at-preserved g c =
     let o = option_map (entry node.key) made in
     let inv = c.loop-at.invariant in
     let fresh : c.push_made.new.fresh.items ≡ fs ++ made_fresh at o = c.in_ok-push_made.ensures.fresh in
-    let steps : c.push_made.new.steps.items ≡ ss ++ step_of o (length fs) ∷ [] = c.in_ok-push_made.ensures.steps in
+    let steps : c.push_made.new.steps.items ≡ put_step ss at o (length fs) = c.in_ok-push_made.ensures.steps in
+    let there : at < length ss = subst (λ (n : ℕ). at < n) (sym inv.long) c.loop-at-test.true in
     let is : slice_get facts at ≡ Some node =
     slice_get_read facts (length facts) at node refl c.loop-at-test.true c.index-facts-at.is in
     let none : fresh_at fs at ≡ None = inv.low at (omega arith) in
@@ -73,11 +73,11 @@ loop-at-preserved g c =
     ap (option_and_then (λ (n : StyleFacts). kept_under looks rest n.key)) (sym is) in
     let up = places_up facts (parent_at facts at) in
     record {
-      long = ap length steps ∙ length_push ss (step_of o (length fs)) ∙ ap (λ (n : ℕ). n + 1) inv.long;
+      long = ap length steps ∙ long_more ss at o (length fs) ∙ inv.long;
       steps = both AreSteps c.push_made.new.fresh.items (fs ++ made_fresh at o) c.push_made.new.steps.items
-          (ss ++ step_of o (length fs) ∷ []) fresh steps (steps_more fs ss at o inv.steps inv.few inv.long none);
+          (put_step ss at o (length fs)) fresh steps (steps_more fs ss at o inv.steps inv.few none);
       few = both AreFew c.push_made.new.fresh.items (fs ++ made_fresh at o) c.push_made.new.steps.items
-          (ss ++ step_of o (length fs) ∷ []) fresh steps (few_more fs ss at o inv.few);
+          (put_step ss at o (length fs)) fresh steps (few_more fs ss at o there inv.few);
       low = λ k past.
           ap (λ (l : List Fresh). fresh_at l k) fresh
           ∙ fresh-other fs at o k (λ e. omega arith)

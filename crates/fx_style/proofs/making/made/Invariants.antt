@@ -11,7 +11,7 @@ abbrev pub invariant-loop-at : goal.invariant-loop-at
 invariant-loop-at g l =
     let kept = kept_at l.old.looks.now l.old.rest.now l.scene.facts.now in
     record {
-      long : length l.steps.items ≡ l.at;
+      long : length l.steps.items ≡ length l.scene.facts.now;
       steps : AreSteps l.fresh.items l.steps.items;
       few : AreFew l.fresh.items l.steps.items;
       low : (k : ℕ) → l.at ≤ k → fresh_at l.fresh.items k ≡ None;

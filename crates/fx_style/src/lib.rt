@@ -3,6 +3,7 @@
 #![tactic(auto)]
 
 mod above;
+mod checking;
 mod kept;
 mod laws;
 mod making;
@@ -11,6 +12,7 @@ mod putting;
 mod same;
 mod styles;
 
+pub use checking::can_be_styled;
 pub use kept::{Entry, Fresh, Rest};
 pub use laws::{few_are_worked, same_ancestors_same_style, updates_agree};
 pub use making::Scene;

@@ -9,3 +9,4 @@ pub mod ChangeLemmas
 pub mod DoneLemmas
 pub mod CostLemmas
 pub mod ChainLaws
+pub mod OnceLemmas

@@ -9,6 +9,8 @@ use Rattle.fx_kinds.specs.Properties.{initial_alignment}
 use Rattle.fx_select.specs.AllMatching.{matching_in}
 use Rattle.fx_select.specs.Chains.{chain}
 use Rattle.fx_select.specs.Listing.{IsListing, Listing, each}
+use Rattle.fx_cascade.specs.declared.sources.Source.{Source}
+use Rattle.fx_cascade.specs.Sources.{best_source}
 use Rattle.fx_cascade.specs.Tables.{AreRows}
 use Rattle.fx_node_style.specs.declared.node_styles.NodeStyle.{NodeStyle}
 use Rattle.fx_node_style.specs.Styling.{style_by}
@@ -46,6 +48,15 @@ style_of sheets facts at = first_of (styled (anew sheets facts) (places_up facts
 abbrev pub or_made : Option NodeStyle → NodeStyle → NodeStyle
 or_made (Some style) made = style
 or_made None made = made
+
+-- what wins the property of a name on the first of these nodes
+abbrev pub winner_of : List SheetAt → List StyleFacts → List ℕ → Option Source
+winner_of sheets [] name = None
+winner_of sheets (node ∷ up) name = best_source sheets (matching_nodes sheets (node ∷ up)) node.codes name
+
+-- what wins it on the node of a place
+abbrev pub winner_at : List SheetAt → List StyleFacts → ℕ → List ℕ → Option Source
+winner_at sheets facts at name = winner_of sheets (chain facts at) name
 
 -- a listed node is styled anew, and so is one of which nothing is kept; every other keeps what it had
 abbrev pub renewed_by : Bool → Option NodeStyle → NodeStyle → NodeStyle

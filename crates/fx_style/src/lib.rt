@@ -14,6 +14,9 @@ mod styles;
 
 pub use checking::can_be_styled;
 pub use kept::{Entry, Fresh, Rest};
-pub use laws::{few_are_worked, same_ancestors_same_style, updates_agree};
+pub use laws::{
+    few_are_worked, matches_name_each_rule_once, one_winner, same_ancestors_same_style,
+    same_ancestors_same_winners, updates_agree,
+};
 pub use making::Scene;
 pub use styles::Styles;

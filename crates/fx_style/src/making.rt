@@ -142,12 +142,7 @@ pub(crate) enum Left {
     Nothing,
 }
 
-fn left_of(
-    alloc: Global,
-    looks: &[Look],
-    rest: &[Rest],
-    turn: Turn,
-) -> Result<Left, AllocError>
+fn left_of(alloc: Global, looks: &[Look], rest: &[Rest], turn: Turn) -> Result<Left, AllocError>
     requires place { turn.place ≡ place_of_key rest.now turn.key }
     requires stay { turn.stay ≡ true → (turn.at < length looks.now) × (turn.at < length rest.now) }
     ensures { IfOk result (IsLeft looks.now rest.now turn) }

@@ -81,7 +81,7 @@ step-kept fs at None (Some s) few = ap (λ (l : List Fresh). step_entry l (Some 
 step-kept fs at (Some e) (Some s) few =
     ap (option_map (λ (f : Fresh). f.entry)) (get-push fs (record { at = at; entry = e }) s (few s refl))
 
-append-none : (fs : List Fresh) → fs ++ [] ≡ fs
+pub append-none : (fs : List Fresh) → fs ++ [] ≡ fs
 append-none [] = refl
 append-none (f ∷ fs) = ap (λ (l : List Fresh). f ∷ l) (append-none fs)
 

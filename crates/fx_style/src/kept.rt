@@ -1,5 +1,5 @@
 //! What is kept of a node, and where.
-ghost use Rattle.std.specs.Prelude.{◌≡◌, slice_get};
+ghost use Rattle.std.specs.Prelude.{◌≡◌, IsTrue, Some, slice_get};
 ghost use Rattle.std.specs.List.{position};
 ghost use Rattle.std.specs.Option.{option_copied};
 ghost use Rattle.fx_style.specs.Kept.{HaveDifferentKeys, is_key, place_of_key};
@@ -40,12 +40,22 @@ pub(crate) fn place_of_key(rest: &[Rest], key: NodeKey, guess: usize) -> Option<
     requires { HaveDifferentKeys rest.now }
     ensures { result ≡ place_of_key rest.now key }
 {
-    if let Some(one) = rest_at(rest, guess) {
-        if is_key(one.key, key) {
-            return Some(guess);
-        }
+    if stands_at(rest, key, guess) {
+        return Some(guess);
     }
     searched_place(rest, key)
+}
+
+/// Does the key stand there?
+#[inline]
+pub(crate) fn stands_at(rest: &[Rest], key: NodeKey, at: usize) -> bool
+    requires { HaveDifferentKeys rest.now }
+    ensures { IsTrue result → place_of_key rest.now key ≡ Some at }
+{
+    match rest_at(rest, at) {
+        Some(one) => is_key(one.key, key),
+        None => false,
+    }
 }
 
 fn rest_at(rest: &[Rest], at: usize) -> Option<&Rest>

@@ -1,5 +1,5 @@
 //! The entries that an update makes anew, before anything that is kept is changed.
-ghost use Rattle.std.specs.Prelude.{◌≡◌, ◌++◌, ◌∷◌, ◌+◌, ◌<◌, ◌≤◌, [], ℕ, Option as Maybe, Some, None, true, false, IfOk, OnOk, is_some, length, map, slice_get};
+ghost use Rattle.std.specs.Prelude.{◌≡◌, ◌++◌, ◌∷◌, ◌+◌, ◌<◌, ◌≤◌, [], ℕ, Option as Maybe, Some, None, true, false, IfOk, IsTrue, OnOk, is_some, length, map, slice_get};
 ghost use Rattle.std.specs.List.{filter_map};
 ghost use Rattle.std.specs.Option.{option_map};
 ghost use Rattle.fx_kinds.specs.declared.facts.StyleFacts.{StyleFacts as Facts};
@@ -13,7 +13,7 @@ ghost use Rattle.fx_style.specs.Plans.{AreSteps, made_fresh, plan_style, put_ste
 ghost use Rattle.fx_style.specs.Rules.{AreIndexed, HaveRows, anew, chain_style, matching_nodes, needs, needs_by, renewed_by, ticks, updated_style, worked};
 
 use crate::above::{Plan, Seen, look_above, paints_above, parent_at, styles_up};
-use crate::kept::{Entry, Fresh, Rest, place_of_key};
+use crate::kept::{Entry, Fresh, Rest, place_of_key, stands_at};
 use crate::marks::marked;
 use fx_base::{Ledgers, NodeKey, Work};
 use fx_css_types::{Candidate, SheetAt, sheets_within_limits_are_short};
@@ -237,6 +237,16 @@ pub(crate) struct Old<'a> {
     pub stay: bool,
 }
 
+/// May a node of this key that isn't listed keep what it has where it stands?
+#[inline]
+fn is_idle(old: Old<'_>, listed: bool, key: NodeKey, at: usize) -> bool
+    requires keys { HaveDifferentKeys old.rest.now }
+    ensures { IsTrue result → (listed ≡ false) × (old.entry.stay ≡ true)
+        × (place_of_key old.entry.rest.now key ≡ Some at) }
+{
+    old.stay && !listed && stands_at(old.rest, key, at)
+}
+
 /// The entries that an update makes anew, in the order of their places. Where what is kept may not stay in its places,
 /// every place gets one.
 pub(crate) fn made<L: Ledgers>(
@@ -269,12 +279,16 @@ pub(crate) fn made<L: Ledgers>(
     let mut steps = vec![in alloc; None; facts.len()]?;
     let mut guess = 0;
     for (at, node) in facts.iter().enumerate() {
+        let listed = marks[at];
+        if is_idle(old, listed, node.key, at) {
+            continue;
+        }
         let place = place_of_key(old.rest, node.key, guess);
         guess = next_guess(place, guess);
         let turn = Turn {
             at,
             key: node.key,
-            listed: marks[at],
+            listed,
             stay: old.stay,
             place,
         };

@@ -15,7 +15,9 @@ use Rattle.fx_style.specs.Plans.{AreSteps, made_fresh, put_step}
 use Rattle.fx_style.specs.Rules.{anew, needs, needs_by, renewed_by, ticks, worked}
 use Rattle.fx_style.specs.Turns.{AreRightBelow}
 use Rattle.fx_style.proofs.CostLemmas.{worked_more}
-use Rattle.fx_style.proofs.FreshLemmas.{AreFew, few_more, fresh-here, fresh-other, long_more, steps_more}
+use Rattle.fx_style.proofs.FreshLemmas.{AreFew, append-none, few_more, fresh-here, fresh-other, long_more, steps_more}
+use Rattle.fx_style.specs.declared.making.Turn.{Turn}
+use Rattle.fx_style.proofs.TurnLemmas.{kept_ticks, stays_here, stays_style}
 use Rattle.fx_style.proofs.UpdateLemmas.{now_of, right_more}
 use Rattle.fx_style.proofs.making.made.Goals as goal
 
@@ -64,9 +66,9 @@ loop-at-preserved g c =
     let is : slice_get facts at ≡ Some node =
     slice_get_read facts (length facts) at node refl c.loop-at-test.true c.index-facts-at.is in
     let none : fresh_at fs at ≡ None = inv.low at (omega arith) in
-    let listed : c.index.result.now ≡ is_among restyle at =
-    c.index.ensures
-    ∙ any_default c.in_ok-marks.marks.items at c.index.result.now false
+    let listed : c.index-listed.result.now ≡ is_among restyle at =
+    c.index-listed.ensures
+    ∙ any_default c.in_ok-marks.marks.items at c.index-listed.result.now false
     (subst (λ (n : ℕ). at < n) (sym c.in_ok-marks.ensures.long) c.loop-at-test.true)
     ∙ c.in_ok-marks.ensures.marks at c.loop-at-test.true in
     let under : kept_under looks rest node.key ≡ kept at =
@@ -85,7 +87,7 @@ loop-at-preserved g c =
       right = subst (λ (l : List Fresh). AreRightBelow sheets facts restyle kept looks rest l (at + 1)) (sym fresh)
           (right_more sheets facts restyle kept looks rest fs at node made c.requires.before is none inv.right
           (c.in_ok-style.ensures.style
-          ∙ ap (λ (l : List Fresh). Some (entry node.key (renewed_by c.index.result.now
+          ∙ ap (λ (l : List Fresh). Some (entry node.key (renewed_by c.index-listed.result.now
           (kept_under looks rest node.key) (anew sheets facts at (filter_map (now_of looks rest l) up)))))
           c.as_slice.ensures.value
           ∙ ap (λ (b : Bool). Some (entry node.key (renewed_by b (kept_under looks rest node.key)
@@ -107,4 +109,54 @@ loop-at-preserved g c =
           ∙ ap (λ (n : ℕ). record c.args.work.now { styled = n })
           (add_assoc c.args.work.now.styled (worked (needs restyle kept) at) (ticks (needs restyle kept at))
           ∙ ap (λ (n : ℕ). c.args.work.now.styled + n) (worked_more (needs restyle kept) at (at + 1) refl));
+    }
+
+pub loop-at-preserved-then-is_idle : goal.loop-at-preserved-then-is_idle
+loop-at-preserved-then-is_idle g c =
+    let sheets = c.args.scene.sheets.now in
+    let facts = c.args.scene.facts.now in
+    let restyle = c.args.restyle.now in
+    let looks = c.args.old.looks.now in
+    let rest = c.args.old.rest.now in
+    let kept = kept_at looks rest facts in
+    let at = c.loop-at.at in
+    let fs = c.loop-at.fresh.items in
+    let node = c.index-facts-at.result in
+    let inv = c.loop-at.invariant in
+    let idle = c.is_idle.ensures c.if-is_idle.true in
+    let is : slice_get facts at ≡ Some node =
+    slice_get_read facts (length facts) at node refl c.loop-at-test.true c.index-facts-at.is in
+    let none : fresh_at fs at ≡ None = inv.low at (omega arith) in
+    let listed : c.index-listed.result.now ≡ is_among restyle at =
+    c.index-listed.ensures
+    ∙ any_default c.in_ok-marks.marks.items at c.index-listed.result.now false
+    (subst (λ (n : ℕ). at < n) (sym c.in_ok-marks.ensures.long) c.loop-at-test.true)
+    ∙ c.in_ok-marks.ensures.marks at c.loop-at-test.true in
+    let off : is_among restyle at ≡ false = sym listed ∙ idle.0 in
+    let under : kept_under looks rest node.key ≡ kept at =
+    ap (option_and_then (λ (n : StyleFacts). kept_under looks rest n.key)) (sym is) in
+    let turn : Turn = record { at = at; key = node.key; listed = false; stay = true; place = None } in
+    let long = c.requires.stay idle.1 in
+    let stays = stays_here looks rest turn refl refl idle.2
+    (subst (λ (n : ℕ). at < n) (sym long.0) c.loop-at-test.true)
+    (subst (λ (n : ℕ). at < n) (sym long.1) c.loop-at-test.true) in
+    let made = anew sheets facts at (filter_map (now_of looks rest fs) (places_up facts (parent_at facts at))) in
+    let none_worked : ticks (needs restyle kept at) ≡ 0 =
+    ap (λ (o : Option NodeStyle). ticks (needs_by (is_among restyle at) o)) (sym under)
+    ∙ kept_ticks (is_among restyle at) (kept_under looks rest node.key) stays.style off stays.kept in
+    let more : worked (needs restyle kept) at + ticks (needs restyle kept at) ≡ worked (needs restyle kept) (at + 1) =
+    worked_more (needs restyle kept) at (at + 1) refl in
+    let same : worked (needs restyle kept) at ≡ worked (needs restyle kept) (at + 1) = omega (arith, more, none_worked) in
+    record {
+      long = inv.long;
+      steps = inv.steps;
+      few = inv.few;
+      low = λ k past. inv.low k (omega (arith, past));
+      right = subst (λ (l : List Fresh). AreRightBelow sheets facts restyle kept looks rest l (at + 1)) (append-none fs)
+          (right_more sheets facts restyle kept looks rest fs at node None c.requires.before is none inv.right
+          (stays_style looks rest turn made stays
+          ∙ ap (λ (b : Bool). Some (entry node.key (renewed_by b (kept_under looks rest node.key) made))) (sym off)
+          ∙ ap (λ (o : Option NodeStyle). Some (entry node.key (renewed_by (is_among restyle at) o made))) under));
+      all = λ must k below. absurd (let h : true ≡ false = sym idle.1 ∙ must in cc);
+      cost = inv.cost ∙ ap (λ (n : ℕ). record c.args.work.now { styled = c.args.work.now.styled + n }) same;
     }

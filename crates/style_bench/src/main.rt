@@ -1,0 +1,76 @@
+//! Styles the nodes of a scene, each by ten rules, so many times, or updates their looks where nothing is to be styled
+//! anew, or only searches the rules, and prints a checksum. A script counts its instructions; no other crate stands on
+//! this one.
+#![tactic(auto)]
+
+ghost use Rattle.std.specs.Prelude.{◌≡◌};
+
+mod nodes;
+mod rounds;
+mod sheets;
+
+use anyhow::bail;
+use fx_base::{Ledgers, Work};
+use nodes::nodes;
+use rounds::{Rounds, Task, play};
+use sheets::sheets;
+use std::alloc::Global;
+use std::env;
+use std::marker::Brand;
+use std::sync::ledger::Blank;
+
+fn main(rt: HostRuntime) -> anyhow::Result<()> {
+    let mut words = env::args(&rt)?;
+    let _program = words.next();
+    let (Some(task), Some(count), Some(rounds)) = (words.next(), words.next(), words.next()) else {
+        bail!("usage: style_bench search|style|keep NODES ROUNDS");
+    };
+    let rounds = Rounds {
+        task: task_of(task.as_str()),
+        nodes: count.as_str().parse::<u32>()?,
+        count: rounds.as_str().parse::<u64>()?,
+    };
+    let sum = start::<Brand>(
+        rt.alloc(),
+        rounds,
+        Blank::new(1),
+        Blank::new(1),
+        Blank::new(1),
+        Blank::new(1),
+    )?;
+    println!(rt; "{sum}")?;
+    Ok(())
+}
+
+fn task_of(word: &str) -> Task {
+    match word {
+        "search" => Task::Search,
+        "style" => Task::Style,
+        _ => Task::Keep,
+    }
+}
+
+fn start<L: Ledgers>(
+    alloc: Global,
+    rounds: Rounds,
+    evaluated: Blank,
+    styled: Blank,
+    laid: Blank,
+    painted: Blank,
+) -> anyhow::Result<usize>
+    requires evaluated { (evaluated.name ≡ L.evaluated_name) × (evaluated.parts ≡ 1) }
+    requires styled { (styled.name ≡ L.styled_name) × (styled.parts ≡ 1) }
+    requires laid { (laid.name ≡ L.laid_name) × (laid.parts ≡ 1) }
+    requires painted { (painted.name ≡ L.painted_name) × (painted.parts ≡ 1) }
+{
+    let mut work: Work<L> = Work::new(evaluated, styled, laid, painted);
+    let sheets = sheets(alloc)?;
+    let facts = nodes(alloc, rounds.nodes)?;
+    play(
+        alloc,
+        sheets.as_slice(),
+        facts.as_slice(),
+        rounds,
+        &mut work,
+    )
+}

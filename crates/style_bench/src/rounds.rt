@@ -1,0 +1,125 @@
+//! What is done so many times.
+ghost use Rattle.std.specs.Prelude.{◌≡◌};
+ghost use Rattle.fx_css_types.specs.Limits.{AreShort, AreWithinLimits};
+ghost use Rattle.fx_select.specs.Chains.{ParentsStandBefore};
+ghost use Rattle.fx_style.specs.Kept.{AreDifferent};
+ghost use Rattle.fx_style.specs.Rules.{AreIndexed, HaveRows};
+
+use anyhow::bail;
+use fx_base::{Ledgers, Work};
+use fx_css_types::{SheetAt, sheets_within_limits_are_short};
+use fx_kinds::StyleFacts;
+use fx_select::RuleIndex;
+use fx_style::{Scene, Styles, can_be_styled};
+use std::alloc::{AllocError, Global};
+
+/// What is done with each node: its rules are searched, it is styled anew, or its look is kept.
+#[derive(Clone, Copy)]
+pub enum Task {
+    Search,
+    Style,
+    Keep,
+}
+
+/// What is done, with how many nodes, and how often.
+#[derive(Clone, Copy)]
+pub struct Rounds {
+    pub task: Task,
+    pub nodes: u32,
+    pub count: u64,
+}
+
+/// Does it, and gives a checksum.
+pub fn play<L: Ledgers>(
+    alloc: Global,
+    sheets: &[SheetAt],
+    facts: &[StyleFacts],
+    rounds: Rounds,
+    work: &mut Work<L>,
+) -> anyhow::Result<usize>
+    requires { AreWithinLimits sheets.now }
+{
+    if !can_be_styled(facts) {
+        bail!("the nodes aren't those of a scene");
+    }
+    let index = RuleIndex::build(alloc, sheets)?;
+    let scene = Scene {
+        index: &index,
+        sheets,
+        facts,
+    };
+    match rounds.task {
+        Task::Search => Ok(search(alloc, scene, rounds.count)?),
+        Task::Style => Ok(style(alloc, scene, rounds.count, work)?),
+        Task::Keep => Ok(keep(alloc, scene, rounds.count, work)?),
+    }
+}
+
+/// How many rules match the nodes, in all rounds.
+fn search(alloc: Global, scene: Scene<'_>, count: u64) -> Result<usize, AllocError>
+    requires before { ParentsStandBefore scene.facts.now }
+    requires sheets { AreIndexed scene.index.now scene.sheets.now }
+{
+    sheets_within_limits_are_short();
+    let mut found = 0usize;
+    for _ in 0..count {
+        for at in 0..scene.facts.len() {
+            let matched = scene.index.matched(alloc, scene.sheets, scene.facts, at)?;
+            found = found.wrapping_add(matched.len());
+        }
+    }
+    Ok(found)
+}
+
+/// All nodes are styled in each round.
+fn style<L: Ledgers>(
+    alloc: Global,
+    scene: Scene<'_>,
+    count: u64,
+    work: &mut Work<L>,
+) -> Result<usize, AllocError>
+    requires before { ParentsStandBefore scene.facts.now }
+    requires keys { AreDifferent scene.facts.now }
+    requires sheets { AreIndexed scene.index.now scene.sheets.now }
+    requires codes { HaveRows scene.facts.now }
+{
+    let mut all = Vec::new(alloc);
+    for at in 0..scene.facts.len() {
+        all.push(at)?;
+    }
+    let mut styles = Styles::new(alloc);
+    for _ in 0..count {
+        styles.update(alloc, scene, all.as_slice(), work)?;
+    }
+    Ok(checksum(&styles))
+}
+
+/// Nodes are styled before the first round, and none after it.
+fn keep<L: Ledgers>(
+    alloc: Global,
+    scene: Scene<'_>,
+    count: u64,
+    work: &mut Work<L>,
+) -> Result<usize, AllocError>
+    requires before { ParentsStandBefore scene.facts.now }
+    requires keys { AreDifferent scene.facts.now }
+    requires sheets { AreIndexed scene.index.now scene.sheets.now }
+    requires codes { HaveRows scene.facts.now }
+{
+    let mut styles = Styles::new(alloc);
+    for _ in 0..count {
+        styles.update(alloc, scene, &[], work)?;
+    }
+    Ok(checksum(&styles))
+}
+
+fn checksum(styles: &Styles) -> usize {
+    let mut sum = styles.changed().len();
+    for look in styles.looks() {
+        sum = sum
+            .wrapping_mul(31)
+            .wrapping_add(look.background_color.as_slice().len())
+            .wrapping_add(look.text_fill.g as usize);
+    }
+    sum
+}

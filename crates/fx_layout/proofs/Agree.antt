@@ -1,7 +1,7 @@
 -- Where all that isn't listed is as it was, an update of a layout is the layout.
-use Rattle.std.proofs.Common.{refl, sym, subst, ap, ◌∙◌, ◌≡◌, ℕ, ◌<◌, Bool, true, false, ◌||◌, not, nat_eq, eqb, MatchBool, All, List, [], ◌∷◌, Option, Some, length, map, slice_index_or, inl, inr, arith}
+use Rattle.std.proofs.Common.{refl, sym, subst, ap, ◌∙◌, ◌≡◌, ℕ, ◌<◌, Bool, true, false, ◌||◌, not, nat_eq, eqb, MatchBool, All, List, [], ◌∷◌, Option, length, map, slice_index_or, inl, inr, arith}
 use Rattle.std.proofs.lemmas.Bool.{and_from, cases_Bool, eqb-true, eq-eqb, true≢false}
-use Rattle.std.proofs.lemmas.List.{ext_get_or, get_or-map, get_or_default, length-map, map-id}
+use Rattle.std.proofs.lemmas.List.{ext_get_or, get_or-map, length-map, map-id}
 use Rattle.std.proofs.lemmas.List.Elements.{All-weaker}
 use Rattle.std.proofs.lemmas.List.FromFn.{get_or-map-range_with_len, length-map-range_with_len}
 use Rattle.fx_base.specs.declared.facts.ChildSize.{ChildSize}
@@ -15,12 +15,12 @@ use Rattle.fx_panes_parts.specs.declared.axes.Span.{Span}
 use Rattle.fx_layout_parts.specs.declared.rules.NodeBox.{NodeBox}
 use Rattle.fx_layout_parts.specs.declared.rules.Rule.{Rule}
 use Rattle.fx_layout_parts.specs.Children.{child_of}
-use Rattle.fx_layout_sweeps.specs.Nodes.{AreNodes, box_at, child_at, children_of, extent_at, keys, no_node, node_at, nowhere, parent_at, parents, places_at, seen, span_at}
+use Rattle.fx_layout_sweeps.specs.Nodes.{AreNodes, box_at, child_at, children_of, extent_at, keys, no_node, node_at, nowhere, parents, places_at, seen, span_at}
 use Rattle.fx_layout_sweeps.specs.Sweeps.{ArePlaced, IsMeasured, fitted, is_worked, kept_in, last_in, old_at, spans_along, spans_for}
 use Rattle.fx_layout_sweeps.proofs.Below.{IsChild, children_known, lists_at}
 use Rattle.fx_layout_sweeps.proofs.Turns.{map_same}
-use Rattle.fx_layout.specs.Updates.{AreDifferent, IsUpdate, Kept, is_key, is_listed, is_wide_anew, lengths_in, old_place, old_places}
-use Rattle.fx_layout.specs.Layouts.{AreSame, IsLayout, IsSame, apart}
+use Rattle.fx_layout.specs.Updates.{AreDifferent, IsUpdate, Kept, is_key, is_listed, is_wide_anew, old_place, old_places}
+use Rattle.fx_layout.specs.Layouts.{AreSame, IsLayout, apart}
 use Rattle.fx_layout.proofs.Olds.{old_place_is}
 
 -- an update, and what it stands on

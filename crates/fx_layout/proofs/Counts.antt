@@ -1,8 +1,8 @@
 -- How many places an update works on.
-use Rattle.std.proofs.Common.{refl, sym, ap, ◌∙◌, ◌≡◌, ℕ, zero, suc, ◌+◌, ◌*◌, ◌<◌, ◌≤◌, Bool, true, false, ◌||◌, not, nat_eq, ◌==◌, cond, eqb, List, [], ◌∷◌, length, inl, inr, arith}
+use Rattle.std.proofs.Common.{refl, sym, ap, ◌∙◌, ◌≡◌, ℕ, zero, suc, ◌+◌, ◌<◌, ◌≤◌, Bool, true, false, ◌||◌, ◌==◌, cond, List, [], ◌∷◌, length, inl, inr, arith}
 use Rattle.std.proofs.lemmas.Bool.{cases_Bool, eqb-true, true≢false}
 use Rattle.fx_layout_sweeps.specs.Sweeps.{tally}
-use Rattle.fx_layout_sweeps.proofs.Tallies.{tally_more, tally_same}
+use Rattle.fx_layout_sweeps.proofs.Tallies.{tally_more}
 use Rattle.fx_layout.specs.Updates.{is_listed}
 
 abbrev one_if : Bool → ℕ

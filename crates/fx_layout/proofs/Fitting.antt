@@ -1,5 +1,5 @@
 -- What is seen of nodes one by one holds of all.
-use Rattle.std.proofs.Common.{refl, sym, subst, ap, ◌∙◌, ◌≡◌, ℕ, zero, suc, ◌<◌, ◌≤◌, true, false, List, [], ◌∷◌, Option, None, Some, length, map, slice_index_or, arith}
+use Rattle.std.proofs.Common.{refl, sym, subst, ◌∙◌, ◌≡◌, ℕ, ◌<◌, true, List, [], ◌∷◌, Option, None, Some, length, arith}
 use Rattle.std.proofs.lemmas.Bool.{true≢false}
 use Rattle.std.proofs.lemmas.List.{get_or-map, length-map}
 use Rattle.fx_base.specs.declared.keys.NodeKey.{NodeKey}

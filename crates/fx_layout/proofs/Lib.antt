@@ -6,3 +6,4 @@ pub mod Agree
 pub mod One
 pub mod Updating
 pub mod Fitting
+pub mod Over

@@ -1,5 +1,5 @@
 -- A place that has the key is the one where it stands, since no two keys are one.
-use Rattle.std.proofs.Common.{sym, ap, ◌∙◌, ◌≡◌, ℕ, ◌<◌, Bool, true, eqb, List, length, slice_index_or, inl, inr, arith}
+use Rattle.std.proofs.Common.{sym, ap, ◌∙◌, ◌≡◌, ℕ, ◌<◌, true, eqb, List, length, slice_index_or, inl, inr, arith}
 use Rattle.std.proofs.lemmas.Bool.{and_parts, cases_Bool, eqb-true}
 use Rattle.std.proofs.lemmas.List.Sums.{position_or_len_is}
 use Rattle.fx_base.specs.declared.keys.NodeKey.{NodeKey}

@@ -1,8 +1,7 @@
 -- Nodes have one layout: lengths are told from the leaves, and places from the root.
-use Rattle.std.proofs.Common.{refl, sym, subst, ap, ◌∙◌, ◌≡◌, ℕ, zero, suc, ◌+◌, ◌<◌, ◌≤◌, Bool, true, false, nat_eq, cond, All, List, [], ◌∷◌, Option, None, Some, filter, length, map, slice_index_or, zero-add, inl, inr, arith}
+use Rattle.std.proofs.Common.{refl, sym, subst, ap, ◌∙◌, ◌≡◌, ℕ, zero, suc, ◌+◌, ◌<◌, ◌≤◌, Bool, true, false, cond, All, List, [], ◌∷◌, Option, None, Some, filter, length, map, slice_index_or, zero-add, arith}
 use Rattle.std.proofs.lemmas.Bool.{eq-eqb}
-use Rattle.std.proofs.lemmas.List.{ext_get_or, get_or-map, length-map}
-use Rattle.std.proofs.lemmas.List.Elements.{All-weaker}
+use Rattle.std.proofs.lemmas.List.{ext_get_or, length-map}
 use Rattle.std.proofs.lemmas.List.FromFn.{get_or-range_with_len, length-range_with_len}
 use Rattle.std.specs.List.{range_with_len}
 use Rattle.fx_base.specs.declared.facts.ChildSize.{ChildSize}
@@ -21,12 +20,12 @@ use Rattle.fx_layout_parts.specs.declared.rules.Rule.{Rule}
 use Rattle.fx_layout_parts.specs.declared.rules.Rule.TheVariants as rule
 use Rattle.fx_layout_parts.specs.Children.{child_of}
 use Rattle.fx_layout_parts.specs.Rules.{AreSizesBy, IsHigh, IsWide, across_half, down_half}
-use Rattle.fx_layout_sweeps.specs.Nodes.{AreNodes, box_at, child_at, children_lists, children_of, extent_at, is_place, no_node, node_at, nowhere, parent_at, parents, places_at, seen, span_at, unknown}
-use Rattle.fx_layout_sweeps.specs.Sweeps.{IsMeasured, fitted, held_length, spans_along}
+use Rattle.fx_layout_sweeps.specs.Nodes.{AreNodes, box_at, child_at, children_of, extent_at, is_place, node_at, nowhere, parent_at, parents, places_at, seen, span_at}
+use Rattle.fx_layout_sweeps.specs.Sweeps.{fitted, held_length, spans_along}
 use Rattle.fx_layout_sweeps.proofs.Asking.{children_below, lists_behind}
 use Rattle.fx_layout_sweeps.proofs.Below.{lists_at}
 use Rattle.fx_layout_sweeps.proofs.Turns.{map_same}
-use Rattle.fx_layout.specs.Updates.{AreRects, Kept, around, corner, from_corner, rect_at, root_length, shifted, window_height, window_width}
+use Rattle.fx_layout.specs.Updates.{Kept, around, corner, from_corner, rect_at, root_length, shifted, window_height, window_width}
 use Rattle.fx_layout.specs.Layouts.{IsLayout}
 use Rattle.fx_layout.proofs.Agree.{map_all}
 use Rattle.fx_layout.proofs.Shifts.{parent_before}

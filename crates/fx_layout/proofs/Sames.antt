@@ -1,11 +1,11 @@
 -- A sweep sees marks and what is kept at the places of its nodes alone.
-use Rattle.std.proofs.Common.{subst, sym, ap, ◌∙◌, ◌≡◌, ℕ, ◌<◌, Bool, ◌||◌, not, nat_eq, MatchBool, List, length, map}
+use Rattle.std.proofs.Common.{subst, ◌≡◌, ℕ, ◌<◌, Bool, ◌||◌, not, nat_eq, MatchBool, List, length, map}
 use Rattle.fx_kinds.specs.declared.facts.BoxFacts.{BoxFacts}
 use Rattle.fx_look.specs.declared.looks.Look.{Look}
 use Rattle.fx_panes_parts.specs.declared.axes.Axis.{Axis}
 use Rattle.fx_panes_parts.specs.declared.axes.Extent.{Extent}
 use Rattle.fx_panes_parts.specs.declared.axes.Span.{Span}
-use Rattle.fx_layout_sweeps.specs.Nodes.{box_at, extent_at, places_at, seen, span_at}
+use Rattle.fx_layout_sweeps.specs.Nodes.{box_at, extent_at, places_at, span_at}
 use Rattle.fx_layout_sweeps.specs.Sweeps.{AreMeasured, ArePlaced, IsMeasured, fitted, seen_along, spans_for}
 
 pub measured_as : (axis : Axis) (nodes : List BoxFacts) (looks : List Look) (children : List (List ℕ))

@@ -1,13 +1,9 @@
 -- Lengths and places along both axes make an update, and what it costs.
-use Rattle.std.proofs.Common.{refl, sym, subst, ap, ◌∙◌, ◌≡◌, ℕ, ◌+◌, ◌*◌, ◌<◌, ◌≤◌, Bool, true, false, ◌||◌, not, nat_eq, List, [], Option, length, arith}
+use Rattle.std.proofs.Common.{refl, sym, subst, ap, ◌∙◌, ◌≡◌, ℕ, ◌+◌, ◌<◌, ◌≤◌, Bool, true, false, ◌||◌, not, nat_eq, List, [], Option, length, arith}
 use Rattle.std.proofs.lemmas.Bool.{true≢false}
-use Rattle.fx_base.specs.declared.geometry.Rect.{Rect}
-use Rattle.fx_base.specs.declared.keys.NodeKey.{NodeKey}
 use Rattle.fx_kinds.specs.declared.facts.BoxFacts.{BoxFacts}
 use Rattle.fx_look.specs.declared.looks.Look.{Look}
 use Rattle.fx_panes_parts.specs.declared.axes.Axis.TheVariants.{Across, Down}
-use Rattle.fx_panes_parts.specs.declared.axes.Extent.{Extent}
-use Rattle.fx_panes_parts.specs.declared.axes.Span.{Span}
 use Rattle.fx_layout_sweeps.specs.Nodes.{children_lists, extent_at, keys, parents, span_at}
 use Rattle.fx_layout_sweeps.specs.Sweeps.{AreMeasured, ArePlaced, flag_in, is_worked, kept_in, last_in, tally}
 use Rattle.fx_layout_sweeps.proofs.Tallies.{tally_same}

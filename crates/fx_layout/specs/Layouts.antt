@@ -1,11 +1,11 @@
 -- The layout of a scene from nothing, and what ties updates to it.
 -- Cited by src/laws.rt.
-use Rattle.std.specs.Prelude.{◌≡◌, ℕ, ◌<◌, Bool, true, false, List, [], length, map, Option, None}
+use Rattle.std.specs.Prelude.{◌≡◌, ℕ, ◌<◌, false, List, [], length, map, Option, None}
 use Rattle.fx_kinds.specs.declared.facts.BoxFacts.{BoxFacts}
 use Rattle.fx_look.specs.declared.looks.Look.{Look}
 use Rattle.fx_panes_parts.specs.declared.axes.Axis.TheVariants.{Across, Down}
 use Rattle.fx_layout_sweeps.specs.Nodes.{box_at, children_lists, children_of, extent_at, keys, node_at, parents, places_at, seen, span_at}
-use Rattle.fx_layout_sweeps.specs.Sweeps.{IsMeasured, fitted, held_length, seen_along, spans_along}
+use Rattle.fx_layout_sweeps.specs.Sweeps.{IsMeasured, fitted, spans_along}
 use Rattle.fx_layout.specs.Updates.{AreRects, Kept, from_corner, is_listed, old_place, root_length, window_height, window_width}
 
 -- The layout of a scene: the lengths of each node are those that its pane measures over the lengths of its children, its

@@ -9,15 +9,15 @@ use crate::lengths::{
     heights_along, kept_lengths, root_length, spans_from, widths_along, window_height, window_width,
 };
 use crate::rects::rects_of;
+use crate::trees::{Tree, fresh_tree, tree_in};
 use fx_base::{Ledgers, NodeKey, Rect, Work};
 use fx_kinds::BoxFacts;
-use fx_layout_sweeps::{
-    Measuring, Places, Placing, children_lists, extent_at, measure_nodes, place_nodes,
-};
+use fx_layout_sweeps::{Measuring, Places, Placing, extent_at, measure_nodes, place_nodes};
 use fx_look::Look;
 use fx_panes_parts::{Axis, Extent, Span};
 use std::alloc::{AllocError, Global};
 use std::marker::Model;
+use std::mem;
 
 /// Lengths and places of the nodes along one axis.
 #[derive(Drop)]
@@ -31,20 +31,21 @@ struct Along {
 #[derive(Drop)]
 pub struct Layouts {
     keys: Vec<NodeKey>,
-    children: Vec<Places>,
+    tree: Tree,
     across: Along,
     down: Along,
     rects: Vec<Rect>,
 }
 
 impl Model for Layouts {
+    ghost use Rattle.fx_layout_sweeps.specs.Nodes.{children_lists};
     ghost use Rattle.fx_layout.specs.Updates.{AreDifferent, Kept};
 
     ghost Value = { Kept };
 
     ghost view = { λ l. record {
       keys = l.keys.items;
-      children = l.children.items;
+      children = children_lists l.tree;
       widths = l.across.lengths.items;
       heights = l.down.lengths.items;
       across = l.across.spans.items;
@@ -53,6 +54,15 @@ impl Model for Layouts {
     } };
 
     ghost invariant = { λ l. AreDifferent l.keys.items };
+}
+
+/// What an update makes anew, beside the tree.
+#[derive(Drop)]
+struct Laid {
+    keys: Vec<NodeKey>,
+    across: Along,
+    down: Along,
+    rects: Vec<Rect>,
 }
 
 /// What an update is given.
@@ -93,7 +103,7 @@ impl Layouts {
     {
         Layouts {
             keys: Vec::new(alloc),
-            children: Vec::new(alloc),
+            tree: Tree::new(alloc),
             across: Along {
                 lengths: Vec::new(alloc),
                 spans: Vec::new(alloc),
@@ -137,47 +147,63 @@ impl Layouts {
         ensures cost { OnOk result (work.new.laid
             ≤ work.old.laid + laid_bound (length remeasure.now) (resized self.old nodes.now self.new)) }
     {
-        let made = self.made(
-            alloc,
-            Input {
-                nodes,
-                looks,
-                window,
-                remeasure,
-            },
-            work,
-        )?;
-        let size = made.size(window);
-        *self = made;
+        let input = Input {
+            nodes,
+            looks,
+            window,
+            remeasure,
+        };
+        let fresh = fresh_tree(alloc, &self.tree, nodes)?;
+        let laid = self.laid(alloc, input, tree_in(&fresh, &self.tree), work)?;
+        let size = laid.size(window);
+        let Layouts { tree, .. } = mem::replace(self, Layouts::new(alloc));
+        *self = laid.over(fresh.unwrap_or(tree));
         Ok(size)
     }
 
-    /// What is kept after an update.
-    fn made<L: Ledgers>(
+    /// What an update makes over the tree of its nodes.
+    fn laid<L: Ledgers>(
         &self,
         alloc: Global,
         input: Input<'_>,
+        tree: &Tree,
         work: &mut Work<L>,
-    ) -> Result<Layouts, AllocError>
+    ) -> Result<Laid, AllocError>
         requires some { 0 < length input.nodes.now }
         requires nodes { AreNodes input.nodes.now }
         requires keys { AreDifferent (keys input.nodes.now) }
         requires looks { length input.looks.now ≡ length input.nodes.now }
+        requires tree { tree.now ≡ parents input.nodes.now }
         ensures update { IfOk result (λ made. IsUpdate self.now input.entry.nodes.now input.entry.looks.now
-            input.entry.window input.entry.remeasure.now made) }
+            input.entry.window input.entry.remeasure.now (record {
+              keys = made.keys.items;
+              children = children_lists tree.now;
+              widths = made.across.lengths.items;
+              heights = made.down.lengths.items;
+              across = made.across.spans.items;
+              down = made.down.spans.items;
+              rects = made.rects.items;
+            })) }
         ensures others { OnOk result (work.new ≡ record work.old { laid = work.new.laid }) }
         ensures cost { IfOk result (λ made. work.new.laid ≤ work.old.laid
-            + laid_bound (length input.entry.remeasure.now) (resized self.now input.entry.nodes.now made)) }
+            + laid_bound (length input.entry.remeasure.now) (resized self.now input.entry.nodes.now (record {
+              keys = made.keys.items;
+              children = children_lists tree.now;
+              widths = made.across.lengths.items;
+              heights = made.down.lengths.items;
+              across = made.across.spans.items;
+              down = made.down.spans.items;
+              rects = made.rects.items;
+            }))) }
     {
         let nodes = input.nodes;
-        let children = children_lists(alloc, nodes)?;
         let olds = old_places(alloc, self.keys.as_slice(), nodes)?;
         let scene = Scene {
             nodes,
             looks: input.looks,
-            children: children.as_slice(),
+            children: tree.children(),
             olds: olds.as_slice(),
-            old_children: self.children.as_slice(),
+            old_children: self.tree.children(),
         };
         let mut flags = marks_of(alloc, input.remeasure, nodes.len())?;
         let across = lay_along(
@@ -209,20 +235,21 @@ impl Layouts {
             work,
         )?;
         let rects = rects_of(alloc, nodes, across.spans.as_slice(), down.spans.as_slice())?;
-        Ok(Layouts {
+        Ok(Laid {
             keys: keys_of(alloc, nodes)?,
-            children,
             across,
             down,
             rects,
         })
     }
+}
 
+impl Laid {
     /// The size of the root in the window.
     fn size(&self, window: Option<(u32, u32)>) -> (u32, u32)
         ensures { result ≡ (
-          root_length (window_width window) (extent_at self.now.widths 0),
-          root_length (window_height window) (extent_at self.now.heights 0),
+          root_length (window_width window) (extent_at self.now.across.lengths.items 0),
+          root_length (window_height window) (extent_at self.now.down.lengths.items 0),
         ) }
     {
         (
@@ -235,6 +262,28 @@ impl Layouts {
                 extent_at(self.down.lengths.as_slice(), 0),
             ),
         )
+    }
+
+    /// What is kept then, with this tree.
+    fn over(self, tree: Tree) -> Layouts
+        requires { AreDifferent self.keys.items }
+        ensures { result ≡ record {
+          keys = self.keys.items;
+          children = children_lists tree;
+          widths = self.across.lengths.items;
+          heights = self.down.lengths.items;
+          across = self.across.spans.items;
+          down = self.down.spans.items;
+          rects = self.rects.items;
+        } }
+    {
+        Layouts {
+            keys: self.keys,
+            tree,
+            across: self.across,
+            down: self.down,
+            rects: self.rects,
+        }
     }
 }
 

@@ -30,11 +30,14 @@ pub(crate) fn spans_from(alloc: Global, room: u64, count: usize) -> Result<Vec<S
     ensures each { IfOk result (λ spans. length spans.items ≡ count) }
     ensures root { IfOk result (λ spans. span_at spans.items 0 ≡ from_corner room) }
 {
-    let mut spans = vec![in alloc; NOWHERE; count]?;
-    spans[0] = Span {
+    let mut spans = Vec::with_capacity(alloc, count)?;
+    spans.push(Span {
         start: 0,
         length: room,
-    };
+    })?;
+    for _ in 1..count {
+        spans.push(NOWHERE)?;
+    }
     Ok(spans)
 }
 

@@ -8,6 +8,7 @@ mod layouts;
 mod lengths;
 mod nodes;
 mod rects;
+mod trees;
 
 pub use laws::{anew_is_layout, one_layout, updates_agree};
 pub use layouts::Layouts;

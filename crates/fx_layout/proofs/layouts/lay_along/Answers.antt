@@ -1,4 +1,3 @@
-use Rattle.std.proofs.Common.{◌≡◌}
 use Rattle.fx_layout.proofs.layouts.lay_along.Goals as goal
 
 pub returns-clause-placed : goal.returns-clause-placed

@@ -1,4 +1,4 @@
-use Rattle.std.proofs.Common.{◌≡◌, ℕ, map, take}
+use Rattle.std.proofs.Common.{◌≡◌, map, take}
 use Rattle.fx_layout_sweeps.specs.Nodes.{extent_at}
 use Rattle.fx_layout.proofs.lengths.kept_lengths.Given as goal
 

@@ -1,4 +1,4 @@
-use Rattle.std.proofs.Common.{ℕ, ◌<◌, ◌≤◌, All, length, take}
+use Rattle.std.proofs.Common.{◌≤◌, All, length, take}
 use Rattle.fx_kinds.specs.declared.facts.BoxFacts.{BoxFacts}
 use Rattle.fx_layout.proofs.nodes.have_few_tracks.Given as goal
 

@@ -1,4 +1,3 @@
-use Rattle.std.proofs.Common.{◌≡◌}
 use Rattle.fx_layout.proofs.Shifts.{rects_more}
 use Rattle.fx_layout.proofs.rects.rects_of.Goals as goal
 

@@ -10,3 +10,4 @@ pub mod DoneLemmas
 pub mod CostLemmas
 pub mod ChainLaws
 pub mod OnceLemmas
+pub mod IdleLemmas

@@ -41,7 +41,7 @@ pub nothing_needs : (looks : List Look) (rest : List Rest) (key : NodeKey) (list
 nothing_needs looks rest key listed place e none =
     none_needs listed (kept_under looks rest key) (kept_found looks rest key place e ∙ none)
 
-get_there : {X : Type 0} (xs : List X) (i : ℕ) → i < length xs → (x : X) × (slice_get xs i ≡ Some x)
+pub get_there : {X : Type 0} (xs : List X) (i : ℕ) → i < length xs → (x : X) × (slice_get xs i ≡ Some x)
 get_there [] i within = absurd (omega arith)
 get_there (x ∷ xs) zero within = (x, refl)
 get_there (x ∷ xs) (suc i) within = get_there xs i (omega (arith, within))

@@ -1,5 +1,5 @@
 //! The entries that an update makes anew, before anything that is kept is changed.
-ghost use Rattle.std.specs.Prelude.{◌≡◌, ◌++◌, ◌∷◌, ◌+◌, ◌<◌, ◌≤◌, [], ℕ, Option as Maybe, Some, None, true, false, IfOk, IsTrue, OnOk, is_some, length, map, slice_get};
+ghost use Rattle.std.specs.Prelude.{◌≡◌, ◌++◌, ◌∷◌, ◌+◌, ◌<◌, ◌≤◌, [], ℕ, Option as Maybe, Some, None, true, false, IfOk, IsTrue, OnOk, is_some, length, map, slice_get, slice_index_or};
 ghost use Rattle.std.specs.List.{filter_map};
 ghost use Rattle.std.specs.Option.{option_map};
 ghost use Rattle.fx_kinds.specs.declared.facts.StyleFacts.{StyleFacts as Facts};
@@ -247,6 +247,23 @@ fn is_idle(old: Old<'_>, listed: bool, key: NodeKey, at: usize) -> bool
     old.stay && !listed && stands_at(old.rest, key, at)
 }
 
+/// May all nodes keep what they have where they stand, by the marks of those that are listed?
+fn are_idle(old: Old<'_>, marks: &[bool], facts: &[StyleFacts]) -> bool
+    requires long { length marks.now ≡ length facts.now }
+    requires keys { HaveDifferentKeys old.rest.now }
+    ensures { IsTrue result → (at : ℕ) (node : Facts) → slice_get facts.now at ≡ Some node
+        → (slice_index_or marks.now at false ≡ false) × (old.entry.stay ≡ true)
+        × (place_of_key old.entry.rest.now node.key ≡ Some at) }
+{
+    for (at, node) in facts.iter().enumerate() {
+        let listed = marks[at];
+        if !is_idle(old, listed, node.key, at) {
+            return false;
+        }
+    }
+    true
+}
+
 /// The entries that an update makes anew, in the order of their places. Where what is kept may not stay in its places,
 /// every place gets one.
 pub(crate) fn made<L: Ledgers>(
@@ -275,6 +292,9 @@ pub(crate) fn made<L: Ledgers>(
 {
     let facts = scene.facts;
     let marks = marked(alloc, restyle, facts.len())?;
+    if are_idle(old, marks.as_slice(), facts) {
+        return Ok(Vec::new(alloc));
+    }
     let mut fresh = Vec::new(alloc);
     let mut steps = vec![in alloc; None; facts.len()]?;
     let mut guess = 0;

@@ -3,21 +3,23 @@ use Rattle.std.specs.Prelude.{slice_get, is_some, option_and_then}
 use Rattle.std.specs.List.{filter_map}
 use Rattle.std.specs.Option.{option_map}
 use Rattle.std.proofs.lemmas.Bool.{cases_eq}
-use Rattle.std.proofs.lemmas.Option.{slice_get-get_or, slice_get_read}
+use Rattle.std.proofs.lemmas.Option.{slice_get-get_or, slice_get_read, slice_get_within}
 use Rattle.fx_base.specs.declared.work.Work.{Work}
 use Rattle.fx_kinds.specs.declared.facts.StyleFacts.{StyleFacts}
 use Rattle.fx_node_style.specs.declared.node_styles.NodeStyle.{NodeStyle}
 use Rattle.fx_style.specs.declared.kept.Entry.{Entry}
 use Rattle.fx_style.specs.declared.kept.Fresh.{Fresh}
-use Rattle.fx_style.specs.Kept.{entry, fresh_at, is_among, kept_at, kept_under}
+use Rattle.fx_style.specs.Kept.{entry, fresh_at, is_among, kept_at, kept_under, place_of_key}
 use Rattle.fx_style.specs.Places.{parent_at, places_up}
 use Rattle.fx_style.specs.Plans.{AreSteps, made_fresh, put_step}
 use Rattle.fx_style.specs.Rules.{anew, needs, needs_by, renewed_by, ticks, worked}
 use Rattle.fx_style.specs.Turns.{AreRightBelow}
 use Rattle.fx_style.proofs.CostLemmas.{worked_more}
-use Rattle.fx_style.proofs.FreshLemmas.{AreFew, append-none, few_more, fresh-here, fresh-other, long_more, steps_more}
-use Rattle.fx_style.specs.declared.making.Turn.{Turn}
-use Rattle.fx_style.proofs.TurnLemmas.{kept_ticks, stays_here, stays_style}
+use Rattle.fx_style.proofs.FreshLemmas.{AreFew, few_more, fresh-here, fresh-other, long_more, steps_more}
+use Rattle.fx_look.specs.declared.looks.Look.{Look}
+use Rattle.fx_style.specs.declared.kept.Rest.{Rest}
+use Rattle.fx_style.proofs.IdleLemmas.{Idles, all_idle, idle_cost, idle_right}
+use Rattle.fx_style.proofs.TurnLemmas.{get_there}
 use Rattle.fx_style.proofs.UpdateLemmas.{now_of, right_more}
 use Rattle.fx_style.proofs.making.made.Goals as goal
 
@@ -89,7 +91,7 @@ loop-at-preserved g c =
           (c.in_ok-style.ensures.style
           ∙ ap (λ (l : List Fresh). Some (entry node.key (renewed_by c.index-listed.result.now
           (kept_under looks rest node.key) (anew sheets facts at (filter_map (now_of looks rest l) up)))))
-          c.as_slice.ensures.value
+          c.as_slice-in-loop-at.ensures.value
           ∙ ap (λ (b : Bool). Some (entry node.key (renewed_by b (kept_under looks rest node.key)
           (anew sheets facts at (filter_map (now_of looks rest fs) up))))) listed
           ∙ ap (λ (k : Option NodeStyle). Some (entry node.key (renewed_by (is_among restyle at) k
@@ -113,7 +115,6 @@ loop-at-preserved g c =
 
 pub loop-at-preserved-then-is_idle : goal.loop-at-preserved-then-is_idle
 loop-at-preserved-then-is_idle g c =
-    let sheets = c.args.scene.sheets.now in
     let facts = c.args.scene.facts.now in
     let restyle = c.args.restyle.now in
     let looks = c.args.old.looks.now in
@@ -126,37 +127,83 @@ loop-at-preserved-then-is_idle g c =
     let idle = c.is_idle.ensures c.if-is_idle.true in
     let is : slice_get facts at ≡ Some node =
     slice_get_read facts (length facts) at node refl c.loop-at-test.true c.index-facts-at.is in
-    let none : fresh_at fs at ≡ None = inv.low at (omega arith) in
     let listed : c.index-listed.result.now ≡ is_among restyle at =
     c.index-listed.ensures
     ∙ any_default c.in_ok-marks.marks.items at c.index-listed.result.now false
     (subst (λ (n : ℕ). at < n) (sym c.in_ok-marks.ensures.long) c.loop-at-test.true)
     ∙ c.in_ok-marks.ensures.marks at c.loop-at-test.true in
-    let off : is_among restyle at ≡ false = sym listed ∙ idle.0 in
-    let under : kept_under looks rest node.key ≡ kept at =
-    ap (option_and_then (λ (n : StyleFacts). kept_under looks rest n.key)) (sym is) in
-    let turn : Turn = record { at = at; key = node.key; listed = false; stay = true; place = None } in
     let long = c.requires.stay idle.1 in
-    let stays = stays_here looks rest turn refl refl idle.2
-    (subst (λ (n : ℕ). at < n) (sym long.0) c.loop-at-test.true)
-    (subst (λ (n : ℕ). at < n) (sym long.1) c.loop-at-test.true) in
-    let made = anew sheets facts at (filter_map (now_of looks rest fs) (places_up facts (parent_at facts at))) in
-    let none_worked : ticks (needs restyle kept at) ≡ 0 =
-    ap (λ (o : Option NodeStyle). ticks (needs_by (is_among restyle at) o)) (sym under)
-    ∙ kept_ticks (is_among restyle at) (kept_under looks rest node.key) stays.style off stays.kept in
-    let more : worked (needs restyle kept) at + ticks (needs restyle kept at) ≡ worked (needs restyle kept) (at + 1) =
-    worked_more (needs restyle kept) at (at + 1) refl in
-    let same : worked (needs restyle kept) at ≡ worked (needs restyle kept) (at + 1) = omega (arith, more, none_worked) in
+    let idles : Idles restyle looks rest node at = record {
+      unlisted = sym listed ∙ idle.0;
+      place = idle.2;
+      in_looks = subst (λ (n : ℕ). at < n) (sym long.0) c.loop-at-test.true;
+      in_rest = subst (λ (n : ℕ). at < n) (sym long.1) c.loop-at-test.true;
+    } in
     record {
       long = inv.long;
       steps = inv.steps;
       few = inv.few;
       low = λ k past. inv.low k (omega (arith, past));
-      right = subst (λ (l : List Fresh). AreRightBelow sheets facts restyle kept looks rest l (at + 1)) (append-none fs)
-          (right_more sheets facts restyle kept looks rest fs at node None c.requires.before is none inv.right
-          (stays_style looks rest turn made stays
-          ∙ ap (λ (b : Bool). Some (entry node.key (renewed_by b (kept_under looks rest node.key) made))) (sym off)
-          ∙ ap (λ (o : Option NodeStyle). Some (entry node.key (renewed_by (is_among restyle at) o made))) under));
+      right = idle_right c.args.scene.sheets.now facts restyle looks rest fs at node c.requires.before is
+          (inv.low at (omega arith)) idles inv.right;
       all = λ must k below. absurd (let h : true ≡ false = sym idle.1 ∙ must in cc);
-      cost = inv.cost ∙ ap (λ (n : ℕ). record c.args.work.now { styled = c.args.work.now.styled + n }) same;
+      cost = inv.cost
+          ∙ ap (λ (n : ℕ). record c.args.work.now { styled = c.args.work.now.styled + n })
+          (idle_cost facts restyle looks rest at (at + 1) node is idles refl);
     }
+
+-- what all nodes being idle says of one
+one_idles : (restyle : List ℕ) (looks : List Look) (rest : List Rest) (facts : List StyleFacts) (marks : List Bool)
+    (stay : Bool) → ((at : ℕ) → at < length facts → get_or marks at false ≡ is_among restyle at)
+    → (stay ≡ true → (length looks ≡ length facts) × (length rest ≡ length facts))
+    → ((at : ℕ) (node : StyleFacts) → slice_get facts at ≡ Some node
+    → (get_or marks at false ≡ false) × (stay ≡ true) × (place_of_key rest node.key ≡ Some at))
+    → (at : ℕ) (node : StyleFacts) → slice_get facts at ≡ Some node → Idles restyle looks rest node at
+one_idles restyle looks rest facts marks stay marked long idle at node is =
+    let i = idle at node is in
+    let within : at < length facts = slice_get_within facts at node is in
+    let l = long i.1 in
+    record {
+      unlisted = sym (marked at within) ∙ i.0;
+      place = i.2;
+      in_looks = subst (λ (n : ℕ). at < n) (sym l.0) within;
+      in_rest = subst (λ (n : ℕ). at < n) (sym l.1) within;
+    }
+
+pub returns-then-are_idle-clause-right : goal.returns-then-are_idle-clause-right
+returns-then-are_idle-clause-right g c =
+    let sheets = c.args.scene.sheets.now in
+    let facts = c.args.scene.facts.now in
+    let restyle = c.args.restyle.now in
+    let looks = c.args.old.looks.now in
+    let rest = c.args.old.rest.now in
+    let idles = one_idles restyle looks rest facts c.as_slice.result.now c.args.old.stay
+    (λ at within. ap (λ (l : List Bool). get_or l at false) c.as_slice.ensures.value
+    ∙ c.in_ok-marks.ensures.marks at within) c.requires.stay (c.are_idle.ensures c.if-are_idle.true) in
+    subst (λ (l : List Fresh). AreRightBelow sheets facts restyle (kept_at looks rest facts) looks rest l (length facts))
+    (sym c.new.ensures.items)
+    (all_idle sheets facts restyle looks rest c.requires.before idles (length facts) (omega arith)).0
+
+pub returns-then-are_idle-clause-all : goal.returns-then-are_idle-clause-all
+returns-then-are_idle-clause-all g c = λ must at within.
+    let facts = c.args.scene.facts.now in
+    let there = get_there facts at within in
+    absurd (let h : true ≡ false =
+    sym (c.are_idle.ensures c.if-are_idle.true at there.0 there.1).1 ∙ must in cc)
+
+pub returns-then-are_idle-clause-cost : goal.returns-then-are_idle-clause-cost
+returns-then-are_idle-clause-cost g c =
+    let sheets = c.args.scene.sheets.now in
+    let facts = c.args.scene.facts.now in
+    let restyle = c.args.restyle.now in
+    let looks = c.args.old.looks.now in
+    let rest = c.args.old.rest.now in
+    let idles = one_idles restyle looks rest facts c.as_slice.result.now c.args.old.stay
+    (λ at within. ap (λ (l : List Bool). get_or l at false) c.as_slice.ensures.value
+    ∙ c.in_ok-marks.ensures.marks at within) c.requires.stay (c.are_idle.ensures c.if-are_idle.true) in
+    let none : worked (needs restyle (kept_at looks rest facts)) (length facts) ≡ 0 =
+    (all_idle sheets facts restyle looks rest c.requires.before idles (length facts) (omega arith)).1 in
+    let same : c.args.work.now.styled
+    ≡ c.args.work.now.styled + worked (needs restyle (kept_at looks rest facts)) (length facts) =
+    omega (arith, none) in
+    ap (λ (n : ℕ). record c.args.work.now { styled = n }) same

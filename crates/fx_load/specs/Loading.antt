@@ -1,5 +1,5 @@
 -- Loading: the files of a run, in the order of work, and the first fault.
-use Rattle.std.specs.Prelude.{ℕ, ◌&&◌, List, Option, Some, None, Result, Ok, Err, length, map, take, nat_le, if◌then◌else◌}
+use Rattle.std.specs.Prelude.{ℕ, ◌&&◌, List, [], ◌∷◌, Option, Some, None, Result, Ok, Err, length, map, take, nat_le, if◌then◌else◌}
 use Rattle.std.specs.Char.{is_ascii}
 use Rattle.std.specs.List.{list_all}
 use Rattle.std.specs.Str.Lines.{lines}
@@ -18,6 +18,7 @@ use Rattle.fx_world.specs.declared.nodes.Node.{Node}
 pub record Run : Type 0 where
   pub scene : List ℕ
   pub script : List ℕ
+  pub sheets : List (List ℕ)
 
 -- the most bytes of a file
 abbrev pub file_limit : ℕ
@@ -72,14 +73,19 @@ abbrev pub loaded_with_scene : List ℕ → List Line → Result (List ℕ) Faul
 loaded_with_scene scene lines (Err fault) = Err fault
 loaded_with_scene scene lines (Ok bytes) = loaded_with_nodes lines (nodes_of_scene scene bytes)
 
+-- no sheet is read yet: the first one is refused before it is fetched
+abbrev pub loaded_with_sheets : Run → Files → List Line → List (List ℕ) → Result Loaded Fault
+loaded_with_sheets run files lines [] = loaded_with_scene run.scene lines (bytes_of files run.scene)
+loaded_with_sheets run files lines (sheet ∷ sheets) = Err (whole_fault NotBuilt sheet)
+
 abbrev pub loaded_with_lines : Run → Files → Result (List Line) Fault → Result Loaded Fault
 loaded_with_lines run files (Err fault) = Err fault
-loaded_with_lines run files (Ok lines) = loaded_with_scene run.scene lines (bytes_of files run.scene)
+loaded_with_lines run files (Ok lines) = loaded_with_sheets run files lines run.sheets
 
 abbrev pub loaded_with_script : Run → Files → Result (List ℕ) Fault → Result Loaded Fault
 loaded_with_script run files (Err fault) = Err fault
 loaded_with_script run files (Ok bytes) = loaded_with_lines run files (script_of run.script bytes)
 
--- the script is fetched and read first, then the scene
+-- the script is fetched and read first, then the sheets in their order, then the scene
 abbrev pub elaborate : Run → Files → Result Loaded Fault
 elaborate run files = loaded_with_script run files (bytes_of files run.script)

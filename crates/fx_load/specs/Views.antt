@@ -5,7 +5,7 @@ use Rattle.fx_load.specs.declared.files.FileFault.{FileFault}
 use Rattle.fx_load.specs.declared.files.Run.{Run}
 
 abbrev pub run_of : Run → PlainRun
-run_of run = record { scene = run.scene.now; script = run.script.now }
+run_of run = record { scene = run.scene.now; script = run.script.now; sheets = run.sheets.now }
 
 abbrev pub fault_of : FileFault → Fault
 fault_of fault = record { kind = fault.kind; file = fault.file.now; position = fault.position }

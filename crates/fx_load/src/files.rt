@@ -8,7 +8,7 @@ ghost use Rattle.fx_load.specs.Says.{LoadSays};
 ghost use Rattle.fx_load.specs.Views.{fault_of};
 ghost use Rattle.fx_load.specs.declared.files.LoadError.TheVariants.{Failed};
 
-use fx_base::Position;
+use fx_base::{Position, Str};
 use fx_port::{FetchError, Fetched, Shelf};
 use std::alloc::{AllocError, Global};
 
@@ -20,6 +20,7 @@ pub const FILE_LIMIT: usize = 4_194_304;
 pub struct Run<'a> {
     pub scene: &'a str,
     pub script: &'a str,
+    pub sheets: &'a [Str],
 }
 
 /// Why a file is refused.

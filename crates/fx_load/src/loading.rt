@@ -1,4 +1,4 @@
-//! Loading a run: the script first, and then the scene.
+//! Loading a run: the script first, then the sheets, and then the scene.
 ghost use Rattle.std.specs.Prelude.{◌≡◌, ◌≤◌, Err, IfOk, Some, Vec, length, vec_len};
 ghost use Rattle.std.specs.Global.{Global};
 ghost use Rattle.fx_doc.specs.Judgements.{Tells};
@@ -45,6 +45,9 @@ pub fn load<'a, F: Shelf>(
 {
     let script = read_file(alloc, shelf, run.script)?;
     let lines = read_script(alloc, run.script, script.as_slice())?;
+    if let Some(sheet) = run.sheets.first() {
+        return Err(LoadError::Fault(FileFault::whole(FaultKind::NotBuilt, sheet.as_str())));
+    }
     let scene = read_file(alloc, shelf, run.scene)?;
     let nodes = read_scene(alloc, run.scene, scene.as_slice())?;
     Ok(Loaded { nodes, lines })

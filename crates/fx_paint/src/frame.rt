@@ -1,34 +1,34 @@
-//! Writing a frame in text form, row by row from one buffer.
+//! Writing a frame, row by row from one buffer.
 ghost use Rattle.std.specs.Prelude.{◌≡◌, ◌<◌, ◌++◌, ◌∷◌, IfOk, OnOk, false, map, length};
 ghost use Rattle.std.specs.Fmt.{digit_glyph};
 ghost use Rattle.std.specs.List.{flat_map, join_with_byte, range_with_len};
-ghost use Rattle.fx_paint.specs.Frame.{frame_header, frame_text, image, pixel_text, row_text};
+ghost use Rattle.fx_paint.specs.Frame.{frame_header, frame_text, image, pixel_bytes, pixel_text, ppm_header, row_in, row_text, rows_in};
 ghost use Rattle.fx_paint.specs.Picture.{pixel, shapes_of};
 ghost use Rattle.fx_paint.specs.Runs.{IsRun};
 ghost use Rattle.fx_port.specs.Causes.{HasCause};
 ghost use Rattle.fx_port.specs.Pieces.{Writes};
 ghost use Rattle.fx_port.specs.declared.pieces.PutError.TheVariants.{Failed};
 
+use crate::forms::{Form, Frame};
 use crate::painting::paint_row;
 use fx_port::{PutError, Sink};
 use fx_world::{Node, Size};
 use std::alloc::{AllocError, Global};
 
-/// Writes the frame with this number: its header, and each row of the picture of these nodes.
+/// Writes the frame: its header, and the image of the picture of these nodes in the frame's form.
 pub fn put_frame<O: Sink>(
     alloc: Global,
-    number: u64,
-    size: Size,
+    frame: Frame,
     nodes: &[Node],
     out: &mut O,
 ) -> Result<(), PutError>
     ensures cause { HasCause Failed (O.faults out.old) (O.faults out.new) result }
     ensures writes { Writes (O.written out.old) (O.written out.new) result
-        (frame_text number size (pixel (shapes_of nodes.now))) }
+        (frame_text frame (pixel (shapes_of nodes.now))) }
 {
-    let header = header_text(alloc, number, size)?;
+    let header = header_text(alloc, frame.number, frame.size)?;
     out.put(header.as_slice())?;
-    put_rows(alloc, size, nodes, out)
+    put_image(alloc, frame, nodes, out)
 }
 
 #[tactic(auto, unfolding(crate::specs::Frame::frame_header))]
@@ -41,40 +41,116 @@ fn header_text(alloc: Global, number: u64, size: Size) -> Result<Vec<u8>, AllocE
     )?.into_bytes())
 }
 
-fn put_rows<O: Sink>(alloc: Global, size: Size, nodes: &[Node], out: &mut O) -> Result<(), PutError>
+fn put_image<O: Sink>(
+    alloc: Global,
+    frame: Frame,
+    nodes: &[Node],
+    out: &mut O,
+) -> Result<(), PutError>
     ensures cause { HasCause Failed (O.faults out.old) (O.faults out.new) result }
-    ensures writes { Writes (O.written out.old) (O.written out.new) result (image (pixel (shapes_of nodes.now)) size) }
+    ensures writes { Writes (O.written out.old) (O.written out.new) result
+        (image frame.form (pixel (shapes_of nodes.now)) frame.size) }
 {
-    let mut row = vec![in alloc; 0u32; size.width as usize]?;
+    match frame.form {
+        Form::Text => put_rows(alloc, frame, nodes, out),
+        Form::Ppm => put_pixmap(alloc, frame, nodes, out),
+        Form::Nothing => Ok(()),
+    }
+}
+
+fn put_pixmap<O: Sink>(
+    alloc: Global,
+    frame: Frame,
+    nodes: &[Node],
+    out: &mut O,
+) -> Result<(), PutError>
+    ensures cause { HasCause Failed (O.faults out.old) (O.faults out.new) result }
+    ensures writes { Writes (O.written out.old) (O.written out.new) result
+        (ppm_header frame.size ++ rows_in frame.form (pixel (shapes_of nodes.now)) frame.size) }
+{
+    let header = pixmap_header(alloc, frame.size)?;
+    out.put(header.as_slice())?;
+    put_rows(alloc, frame, nodes, out)
+}
+
+#[tactic(auto, unfolding(crate::specs::Frame::ppm_header))]
+fn pixmap_header(alloc: Global, size: Size) -> Result<Vec<u8>, AllocError>
+    ensures { IfOk result (λ text. text.items ≡ ppm_header size) }
+{
+    let Size { width, height } = size;
+    Ok(format!(in alloc; "P6\n{width} {height}\n255\n")?.into_bytes())
+}
+
+fn put_rows<O: Sink>(
+    alloc: Global,
+    frame: Frame,
+    nodes: &[Node],
+    out: &mut O,
+) -> Result<(), PutError>
+    ensures cause { HasCause Failed (O.faults out.old) (O.faults out.new) result }
+    ensures writes { Writes (O.written out.old) (O.written out.new) result
+        (rows_in frame.form (pixel (shapes_of nodes.now)) frame.size) }
+{
+    let mut row = vec![in alloc; 0u32; frame.size.width as usize]?;
     let mut text = Vec::new(alloc);
-    for y in 0..size.height {
-        print_painted(&mut text, row.as_mut_slice(), y, nodes)?;
+    for y in 0..frame.size.height {
+        print_painted(frame.form, &mut text, row.as_mut_slice(), y, nodes)?;
         out.put(text.as_slice())?;
     }
     Ok(())
 }
 
 fn print_painted(
+    form: Form,
     text: &mut Vec<u8>,
     row: &mut [u32],
     y: u32,
     nodes: &[Node],
 ) -> Result<(), AllocError>
     ensures { OnOk result (text.new.items ≡
-        row_text (map (λ x. pixel (shapes_of nodes.now) x y) (range_with_len 0 (length row.old)))) }
+        row_in form (map (λ x. pixel (shapes_of nodes.now) x y) (range_with_len 0 (length row.old)))) }
 {
     paint_row(row, y, nodes);
-    print_row(text, row)
+    print_row(form, text, row)
+}
+
+fn print_row(form: Form, text: &mut Vec<u8>, row: &[u32]) -> Result<(), AllocError>
+    ensures { OnOk result (text.new.items ≡ row_in form row.now) }
+{
+    text.clear();
+    match form {
+        Form::Text => print_line(text, row),
+        Form::Ppm => print_bytes(text, row),
+        Form::Nothing => Ok(()),
+    }
 }
 
 #[tactic(auto, unfolding(crate::specs::Frame::row_text))]
-fn print_row(text: &mut Vec<u8>, row: &[u32]) -> Result<(), AllocError>
-    ensures { OnOk result (text.new.items ≡ row_text row.now) }
+fn print_line(text: &mut Vec<u8>, row: &[u32]) -> Result<(), AllocError>
+    ensures { OnOk result (text.new.items ≡ text.old.items ++ row_text row.now) }
 {
-    text.clear();
     print_pixels(text, row)?;
     text.push(b'\n')?;
     Ok(())
+}
+
+fn print_bytes(text: &mut Vec<u8>, row: &[u32]) -> Result<(), AllocError>
+    ensures { OnOk result (text.new.items ≡ text.old.items ++ flat_map pixel_bytes row.now) }
+{
+    for pixel in row {
+        text.extend_from_slice(&pixel_bytes(*pixel))?;
+    }
+    Ok(())
+}
+
+fn pixel_bytes(pixel: u32) -> [u8; 3]
+    ensures { result ≡ pixel_bytes pixel }
+{
+    [
+        (pixel / 65536 % 256) as u8,
+        (pixel / 256 % 256) as u8,
+        (pixel % 256) as u8,
+    ]
 }
 
 fn print_pixels(text: &mut Vec<u8>, row: &[u32]) -> Result<(), AllocError>

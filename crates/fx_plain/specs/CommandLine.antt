@@ -1,29 +1,60 @@
--- The command line: what the words after the program's name ask for.
-use Rattle.std.specs.Prelude.{ℕ, Bool, List, [], ◌∷◌, ◌||◌, Option, Some, None, codes, nat_eq, if◌then◌else◌}
-use Rattle.std.specs.List.{starts_with}
+-- What is played for the run that the words ask for.
+use Rattle.std.specs.Prelude.{ℕ, List, Option, Some, None, codes}
+use Rattle.std.specs.Option.{option_map}
+use Rattle.fx_load.specs.Faults.{Fault, whole_fault}
 use Rattle.fx_load.specs.Loading.{Run}
+use Rattle.fx_load.specs.declared.files.FaultKind.TheVariants as kind
+use Rattle.fx_paint.specs.declared.forms.Form.{Form}
+use Rattle.fx_paint.specs.declared.forms.Form.TheVariants as form
+use Rattle.fx_plain.specs.declared.manners.Manner.{Manner}
+use Rattle.fx_words.specs.declared.runs.Frames.{Frames}
+use Rattle.fx_words.specs.declared.runs.Frames.TheVariants as frames
+use Rattle.fx_words.specs.declared.runs.Run.{Run as Asked}
+use Rattle.fx_words.specs.declared.runs.Size.{Size as AskedSize}
+use Rattle.fx_words.specs.declared.runs.Source.{Source}
+use Rattle.fx_words.specs.declared.runs.Source.TheVariants as source
+use Rattle.fx_world.specs.declared.nodes.Size.{Size}
 
+-- a run over files is played in some manner, or something of it isn't built
 pub data Plan : Type 0 where
-  OfFiles : Run → Plan
+  Plays : Run → Manner → Plan
+  Refuses : Fault → Plan
 
-abbrev pub is_option : List ℕ → Bool
-is_option word = starts_with nat_eq word (codes "-")
+abbrev pub size_of : AskedSize → Size
+size_of size = record { width = size.width; height = size.height }
 
-abbrev pub is_demo : List ℕ → Bool
-is_demo word = starts_with nat_eq word (codes "demo:")
+-- the forms that are built
+abbrev pub form_of : Frames → Option Form
+form_of frames.Text = Some form.Text
+form_of frames.Ppm = Some form.Ppm
+form_of frames.Nothing = Some form.Nothing
+form_of frames.Delta = None
 
-abbrev pub plan_of : List ℕ → List ℕ → Option Plan
-plan_of scene script =
-    if is_option scene || (is_demo scene || is_option script) then None
-    else Some (OfFiles (record { scene = scene; script = script }))
+-- the files of a run; demos are not built
+abbrev pub files_of : Source → Option Run
+files_of (source.Demo number) = None
+files_of (source.Files scene script sheets) = Some (record { scene = scene; script = script; sheets = sheets })
 
--- two words, of which none is an option and the first names no demo
-abbrev pub accept : List (List ℕ) → Option Plan
-accept [] = None
-accept (scene ∷ []) = None
-accept (scene ∷ (script ∷ [])) = plan_of scene script
-accept (scene ∷ (script ∷ (word ∷ words))) = None
+-- the name of the scene; a demo makes its own
+abbrev pub scene_name : Source → List ℕ
+scene_name (source.Demo number) = codes "demo.fxml"
+scene_name (source.Files scene script sheets) = scene
+
+abbrev pub manner_of : Asked → Form → Manner
+manner_of run form = record { window = option_map size_of run.size; form = form; summary = run.summary }
+
+-- what isn't built is told at the scene, before any file is fetched
+abbrev pub not_built : Source → Plan
+not_built source = Refuses (whole_fault kind.NotBuilt (scene_name source))
+
+abbrev pub plan_with : Asked → Option Run → Option Form → Plan
+plan_with run None form = not_built run.source
+plan_with run (Some files) None = not_built run.source
+plan_with run (Some files) (Some form) = Plays files (manner_of run form)
+
+abbrev pub plan_of : Asked → Plan
+plan_of run = plan_with run (files_of run.source) (form_of run.frames)
 
 unfoldable pub usage_line : List ℕ
 usage_line =
-    codes "usage: fxplay SCENE SCRIPT [SHEET..] [--size WxH] [--frames text|ppm|none] [--summary]\n"
+    codes "usage: fxplay SCENE SCRIPT [SHEET..] [--size WxH] [--frames text|ppm|none|delta] [--summary]\n"

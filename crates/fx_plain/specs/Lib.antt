@@ -1,3 +1,4 @@
 pub mod CommandLine
 pub mod PlainPlayer
 pub mod Playing
+pub mod Summary

@@ -11,6 +11,7 @@ use Rattle.fx_world.specs.declared.nodes.Node.{Node}
 use Rattle.fx_world.specs.declared.refusals.Refusal.{Refusal}
 use Rattle.fx_world.specs.declared.refusals.Refusal.TheVariants as refusal
 use Rattle.fx_paint.specs.Frame.{frame_text}
+use Rattle.fx_paint.specs.declared.forms.Form.{Form}
 use Rattle.fx_paint.specs.Picture.{pixel, shapes_of}
 
 abbrev pub refusal_word : Refusal → List ℕ
@@ -39,19 +40,21 @@ set_text number None = refused_line number refusal.Unknown
 set_text number (Some place) = []
 
 -- the frame of the present nodes, painted from scratch
-abbrev pub frame_of : World → List ℕ
-frame_of world = frame_text (world.frames + 1) (window_of world) (pixel (shapes_of world.nodes))
+abbrev pub frame_of : World → Form → List ℕ
+frame_of world form =
+    frame_text (record { number = world.frames + 1; size = window_of world; form = form })
+    (pixel (shapes_of world.nodes))
 
 -- what the line with this number prints
-unfoldable pub written_by : World → ℕ → Line → List ℕ
-written_by world number Skip = []
-written_by world number (Set target value) = set_text number (place_of world.nodes target.node)
-written_by world number (Get target) = read_text number target (node_named world.nodes target.node)
-written_by world number Pulse = frame_of world
-written_by world number NotBuilt = refused_line number refusal.NotBuilt
+unfoldable pub written_by : World → Form → ℕ → Line → List ℕ
+written_by world form number Skip = []
+written_by world form number (Set target value) = set_text number (place_of world.nodes target.node)
+written_by world form number (Get target) = read_text number target (node_named world.nodes target.node)
+written_by world form number Pulse = frame_of world form
+written_by world form number NotBuilt = refused_line number refusal.NotBuilt
 
 -- all lines from this number on
-abbrev pub written_by_all : World → ℕ → List Line → List ℕ
-written_by_all world number [] = []
-written_by_all world number (line ∷ lines) =
-    written_by world number line ++ written_by_all (world_after world line) (number + 1) lines
+abbrev pub written_by_all : World → Form → ℕ → List Line → List ℕ
+written_by_all world form number [] = []
+written_by_all world form number (line ∷ lines) =
+    written_by world form number line ++ written_by_all (world_after world line) form (number + 1) lines

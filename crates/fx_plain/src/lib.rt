@@ -4,6 +4,8 @@
 
 mod answers;
 mod laws;
+mod manners;
 
 pub use answers::Status;
 pub use laws::refused_lines_change_nothing;
+pub use manners::Manner;

@@ -1,3 +1,4 @@
 pub mod Ends
-pub mod Words
+pub mod Plans
+pub mod Totals
 pub mod Worlds

@@ -63,7 +63,7 @@ fn played<L: Ledgers>(
 fn plays_worked_runs(rt: HostRuntime) -> Result<(), Fail> {
     let alloc = rt.alloc();
     let files: &[&str] = &["s.fxml", "s.txt"];
-    let rows: [(&[&str], &[u8], &str, &[u64], &[(u64, usize)], Status, &str); 10] = [
+    let rows: [(&[&str], &[u8], &str, &[u64], &[(u64, usize)], Status, &str); 13] = [
         (
             files,
             SCENE,
@@ -81,7 +81,7 @@ fn plays_worked_runs(rt: HostRuntime) -> Result<(), Fail> {
             &[],
             &[],
             Status::Usage,
-            "usage: fxplay SCENE SCRIPT [SHEET..] [--size WxH] [--frames text|ppm|none] [--summary]\n",
+            "usage: fxplay SCENE SCRIPT [SHEET..] [--size WxH] [--frames text|ppm|none|delta] [--summary]\n",
         ),
         (
             files,
@@ -95,6 +95,34 @@ fn plays_worked_runs(rt: HostRuntime) -> Result<(), Fail> {
         (files, SCENE, "pulse", &[1], &[], Status::ReadFault, ""),
         // A third fetch would fail: the script and the scene are fetched once.
         (files, SCENE, "", &[3], &[], Status::Done, ""),
+        (
+            &["s.fxml", "s.txt", "--size", "1x1", "--summary"],
+            SCENE,
+            "pulse\npulse\n",
+            &[],
+            &[],
+            Status::Done,
+            "summary 2 2 0 33554430\n",
+        ),
+        (
+            &["s.fxml", "s.txt", "--frames=none"],
+            SCENE,
+            "pulse",
+            &[],
+            &[],
+            Status::Done,
+            "frame 1 4 2 damage 1\n0 0 4 2\n",
+        ),
+        // The demo's files aren't fetched.
+        (
+            &["demo:1"],
+            SCENE,
+            "",
+            &[1],
+            &[],
+            Status::Refused,
+            "fault notbuilt demo.fxml 0 0\n",
+        ),
         (
             files,
             b"<Pane/>",

@@ -1,6 +1,6 @@
 //! The top call.
 ghost use Rattle.std.specs.Prelude.{◌≡◌, ◌⊎◌, IfOk, IsSome, None};
-ghost use Rattle.fx_plain.specs.CommandLine.{accept, usage_line};
+ghost use Rattle.fx_plain.specs.CommandLine.{usage_line};
 ghost use Rattle.fx_load.specs.Faults.{fault_line, kind_word};
 ghost use Rattle.fx_plain.specs.PlainPlayer.{Answers, IsAnswer, IsOver, output};
 ghost use Rattle.fx_plain.specs.declared.answers.Status.TheVariants as status;
@@ -10,20 +10,19 @@ ghost use Rattle.fx_port.specs.Pieces.{GrewByPrefix, Writes};
 ghost use Rattle.fx_port.specs.declared.pieces.PutError.TheVariants.{Failed};
 ghost use Rattle.fx_play.specs.Ends.{ended_as};
 ghost use Rattle.fx_load.specs.Views.{fault_of};
-ghost use Rattle.fx_play.specs.Words.{texts};
+ghost use Rattle.fx_words.specs.Reading.{accept, texts};
 
-use crate::player::{Player, put_lines};
-use crate::words::read_words;
+use crate::plans::{Plan, plan_of};
+use crate::writing::put_played;
 use fx_base::{Ledgers, Position, Work};
 use fx_load::{FaultKind, FileFault, LoadError, load};
 use fx_plain::Status;
 use fx_port::{PutError, Shelf, Sink};
+use fx_words::{USAGE, accept};
 use std::alloc::{AllocError, Global};
 
-const USAGE: &str =
-    "usage: fxplay SCENE SCRIPT [SHEET..] [--size WxH] [--frames text|ppm|none] [--summary]\n";
-
-/// Plays a script on a scene: reads both files from the shelf, and writes frames, values and refusals to the sink.
+/// Plays a script on a scene: reads both files from the shelf, and writes frames, values and refusals to the sink, or
+/// their summary.
 /// What is written is the plain player's output, for all words and all files that the shelf tells; only a counted
 /// failure of the shelf or the sink, or want of memory, ends it earlier, after a part of that output.
 pub fn play<F: Shelf, O: Sink, L: Ledgers>(
@@ -58,10 +57,16 @@ pub fn play<F: Shelf, O: Sink, L: Ledgers>(
     ensures counted { work.new ≡ work.old }
 {
     let _work = work;
-    let Some(run) = read_words(words) else {
-        return ended(put_usage(out), Status::Usage);
+    let run = match accept(alloc, words) {
+        Ok(Some(run)) => run,
+        Ok(None) => return ended(put_usage(out), Status::Usage),
+        Err(_) => return Status::NoMemory,
     };
-    let loaded = match load(alloc, &run, shelf) {
+    let (files, manner) = match plan_of(&run) {
+        Plan::Plays(files, manner) => (files, manner),
+        Plan::Refuses(fault) => return ended(put_fault(alloc, &fault, out), Status::Refused),
+    };
+    let loaded = match load(alloc, &files, shelf) {
         Ok(loaded) => loaded,
         Err(LoadError::Fault(fault)) => {
             return ended(put_fault(alloc, &fault, out), Status::Refused);
@@ -69,11 +74,7 @@ pub fn play<F: Shelf, O: Sink, L: Ledgers>(
         Err(LoadError::Failed) => return Status::ReadFault,
         Err(LoadError::Memory) => return Status::NoMemory,
     };
-    let player = Player::new(loaded.nodes);
-    ended(
-        put_lines(alloc, player, loaded.lines.as_slice(), out),
-        Status::Done,
-    )
+    ended(put_played(alloc, manner, loaded, out), Status::Done)
 }
 
 /// How a run ends that wrote so: as it should, or as the writing failed.

@@ -11,15 +11,16 @@ use Rattle.fx_script.specs.declared.commands.Target.{Target}
 use Rattle.fx_world.specs.declared.nodes.Node.{Node}
 use Rattle.fx_world.specs.declared.nodes.Size.{Size}
 
--- the nodes in document order, the root first; the window, from the first frame on; how many frames were written
+-- the nodes in document order, the root first; the window, if the run has one or a frame was written; how many frames
+-- were written
 pub record World : Type 0 where
   pub nodes : List Node
   pub window : Option Size
   pub frames : ℕ
 
--- before the first line no frame was written
-abbrev pub first_world : List Node → World
-first_world nodes = record { nodes = nodes; window = None; frames = 0 }
+-- before the first line no frame was written; there is a window where the run has one
+abbrev pub first_world : Option Size → List Node → World
+first_world window nodes = record { nodes = nodes; window = window; frames = 0 }
 
 abbrev pub is_named : List ℕ → Node → Bool
 is_named name node = option_map_or (λ own. bytes_eq own name) node.name false
@@ -71,7 +72,7 @@ abbrev pub window_or : Option Size → Size → Size
 window_or None size = size
 window_or (Some size) other = size
 
--- the window of the frames: that of the first, or before it the root's preferred size
+-- the window of the frames: that which is there, or else the root's preferred size
 abbrev pub window_of : World → Size
 window_of world = window_or world.window (window_for world.nodes)
 

@@ -1,13 +1,12 @@
 //! One run with counters of its own.
 //! The counters are made here, so that no caller has to know of them.
 ghost use Rattle.std.specs.Prelude.{◌≡◌, ◌⊎◌, IsSome, None};
-ghost use Rattle.fx_plain.specs.CommandLine.{accept};
 ghost use Rattle.fx_plain.specs.PlainPlayer.{Answers, IsAnswer, IsOver, output};
 ghost use Rattle.fx_plain.specs.declared.answers.Status.TheVariants as status;
 ghost use Rattle.fx_port.specs.Causes.{Rose};
 ghost use Rattle.fx_port.specs.Files.{Files};
 ghost use Rattle.fx_port.specs.Pieces.{GrewByPrefix};
-ghost use Rattle.fx_play.specs.Words.{texts};
+ghost use Rattle.fx_words.specs.Reading.{accept, texts};
 
 use fx_base::{Ledgers, Work};
 use fx_play::{Status, play};

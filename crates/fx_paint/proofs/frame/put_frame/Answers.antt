@@ -1,4 +1,4 @@
--- the header, and then the rows
+-- the header, and then the image
 use Rattle.std.proofs.Common.{◌∙◌, ap}
 use Rattle.fx_paint.specs.Frame.{frame_header, image}
 use Rattle.fx_paint.specs.Picture.{pixel, shapes_of}
@@ -8,6 +8,6 @@ use Rattle.fx_paint.proofs.frame.put_frame.Goals as goal
 
 pub returns-clause-writes : goal.returns-clause-writes
 returns-clause-writes g c =
-    writes_behind c.put_rows.result (frame_header c.args.number c.args.size) (image (pixel (shapes_of c.args.nodes.now)) c.args.size)
+    writes_behind c.put_image.result (frame_header c.args.frame.number c.args.frame.size) (image c.args.frame.form (pixel (shapes_of c.args.nodes.now)) c.args.frame.size)
     (c.in_ok-put.ensures.writes.ok ∙ ap (grown (g.O.Sink.written c.args.out.now)) (c.as_slice.ensures.value ∙ c.in_ok-header.ensures))
-    c.put_rows.ensures.writes
+    c.put_image.ensures.writes

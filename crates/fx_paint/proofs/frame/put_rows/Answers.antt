@@ -13,13 +13,13 @@ pub returns-in_err-put-clause-writes : goal.returns-in_err-put-clause-writes
 returns-in_err-put-clause-writes g c =
     let picture = pixel (shapes_of c.args.nodes.now) in
     Writes-at_err _ c.from_residual-in_err-put.result c.from_residual-in_err-put.ensures.1
-    (stops_within (rows_from picture c.args.size (c.loop-y.y + 1)) c.loop-y.invariant.written (row_next picture c.args.size c.loop-y.y (length c.as_mut_slice.result.now) c.as_slice.result.now c.loop-y-test.true (c.as_mut_slice.ensures.len ∙ c.loop-y.invariant.wide) (c.as_slice.ensures.value ∙ c.in_ok-print_painted.ensures)) c.in_err-put.ensures.writes.err)
+    (stops_within (rows_from c.args.frame.form picture c.args.frame.size (c.loop-y.y + 1)) c.loop-y.invariant.written (row_next c.args.frame.form picture c.args.frame.size c.loop-y.y (length c.as_mut_slice.result.now) c.as_slice.result.now c.loop-y-test.true (c.as_mut_slice.ensures.len ∙ c.loop-y.invariant.wide) (c.as_slice.ensures.value ∙ c.in_ok-print_painted.ensures)) c.in_err-put.ensures.writes.err)
 
 pub loop-y-preserved : goal.loop-y-preserved
 loop-y-preserved g c =
     let picture = pixel (shapes_of c.args.nodes.now) in
     record {
       later = omega (arith, c.in_ok-put.ensures.cause.later);
-      written = goes_on c.as_slice.result.now (rows_from picture c.args.size (c.loop-y.y + 1)) c.loop-y.invariant.written (row_next picture c.args.size c.loop-y.y (length c.as_mut_slice.result.now) c.as_slice.result.now c.loop-y-test.true (c.as_mut_slice.ensures.len ∙ c.loop-y.invariant.wide) (c.as_slice.ensures.value ∙ c.in_ok-print_painted.ensures)) c.in_ok-put.ensures.writes.ok;
+      written = goes_on c.as_slice.result.now (rows_from c.args.frame.form picture c.args.frame.size (c.loop-y.y + 1)) c.loop-y.invariant.written (row_next c.args.frame.form picture c.args.frame.size c.loop-y.y (length c.as_mut_slice.result.now) c.as_slice.result.now c.loop-y-test.true (c.as_mut_slice.ensures.len ∙ c.loop-y.invariant.wide) (c.as_slice.ensures.value ∙ c.in_ok-print_painted.ensures)) c.in_ok-put.ensures.writes.ok;
       wide = c.loop-y.invariant.wide;
     }

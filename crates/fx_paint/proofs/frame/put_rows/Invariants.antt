@@ -1,6 +1,6 @@
 -- the rows so far are written
 use Rattle.std.proofs.Common.{◌≡◌, ◌≤◌, vec_len}
-use Rattle.fx_paint.specs.Frame.{image}
+use Rattle.fx_paint.specs.Frame.{rows_in}
 use Rattle.fx_paint.specs.Picture.{pixel, shapes_of}
 use Rattle.fx_port.specs.Pieces.{GrewUpTo}
 use Rattle.fx_paint.proofs.FrameLemmas.{rows_from}
@@ -11,6 +11,6 @@ invariant-loop-y g l =
     let sink = g.O.Sink in
     record {
       later : sink.faults l.fn.out ≤ sink.faults l.out;
-      written : GrewUpTo (sink.written l.fn.out) (sink.written l.out) (image (pixel (shapes_of l.nodes)) l.fn.size) (rows_from (pixel (shapes_of l.nodes)) l.fn.size l.y);
-      wide : vec_len l.row ≡ l.fn.size.width;
+      written : GrewUpTo (sink.written l.fn.out) (sink.written l.out) (rows_in l.fn.frame.form (pixel (shapes_of l.nodes)) l.fn.frame.size) (rows_from l.fn.frame.form (pixel (shapes_of l.nodes)) l.fn.frame.size l.y);
+      wide : vec_len l.row ≡ l.fn.frame.size.width;
     }

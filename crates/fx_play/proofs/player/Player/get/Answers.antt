@@ -5,5 +5,4 @@ use Rattle.fx_play.proofs.player.Player.get.Goals as goal
 pub returns-in-Some-clause-writes : goal.returns-in-Some-clause-writes
 returns-in-Some-clause-writes g c =
     rw (node_at c.args.self.now.nodes.items c.args.target.now.node c.in-Some.place c.index.result.now
-    (rw (c.as_slice.ensures.value, c.as_str.ensures.text) at c.in-Some.ensures.place)
-    (rw c.as_slice.ensures.value at c.in-Some.ensures.within) c.index.ensures) c.put_value.ensures.writes
+    (rw c.as_str.ensures.text at c.in-Some.ensures.place) c.in-Some.ensures.listed c.index.ensures) c.put_value.ensures.writes

@@ -1,0 +1,93 @@
+//! What is played for the run that the words ask for.
+//! Between the words and the files: what isn't built yet is told here.
+ghost use Rattle.std.specs.Prelude.{◌≡◌};
+ghost use Rattle.std.specs.Option.{option_map};
+ghost use Rattle.fx_load.specs.Views.{run_of};
+ghost use Rattle.fx_plain.specs.CommandLine as spec;
+ghost use Rattle.fx_play.specs.Plans.{plan_view};
+
+use fx_load::{FaultKind, FileFault, Run};
+use fx_paint::Form;
+use fx_plain::Manner;
+use fx_words::{Frames, Source};
+use fx_world::Size;
+
+/// A run over files, and how it shows what it does; or what of it isn't built.
+pub(crate) enum Plan<'a> {
+    Plays(Run<'a>, Manner),
+    Refuses(FileFault<'a>),
+}
+
+/// What is played for this run.
+pub(crate) fn plan_of(run: &fx_words::Run) -> Plan<'_>
+    ensures { plan_view result ≡ spec.plan_of run.now }
+{
+    let Some(files) = files_of(&run.source) else {
+        return not_built(&run.source);
+    };
+    let Some(form) = form_of(run.frames) else {
+        return not_built(&run.source);
+    };
+    Plan::Plays(files, manner_of(run, form))
+}
+
+fn manner_of(run: &fx_words::Run, form: Form) -> Manner
+    ensures { result ≡ spec.manner_of run.now form }
+{
+    Manner {
+        window: window_of(run.size),
+        form,
+        summary: run.summary,
+    }
+}
+
+fn window_of(size: Option<fx_words::Size>) -> Option<Size>
+    ensures { result ≡ option_map spec.size_of size }
+{
+    match size {
+        Some(size) => Some(Size {
+            width: size.width,
+            height: size.height,
+        }),
+        None => None,
+    }
+}
+
+fn not_built(source: &Source) -> Plan<'_>
+    ensures { plan_view result ≡ spec.not_built source.now }
+{
+    Plan::Refuses(FileFault::whole(FaultKind::NotBuilt, scene_name(source)))
+}
+
+fn form_of(frames: Frames) -> Option<Form>
+    ensures { result ≡ spec.form_of frames }
+{
+    match frames {
+        Frames::Text => Some(Form::Text),
+        Frames::Ppm => Some(Form::Ppm),
+        Frames::Nothing => Some(Form::Nothing),
+        Frames::Delta => None,
+    }
+}
+
+fn files_of(source: &Source) -> Option<Run<'_>>
+    ensures { option_map run_of result ≡ spec.files_of source.now }
+{
+    match source {
+        Source::Demo(_) => None,
+        Source::Files(scene, script, sheets) => Some(Run {
+            scene: scene.as_str(),
+            script: script.as_str(),
+            sheets: sheets.as_slice(),
+        }),
+    }
+}
+
+fn scene_name(source: &Source) -> &str
+    ensures { result.now ≡ spec.scene_name source.now }
+{
+    match source {
+        Source::Demo(_) => "demo.fxml",
+        Source::Files(scene, _, _) => scene.as_str(),
+    }
+}

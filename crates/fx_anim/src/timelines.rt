@@ -65,8 +65,8 @@ impl Timelines {
         Ok(id as u32)
     }
 
-    /// Gives a timeline a key frame: at this time, in milliseconds, the property has the value. It takes the place of one
-    /// of the same time and property.
+    /// Gives a timeline a key frame: at this time, in milliseconds, the property has the value. It takes the place of
+    /// one of the same time and property.
     pub fn key(
         &mut self,
         _alloc: Global,
@@ -111,8 +111,8 @@ impl Timelines {
         self.lines[id as usize].stop();
     }
 
-    /// Lets so many milliseconds pass for all timelines that play. Answers what their properties become, in the order of
-    /// the timelines and of their properties.
+    /// Lets so many milliseconds pass for all timelines that play. Answers what their properties become, in the order
+    /// of the timelines and of their properties.
     pub fn tick(&mut self, alloc: Global, ms: i64) -> Result<Vec<(Name, Value)>, AnimError>
         requires { (pos 1 ≤ℤ ms) × (ms ≤ℤ pos 3600000) }
         ensures sets { IfOk result (λ sets. sets.items ≡ sets_of (unsigned_abs ms) (lines_of self.old)) }

@@ -1,5 +1,5 @@
 -- What is seen of nodes one by one holds of all.
-use Rattle.std.proofs.Common.{refl, sym, subst, ◌∙◌, ◌≡◌, ℕ, ◌<◌, true, List, [], ◌∷◌, Option, None, Some, length, arith}
+use Rattle.std.proofs.Common.{refl, sym, subst, ◌∙◌, ◌≡◌, ℕ, zero, suc, ◌<◌, true, List, [], ◌∷◌, Option, None, Some, length, arith}
 use Rattle.std.proofs.lemmas.Bool.{true≢false}
 use Rattle.std.proofs.lemmas.List.{get_or-map, length-map}
 use Rattle.fx_base.specs.declared.keys.NodeKey.{NodeKey}
@@ -8,6 +8,7 @@ use Rattle.fx_layout_sweeps.specs.Nodes.{IsTree, keys, no_node, node_at, parent_
 use Rattle.fx_layout.specs.Fits.{AreOthers, StandsBehind}
 use Rattle.fx_layout.specs.Updates.{AreDifferent, is_key}
 use Rattle.fx_layout.proofs.Agree.{key_is}
+use Rattle.fx_layout.proofs.Olds.{same_key}
 
 first_none : (parent : Option ℕ) → StandsBehind parent 0 → parent ≡ None
 first_none None behind = refl
@@ -47,3 +48,26 @@ different_of nodes others i j d early within same =
     let hit : is_key (node_at nodes i).key (node_at nodes j).key ≡ true =
     subst (λ (k : NodeKey). is_key (node_at nodes i).key k ≡ true) equal (key_is (node_at nodes i).key) in
     true≢false (sym hit ∙ others j few i early)
+
+-- in a tree each node stands behind its parent
+pub behind_in : (nodes : List BoxFacts) → IsTree (parents nodes) → (p : ℕ) → p < length nodes
+    → StandsBehind (node_at nodes p).parent p
+behind_in nodes tree zero within =
+    subst (λ (o : Option ℕ). StandsBehind o 0)
+    (sym tree.root ∙ get_or-map (λ (n : BoxFacts). n.parent) nodes 0 no_node None within) refl
+behind_in nodes tree (suc p) within =
+    let long : length (parents nodes) ≡ length nodes = length-map nodes (λ (n : BoxFacts). n.parent) in
+    let below = tree.below (suc p) (omega arith) (omega (arith, long, within)) in
+    subst (λ (o : Option ℕ). StandsBehind o (suc p))
+    (sym below.1 ∙ get_or-map (λ (n : BoxFacts). n.parent) nodes (suc p) no_node None within) below.2
+
+-- two places with one key are no different keys
+pub not_different : (nodes : List BoxFacts) (i p : ℕ) → AreDifferent (keys nodes) → i < p → p < length nodes
+    → is_key (node_at nodes i).key (node_at nodes p).key ≡ true → ⊥
+not_different nodes i p differ early within hit =
+    let d = no_node.key in
+    let long : length (keys nodes) ≡ length nodes = length-map nodes (λ (n : BoxFacts). n.key) in
+    let one = get_or-map (λ (n : BoxFacts). n.key) nodes i no_node d (omega (arith, early, within)) in
+    let other = get_or-map (λ (n : BoxFacts). n.key) nodes p no_node d within in
+    differ i p d early (omega (arith, long, within))
+    (one ∙ (same_key (node_at nodes i).key (node_at nodes p).key hit ∙ sym other))

@@ -1,9 +1,9 @@
 //! Nodes that come from outside, and whether they can be laid out.
-ghost use Rattle.std.specs.Prelude.{◌≡◌, ◌<◌, ◌≤◌, All, true, false, length};
+ghost use Rattle.std.specs.Prelude.{ℕ, ◌≡◌, ◌<◌, ◌≤◌, All, true, false, length};
 ghost use Rattle.fx_kinds.specs.declared.facts.BoxFacts.{BoxFacts as Facts};
 ghost use Rattle.fx_layout_sweeps.specs.Nodes.{AreNodes, IsTree, keys, node_at, parents};
 ghost use Rattle.fx_layout.specs.Fits.{AreOthers, StandsBehind};
-ghost use Rattle.fx_layout.specs.Updates.{AreDifferent};
+ghost use Rattle.fx_layout.specs.Updates.{AreDifferent, is_key};
 
 use crate::keys::is_key;
 use crate::rects::parent_at;
@@ -16,6 +16,7 @@ pub fn can_be_laid(nodes: &[BoxFacts]) -> bool
     ensures some { result ≡ true → 0 < length nodes.now }
     ensures nodes { result ≡ true → AreNodes nodes.now }
     ensures keys { result ≡ true → AreDifferent (keys nodes.now) }
+    ensures only { 0 < length nodes.now → AreNodes nodes.now → AreDifferent (keys nodes.now) → result ≡ true }
 {
     if nodes.is_empty() || nodes.len() > 4_096 {
         return false;
@@ -24,7 +25,8 @@ pub fn can_be_laid(nodes: &[BoxFacts]) -> bool
 }
 
 fn is_tree(nodes: &[BoxFacts]) -> bool
-    ensures { result ≡ true → IsTree (parents nodes.now) }
+    ensures tree { result ≡ true → IsTree (parents nodes.now) }
+    ensures only { IsTree (parents nodes.now) → result ≡ true }
 {
     for place in 0..nodes.len() {
         if !stands_behind(parent_at(nodes, place), place) {
@@ -35,7 +37,8 @@ fn is_tree(nodes: &[BoxFacts]) -> bool
 }
 
 fn stands_behind(parent: Option<usize>, place: usize) -> bool
-    ensures { result ≡ true → StandsBehind parent place }
+    ensures behind { result ≡ true → StandsBehind parent place }
+    ensures only { StandsBehind parent place → result ≡ true }
 {
     match parent {
         None => place == 0,
@@ -46,6 +49,8 @@ fn stands_behind(parent: Option<usize>, place: usize) -> bool
 fn have_few_tracks(nodes: &[BoxFacts]) -> bool
     ensures columns { result ≡ true → All (λ (node : Facts). length node.columns ≤ 256) nodes.now }
     ensures rows { result ≡ true → All (λ (node : Facts). length node.rows ≤ 256) nodes.now }
+    ensures only { All (λ (node : Facts). length node.columns ≤ 256) nodes.now
+        → All (λ (node : Facts). length node.rows ≤ 256) nodes.now → result ≡ true }
 {
     for node in nodes {
         if node.columns.as_slice().len() > 256 || node.rows.as_slice().len() > 256 {
@@ -58,7 +63,8 @@ fn have_few_tracks(nodes: &[BoxFacts]) -> bool
 /// Has each node another key than those before it?
 #[tactic(auto, using(crate::proofs::Fitting::different_of))]
 fn are_different(nodes: &[BoxFacts]) -> bool
-    ensures { result ≡ true → AreDifferent (keys nodes.now) }
+    ensures different { result ≡ true → AreDifferent (keys nodes.now) }
+    ensures only { AreDifferent (keys nodes.now) → result ≡ true }
 {
     for place in 0..nodes.len() {
         if stands_before(nodes, place) {
@@ -70,7 +76,9 @@ fn are_different(nodes: &[BoxFacts]) -> bool
 
 /// Does the key of the node at this place stand before it?
 fn stands_before(nodes: &[BoxFacts], place: usize) -> bool
-    ensures { result ≡ false → AreOthers nodes.now place place }
+    ensures others { result ≡ false → AreOthers nodes.now place place }
+    ensures found { result ≡ true → (i : ℕ) × (i < place)
+        × (is_key (node_at nodes.now i).key (node_at nodes.now place).key ≡ true) }
 {
     for other in 0..place {
         if is_key(key_at(nodes, other), key_at(nodes, place)) {

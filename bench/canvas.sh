@@ -1,0 +1,22 @@
+#!/bin/bash
+# Counts the instructions a pixel that it takes to paint a window of 1,000 by 1,000 pixels anew: in white, and over the
+# white a fill, a blend, and letters of which each bit is four pixels wide. Beside them stand those of the row kernels
+# themselves. Then the instructions an entry of the damage where one of 4,000 changed.
+# It builds crates/canvas_bench and crates/lanes_bench with `rt run`, and needs valgrind.
+set -euo pipefail
+bench="$(dirname "$0")"
+"$bench/lanes.sh"
+source "$bench/program.sh" canvas_bench white 1
+
+# the instructions of ten rounds
+rounds() {
+    echo $(($(instructions "$1" 11) - $(instructions "$1" 1)))
+}
+
+white=$(rounds white)
+echo "white    $(awk -v n="$white" 'BEGIN { printf "%.3f", n / 10 / 1000000 }') instructions a pixel"
+for task in fill blend letters; do
+    awk -v task="$task" -v all="$(rounds "$task")" -v white="$white" \
+        'BEGIN { printf "%-8s %.3f instructions a pixel over the white\n", task, (all - white) / 10 / 1000000 }'
+done
+awk -v all="$(rounds damage)" 'BEGIN { printf "damage   %.1f instructions an entry\n", all / 10 / 4000 }'

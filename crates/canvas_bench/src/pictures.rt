@@ -1,0 +1,114 @@
+//! Pictures of one node that covers the window, and of many small ones.
+use fx_base::{Color, List, NodeKey, Rect, Text};
+use fx_picture::{Entry, Picture, Shape};
+use std::alloc::{AllocError, Global};
+
+const WINDOW: Rect = Rect {
+    x: 0,
+    y: 0,
+    w: 1000,
+    h: 1000,
+};
+
+/// The picture in which nothing shows.
+pub fn nothing(alloc: Global) -> Picture {
+    Picture::new(alloc)
+}
+
+/// A rectangle over the whole window.
+pub fn filled(alloc: Global, opacity: u8) -> Result<Picture, AllocError> {
+    let fill = Shape::Fill {
+        rect: WINDOW,
+        color: color(opacity),
+    };
+    let mut shapes = Vec::new(alloc);
+    shapes.push(fill)?;
+    picture_of(alloc, shapes)
+}
+
+/// Lines of letters all over the window, each bit of a letter four pixels wide.
+pub fn lettered(alloc: Global) -> anyhow::Result<Picture> {
+    let mut shapes = Vec::new(alloc);
+    for line in 0..42u8 {
+        shapes.push(Shape::Letters {
+            x: 0,
+            y: i64::from(line) * 24,
+            scale: 4,
+            text: Text::from_str(
+                alloc,
+                "The quick brown fox jumps over the lazy dog 0123456789 & THEN",
+            )?,
+            clip: WINDOW,
+            color: color(255),
+        })?;
+    }
+    Ok(picture_of(alloc, shapes)?)
+}
+
+fn color(opacity: u8) -> Color {
+    Color {
+        r: 10,
+        g: 120,
+        b: 230,
+        a: opacity,
+    }
+}
+
+fn picture_of(alloc: Global, shapes: Vec<Shape>) -> Result<Picture, AllocError> {
+    let entry = entry_of(alloc, 1, 0, shapes)?;
+    let mut entries = Vec::new(alloc);
+    entries.push(entry)?;
+    Ok(Picture {
+        entries: List::from_vec(entries),
+    })
+}
+
+/// A node at this place among the children of the root.
+pub fn entry_of(
+    alloc: Global,
+    birth: u32,
+    place: u32,
+    shapes: Vec<Shape>,
+) -> Result<Entry, AllocError> {
+    Ok(Entry {
+        key: NodeKey { slot: 0, birth },
+        path: List::from_vec(vec![in alloc; place]?),
+        rect: WINDOW,
+        shapes: List::from_vec(shapes),
+        disabled: false,
+        focusable: false,
+    })
+}
+
+/// So many nodes of 10 by 10 pixels, each with a background and a line of text.
+pub fn many(alloc: Global, count: u32) -> anyhow::Result<Vec<Entry>> {
+    let mut entries = Vec::new(alloc);
+    for place in 0..count {
+        entries.push(small(alloc, place, 255)?)?;
+    }
+    Ok(entries)
+}
+
+/// The node at this place.
+pub fn small(alloc: Global, place: u32, opacity: u8) -> anyhow::Result<Entry> {
+    let rect = Rect {
+        x: i64::from(place % 100 * 10),
+        y: i64::from(place / 100 * 10),
+        w: 10,
+        h: 10,
+    };
+    let mut shapes = Vec::new(alloc);
+    shapes.push(Shape::Fill {
+        rect,
+        color: color(opacity),
+    })?;
+    shapes.push(Shape::Letters {
+        x: rect.x,
+        y: rect.y,
+        scale: 1,
+        text: Text::from_str(alloc, "ab")?,
+        clip: rect,
+        color: color(255),
+    })?;
+    Ok(entry_of(alloc, place.wrapping_add(1), place, shapes)?)
+}

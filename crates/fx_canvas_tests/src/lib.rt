@@ -1,0 +1,5 @@
+//! Tests of the canvas. They stand apart, so that a test that changes has nothing else proved anew.
+#![tactic(auto)]
+
+#[cfg(test)]
+mod frames;

@@ -1,5 +1,5 @@
-//! What a canvas and the damage of pictures are together: the law that a canvas follows the pictures, frame by frame. It
-//! stands above both, below what keeps a frame.
+//! What a canvas and the damage of pictures are together: the law that a canvas follows the pictures, frame by
+//! frame. It stands above both, below what keeps a frame.
 #![tactic(auto)]
 
 mod laws;

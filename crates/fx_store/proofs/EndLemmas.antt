@@ -1,5 +1,5 @@
 -- Each change that marks no name, at each of its ends.
-use Rattle.std.proofs.Common.{◌≡◌, ℕ, ◌+◌, ◌≤◌, true, false, not, [], ◌∷◌, Option, Some, None, Ok, Err, Vec, Global, arith, refl, sym, subst, ap, ◌∙◌}
+use Rattle.std.proofs.Common.{◌≡◌, ℕ, ◌+◌, ◌≤◌, true, false, not, List, [], ◌∷◌, Option, Some, None, Ok, Err, arith, refl, sym, subst, ap, ◌∙◌}
 use Rattle.std.proofs.lemmas.Bool.{and_right}
 use Rattle.fx_base.specs.declared.keys.Name.{Name}
 use Rattle.fx_store_model.specs.declared.changes.Change.TheVariants.{Unbind, Unpair, Listen, Unlisten, Forget}
@@ -31,8 +31,8 @@ use Rattle.fx_store.proofs.Watched.{leads_itself}
 -- it tells of nothing but a listener that was added
 pub record IsSilent (added : Option ℕ) (notices : Notices) : Type 0 where
   pub added_is : notices.added ≡ added
-  pub invalid : notices.invalid.items ≡ []
-  pub changed : notices.changed.items ≡ []
+  pub invalid : notices.invalid ≡ []
+  pub changed : notices.changed ≡ []
 
 err_memory : (T : Type 0) (refused : Option StoreError) (cause : StoreError) → refused ≡ None → IsAnswer {T = T} error.Memory refused (Err cause)
     → cause ≡ error.Memory
@@ -96,16 +96,16 @@ unlisten_done name kind owner tag before mid now notices evaluated spent none is
 
 -- names that are forgotten
 
-pub forget_short : (names : Vec Name Global) (before mid now : Stored) (evaluated spent : ℕ)
-    → IsForgetAnswer {T = Unit {0}} names.items before.entries (Ok tt) → mid ≡ made_forget (numbers names.items) before → IsReadSome mid now → spent ≤ evaluated + due mid
+pub forget_short : (names : List Name) (before mid now : Stored) (evaluated spent : ℕ)
+    → IsForgetAnswer {T = Unit {0}} names before.entries (Ok tt) → mid ≡ made_forget (numbers names) before → IsReadSome mid now → spent ≤ evaluated + due mid
     → Applied (Forget names) before now (Err error.Memory) evaluated spent
 unfolding made
 forget_short names before mid now evaluated spent answer is some few =
     quiet_short (Forget names) before mid now evaluated evaluated spent (forget_quiet names before) answer is some (omega arith) few
 
-pub forget_done : (names : Vec Name Global) (before mid now : Stored) (notices : Notices) (evaluated spent : ℕ)
-    → IsForgetAnswer names.items before.entries (Ok notices)
-    → mid ≡ made_forget (numbers names.items) before → now ≡ after_watching mid → IsSilent None notices
+pub forget_done : (names : List Name) (before mid now : Stored) (notices : Notices) (evaluated spent : ℕ)
+    → IsForgetAnswer names before.entries (Ok notices)
+    → mid ≡ made_forget (numbers names) before → now ≡ after_watching mid → IsSilent None notices
     → spent ≤ evaluated + due mid → Applied (Forget names) before now (Ok notices) evaluated spent
 unfolding made
 forget_done names before mid now notices evaluated spent answer is read silent few =

@@ -1,6 +1,6 @@
 -- The changes that mark names, from the graph's state after them: the store is as it is before the reads, and what became
 -- unread is told.
-use Rattle.std.proofs.Common.{◌≡◌, ℕ, Bool, true, false, List, [], ◌∷◌, ◌++◌, Contains, None, Vec, Global, refl, sym, subst, ap, ◌∙◌}
+use Rattle.std.proofs.Common.{◌≡◌, ℕ, Bool, true, false, List, [], ◌∷◌, ◌++◌, Contains, None, refl, sym, subst, ap, ◌∙◌}
 use Rattle.std.proofs.lemmas.Bool.{and_parts}
 use Rattle.fx_base.specs.declared.keys.Name.{Name}
 use Rattle.fx_base.specs.declared.values.Value.{Value}
@@ -44,8 +44,8 @@ made_listeners change stored graph pairs table owners is = ap (λ (s : Stored). 
 -- what is told of it
 pub tells_made : (change : Change) (stored : Stored) (graph : State) (pairs : List (ℕ × ℕ)) (table : Table) (owners : Register) (notices : Notices)
     → IsMade change stored graph pairs table owners → added_by change stored ≡ None → notices.added ≡ None
-    → notices.invalid.items ≡ invalid_notices graph.newly (living_in owners.living table.entries)
-    → notices.changed.items ≡ changed_notices stored.entries graph.entries (living_in owners.living table.entries)
+    → notices.invalid ≡ invalid_notices graph.newly (living_in owners.living table.entries)
+    → notices.changed ≡ changed_notices stored.entries graph.entries (living_in owners.living table.entries)
     → Tells change stored notices
 tells_made change stored graph pairs table owners notices is none added invalid changed =
     let heard : living_in owners.living table.entries ≡ (made change stored).listeners =
@@ -110,13 +110,13 @@ module _ (graph : State) (pairs : List (ℕ × ℕ)) (table : Table) (owners : R
             (changed group es) moves set more back;
       }
 
-  pub made_publish : (words : Vec (Name × Value) Global)
-      → IsMade (Publish words) (stored_of graph pairs table owners) (after_values false words.items graph) pairs table owners
+  pub made_publish : (words : List (Name × Value))
+      → IsMade (Publish words) (stored_of graph pairs table owners) (after_values false words graph) pairs table owners
   unfolding before_reads made changed_by
   made_publish words = record { whole = refl; newly_told = refl }
 
-  pub made_bind : (name : Name) (expr : Expr) (operands : Vec Name Global)
-      → IsMade (Bind name expr operands) (stored_of graph pairs table owners) (after_bind name.0 expr (numbers operands.items) graph)
+  pub made_bind : (name : Name) (expr : Expr) (operands : List Name)
+      → IsMade (Bind name expr operands) (stored_of graph pairs table owners) (after_bind name.0 expr (numbers operands) graph)
       pairs table owners
   unfolding before_reads made changed_by
   made_bind name expr operands = record { whole = refl; newly_told = refl }

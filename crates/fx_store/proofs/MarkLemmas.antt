@@ -46,9 +46,9 @@ finish_short change before graph now pairs table owners names heard values began
 pub finish_done : (change : Change) (before : Stored) (graph now : State) (pairs : List (ℕ × ℕ)) (table : Table) (owners : Register)
     (names : List ℕ) (heard : List Listener) (values : List Value) (notices : Notices) (began looked spent : ℕ)
     → now ≡ after_read_all names graph → notices.added ≡ None
-    → notices.invalid.items ≡ invalid_notices graph.newly (living_in owners.living table.entries)
+    → notices.invalid ≡ invalid_notices graph.newly (living_in owners.living table.entries)
     → ((entries : List Entry) → values ≡ values_of entries heard
-    → notices.changed.items ≡ changed_notices entries graph.entries (living_in owners.living table.entries))
+    → notices.changed ≡ changed_notices entries graph.entries (living_in owners.living table.entries))
     → spent ≤ looked + evaluations_of graph.entries names graph.unread
     → IsUnderWay change before graph pairs table owners names heard values began looked
     → Applied change before (stored_of now pairs table owners) (Ok notices) began spent

@@ -1,5 +1,5 @@
 -- Changes that mark no name, and so tell nothing.
-use Rattle.std.proofs.Common.{◌≡◌, ℕ, ◌==◌, true, not, List, [], Option, Some, None, Vec, Global, ◌+◌, refl, sym, ap, ◌∙◌}
+use Rattle.std.proofs.Common.{◌≡◌, ℕ, ◌==◌, true, not, List, [], Option, Some, None, ◌+◌, refl, sym, ap, ◌∙◌}
 use Rattle.std.proofs.lemmas.Bool.{cond_both, not-true}
 use Rattle.fx_base.specs.declared.keys.Name.{Name}
 use Rattle.fx_store_model.specs.declared.changes.Change.{Change}
@@ -41,7 +41,7 @@ quiet_before change stored quiet =
 
 quiet_tells : (change : Change) (stored : Stored) (notices : Notices) → IsQuiet change stored
     → changed_notices stored.entries (made change stored).entries (made change stored).listeners ≡ []
-    → notices.added ≡ added_by change stored → notices.invalid.items ≡ [] → notices.changed.items ≡ [] → Tells change stored notices
+    → notices.added ≡ added_by change stored → notices.invalid ≡ [] → notices.changed ≡ [] → Tells change stored notices
 quiet_tells change stored notices quiet same added invalid changed =
     let now : Stored = made change stored in
     record {
@@ -72,21 +72,21 @@ pub unbind_quiet : (name : Name) (stored : Stored) → IsQuiet (Unbind name) sto
 unfolding changed_by
 unbind_quiet name stored = refl
 
-pub forget_quiet : (names : Vec Name Global) (stored : Stored) → IsQuiet (Forget names) stored
+pub forget_quiet : (names : List Name) (stored : Stored) → IsQuiet (Forget names) stored
 unfolding changed_by
 forget_quiet names stored = refl
 
 -- what they tell: nothing but the number of a listener that was added
 
-pub tells_unpair : (one other : Name) (stored : Stored) (notices : Notices) → notices.added ≡ None → notices.invalid.items ≡ []
-    → notices.changed.items ≡ [] → Tells (Unpair one other) stored notices
+pub tells_unpair : (one other : Name) (stored : Stored) (notices : Notices) → notices.added ≡ None → notices.invalid ≡ []
+    → notices.changed ≡ [] → Tells (Unpair one other) stored notices
 unfolding made
 tells_unpair one other stored notices added invalid changed =
     quiet_tells (Unpair one other) stored notices (unpair_quiet one other stored) (changed_same stored.entries stored.listeners)
     added invalid changed
 
 pub tells_unlisten : (name : Name) (kind : ListenKind) (owner : Option Owner) (tag : ℕ) (stored : Stored) (notices : Notices)
-    → notices.added ≡ None → notices.invalid.items ≡ [] → notices.changed.items ≡ [] → Tells (Unlisten name kind owner tag) stored notices
+    → notices.added ≡ None → notices.invalid ≡ [] → notices.changed ≡ [] → Tells (Unlisten name kind owner tag) stored notices
 unfolding made
 tells_unlisten name kind owner tag stored notices added invalid changed =
     let change : Change = Unlisten name kind owner tag in
@@ -94,7 +94,7 @@ tells_unlisten name kind owner tag stored notices added invalid changed =
     (changed_same stored.entries (made change stored).listeners) added invalid changed
 
 pub tells_listen : (name : Name) (kind : ListenKind) (owner : Option Owner) (tag : ℕ) (stored : Stored) (notices : Notices)
-    → notices.added ≡ Some (stored.given + 1) → notices.invalid.items ≡ [] → notices.changed.items ≡ []
+    → notices.added ≡ Some (stored.given + 1) → notices.invalid ≡ [] → notices.changed ≡ []
     → Tells (Listen name kind owner tag) stored notices
 unfolding made
 tells_listen name kind owner tag stored notices added invalid changed =
@@ -119,7 +119,7 @@ unbind_eager stored rank ranked name other =
     (λ bound. unbound_eager stored.entries rank ranked name bound other) (λ _. refl)
 
 pub tells_unbind : (name : Name) (stored : Stored) (rank : ℕ → ℕ) → Ranked stored.entries rank → (notices : Notices)
-    → notices.added ≡ None → notices.invalid.items ≡ [] → notices.changed.items ≡ [] → Tells (Unbind name) stored notices
+    → notices.added ≡ None → notices.invalid ≡ [] → notices.changed ≡ [] → Tells (Unbind name) stored notices
 unfolding made
 tells_unbind name stored rank ranked notices added invalid changed =
     let now : Stored = made (Unbind name) stored in
@@ -128,14 +128,14 @@ tells_unbind name stored rank ranked notices added invalid changed =
     added invalid changed
 
 -- who is left listens to a property that reads none of the forgotten ones
-pub tells_forget : (names : Vec Name Global) (stored : Stored) → IsFree (numbers names.items) stored.entries → (notices : Notices)
-    → notices.added ≡ None → notices.invalid.items ≡ [] → notices.changed.items ≡ [] → Tells (Forget names) stored notices
+pub tells_forget : (names : List Name) (stored : Stored) → IsFree (numbers names) stored.entries → (notices : Notices)
+    → notices.added ≡ None → notices.invalid ≡ [] → notices.changed ≡ [] → Tells (Forget names) stored notices
 unfolding made
 tells_forget names stored free notices added invalid changed =
     let now : Stored = made (Forget names) stored in
     quiet_tells (Forget names) stored notices (forget_quiet names stored)
     (changed_none stored.entries now.entries now.listeners
-    (λ l c _. eager-forget_other (numbers names.items) stored.entries free l.name.0
-    (not_among (numbers names.items) l.name.0
-    (not-true _ (filter_contains (λ (m : Listener). not (is_among (numbers names.items) m.name.0)) stored.listeners l c).1))))
+    (λ l c _. eager-forget_other (numbers names) stored.entries free l.name.0
+    (not_among (numbers names) l.name.0
+    (not-true _ (filter_contains (λ (m : Listener). not (is_among (numbers names) m.name.0)) stored.listeners l c).1))))
     added invalid changed

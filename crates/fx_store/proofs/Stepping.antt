@@ -47,10 +47,10 @@ step_unmade change before now began looked allowed same few =
 -- what tells of a change, as a call over the graph says it
 pub record AreNotices (before : List Entry) (graph : State) (listeners heard : List Listener) (values : List Value) (notices : Notices) : Type 0 where
   pub added : notices.added ≡ None
-  pub invalid : notices.invalid.items ≡ invalid_notices graph.newly listeners
+  pub invalid : notices.invalid ≡ invalid_notices graph.newly listeners
   pub values_before : values ≡ values_of before heard
   pub changed : (entries : List Entry) → values ≡ values_of entries heard
-      → notices.changed.items ≡ changed_notices entries graph.entries listeners
+      → notices.changed ≡ changed_notices entries graph.entries listeners
 
 module _ (change : Change) (before : Stored) (graph now : State) (pairs : List (ℕ × ℕ)) (table : Table) (owners : Register) (names : List ℕ) where
   reads_few : (looked spent : ℕ) → IsMade change before graph pairs table owners

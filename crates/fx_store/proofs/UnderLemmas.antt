@@ -1,5 +1,5 @@
 -- The changes that mark names, once they are made in the graph: what is owed to whoever tells of them.
-use Rattle.std.proofs.Common.{◌≡◌, ℕ, ◌+◌, ◌≤◌, ◌⊎◌, Bool, true, false, List, [], ◌∷◌, ◌++◌, Contains, Option, Some, None, Err, Vec, Global, refl, sym, subst, ap, inl, inr, ◌∙◌}
+use Rattle.std.proofs.Common.{◌≡◌, ℕ, ◌+◌, ◌≤◌, ◌⊎◌, Bool, true, false, List, [], ◌∷◌, ◌++◌, Contains, Option, Some, None, Err, refl, sym, subst, ap, inl, inr, ◌∙◌}
 use Rattle.std.proofs.lemmas.List.Elements.{All-contains}
 use Rattle.fx_base.specs.declared.keys.Name.{Name}
 use Rattle.fx_base.specs.declared.values.Value.{Value}
@@ -80,35 +80,35 @@ module _ (graph : State) (pairs : List (ℕ × ℕ)) (table : Table) (owners : R
   looked_at before names heard values began looked view look =
       subst (λ (stored : Stored). IsLooked stored names heard values began looked) (sym view) look
 
-  fit_only : (before : Stored) (words : Vec (Name × Value) Global) → seen ≡ before → IsFit (Publish words) before
-      → publish_refusal words.items graph.entries ≡ None
-      → (pair : Name × Value) → Contains words.items pair → read_only_in graph.entries pair.0.0 ≡ true
+  fit_only : (before : Stored) (words : List (Name × Value)) → seen ≡ before → IsFit (Publish words) before
+      → publish_refusal words graph.entries ≡ None
+      → (pair : Name × Value) → Contains words pair → read_only_in graph.entries pair.0.0 ≡ true
   fit_only before words view fit none =
       let all = (subst (λ (stored : Stored). IsFit (Publish words) stored) (sym view) fit).1 in
-      published_only words.items graph.entries none
+      published_only words graph.entries none
       (λ pair c.
-      All-contains (λ (p : Name × Value). unknown_in graph.entries p.0.0 ≡ false → read_only_in graph.entries p.0.0 ≡ true) words.items pair
+      All-contains (λ (p : Name × Value). unknown_in graph.entries p.0.0 ≡ false → read_only_in graph.entries p.0.0 ≡ true) words pair
       all c)
 
   -- each as the names and values were lent
 
-  pub under_publish : (before : Stored) (now : State) (words : Vec (Name × Value) Global) (lent : List (Name × Value)) (names : List Name)
+  pub under_publish : (before : Stored) (now : State) (words : List (Name × Value)) (lent : List (Name × Value)) (names : List Name)
       (heard : List Listener) (values : List Value) (began looked : ℕ) → seen ≡ before → IsKept graph pairs table owners behind
-      → IsLooked before names heard values began looked → IsFit (Publish words) before → lent ≡ words.items
+      → IsLooked before names heard values began looked → IsFit (Publish words) before → lent ≡ words
       → publish_refusal lent graph.entries ≡ None → now ≡ after_values false lent graph
       → Under (Publish words) before now pairs names heard values began looked
   unfolding refusal
   under_publish before now words lent names heard values began looked view kept look fit loan unrefused made =
       let here = looked_at before names heard values began looked view look in
       let is = made_publish graph pairs table owners words in
-      let none : publish_refusal words.items graph.entries ≡ None =
+      let none : publish_refusal words graph.entries ≡ None =
       subst (λ ws. publish_refusal ws graph.entries ≡ None) loan unrefused in
-      by_equals (Publish words) before now (after_values false words.items graph) pairs names heard values began looked view
+      by_equals (Publish words) before now (after_values false words graph) pairs names heard values began looked view
       (made ∙ ap (λ ws. after_values false ws graph) loan)
       (record {
-        allowed = answer_ok (Unit {0}) (of_graph_refusal (publish_refusal words.items graph.entries)) tt (ap of_graph_refusal none);
+        allowed = answer_ok (Unit {0}) (of_graph_refusal (publish_refusal words graph.entries)) tt (ap of_graph_refusal none);
         silent = refl;
-        kept = kept_published pairs table owners graph behind kept words.items (fit_only before words view fit none);
+        kept = kept_published pairs table owners graph behind kept words (fit_only before words view fit none);
         whole = is.whole;
         newly_told = is.newly_told;
         watched = here.watch.watched;
@@ -116,24 +116,24 @@ module _ (graph : State) (pairs : List (ℕ × ℕ)) (table : Table) (owners : R
         few = here.few;
       })
 
-  pub under_bind : (before : Stored) (now : State) (name : Name) (expr : Expr) (operands : Vec Name Global) (names : List Name)
+  pub under_bind : (before : Stored) (now : State) (name : Name) (expr : Expr) (operands : List Name) (names : List Name)
       (heard : List Listener) (values : List Value) (began looked : ℕ) → seen ≡ before → IsKept graph pairs table owners behind
       → IsLooked before names heard values began looked → is_paired before.pairs name.0 ≡ false
-      → graph_refusals.bind_refusal name expr operands.items graph.entries ≡ None
-      → now ≡ after_bind name.0 expr (numbers operands.items) graph
+      → graph_refusals.bind_refusal name expr operands graph.entries ≡ None
+      → now ≡ after_bind name.0 expr (numbers operands) graph
       → Under (Bind name expr operands) before now pairs names heard values began looked
   unfolding refusal
   under_bind before now name expr operands names heard values began looked view kept look unpaired none made =
       let free : is_paired pairs name.0 ≡ false = ap (λ (stored : Stored). is_paired stored.pairs name.0) view ∙ unpaired in
       let here = looked_at before names heard values began looked view look in
       let is = made_bind graph pairs table owners name expr operands in
-      by_equals (Bind name expr operands) before now (after_bind name.0 expr (numbers operands.items) graph) pairs names heard values began looked
+      by_equals (Bind name expr operands) before now (after_bind name.0 expr (numbers operands) graph) pairs names heard values began looked
       view made
       (record {
-        allowed = answer_ok (Unit {0}) (bind_refusal name expr operands.items graph.entries pairs) tt
-            (bind_free name expr operands.items graph.entries pairs free ∙ ap of_graph_refusal none);
+        allowed = answer_ok (Unit {0}) (bind_refusal name expr operands graph.entries pairs) tt
+            (bind_free name expr operands graph.entries pairs free ∙ ap of_graph_refusal none);
         silent = refl;
-        kept = kept_bound pairs table owners graph behind kept name.0 expr (numbers operands.items) free;
+        kept = kept_bound pairs table owners graph behind kept name.0 expr (numbers operands) free;
         whole = is.whole;
         newly_told = is.newly_told;
         watched = here.watch.watched;
@@ -231,14 +231,14 @@ module _ (graph : State) (pairs : List (ℕ × ℕ)) (table : Table) (owners : R
       (ap of_graph_refusal some ∙ ap Some (sym same))))
       refl
 
-  pub refused_publish : (before : Stored) (words : Vec (Name × Value) Global) (lent : List (Name × Value)) (refused : GraphError)
-      (cause : StoreError) (began : ℕ) → seen ≡ before → lent ≡ words.items → publish_refusal lent graph.entries ≡ Some refused
+  pub refused_publish : (before : Stored) (words : List (Name × Value)) (lent : List (Name × Value)) (refused : GraphError)
+      (cause : StoreError) (began : ℕ) → seen ≡ before → lent ≡ words → publish_refusal lent graph.entries ≡ Some refused
       → cause ≡ of_graph refused → Applied (Publish words) before before (Err cause) began began
   unfolding refusal
   refused_publish before words lent refused cause began view loan some same =
       step_failed (Publish words) before before cause began
-      (subst (λ (stored : Stored). IsAnswer {T = Notices} error.Memory (of_graph_refusal (publish_refusal words.items stored.entries)) (Err cause)) view
-      (answer_err Notices (of_graph_refusal (publish_refusal words.items graph.entries)) cause
+      (subst (λ (stored : Stored). IsAnswer {T = Notices} error.Memory (of_graph_refusal (publish_refusal words stored.entries)) (Err cause)) view
+      (answer_err Notices (of_graph_refusal (publish_refusal words graph.entries)) cause
       (ap of_graph_refusal (subst (λ ws. publish_refusal ws graph.entries ≡ Some refused) loan some) ∙ ap Some (sym same))))
       refl
 
@@ -313,20 +313,20 @@ unfolding refusal
 allowed_set before name value none =
     answer_ok (Unit {0}) (of_graph_refusal (set_refusal ((name, value) ∷ []) before.entries)) tt (ap of_graph_refusal none)
 
-pub allowed_publish : (before : Stored) (words : Vec (Name × Value) Global) (lent : List (Name × Value)) → lent ≡ words.items
+pub allowed_publish : (before : Stored) (words : List (Name × Value)) (lent : List (Name × Value)) → lent ≡ words
     → publish_refusal lent before.entries ≡ None → IsAllowed (Publish words) before
 unfolding refusal
 allowed_publish before words lent loan none =
-    answer_ok (Unit {0}) (of_graph_refusal (publish_refusal words.items before.entries)) tt
+    answer_ok (Unit {0}) (of_graph_refusal (publish_refusal words before.entries)) tt
     (ap of_graph_refusal (subst (λ ws. publish_refusal ws before.entries ≡ None) loan none))
 
-pub allowed_bind : (before : Stored) (name : Name) (expr : Expr) (operands : Vec Name Global) (lent : List Name) → lent ≡ operands.items
+pub allowed_bind : (before : Stored) (name : Name) (expr : Expr) (operands : List Name) (lent : List Name) → lent ≡ operands
     → is_paired before.pairs name.0 ≡ false → graph_refusals.bind_refusal name expr lent before.entries ≡ None
     → IsAllowed (Bind name expr operands) before
 unfolding refusal
 allowed_bind before name expr operands lent loan free none =
-    answer_ok (Unit {0}) (bind_refusal name expr operands.items before.entries before.pairs) tt
-    (bind_free name expr operands.items before.entries before.pairs free
+    answer_ok (Unit {0}) (bind_refusal name expr operands before.entries before.pairs) tt
+    (bind_free name expr operands before.entries before.pairs free
     ∙ ap of_graph_refusal (subst (λ ns. graph_refusals.bind_refusal name expr ns before.entries ≡ None) loan none))
 
 pub allowed_pair : (before : Stored) (one other : Name) → pair_refusal one other before.entries before.pairs ≡ None
@@ -334,8 +334,8 @@ pub allowed_pair : (before : Stored) (one other : Name) → pair_refusal one oth
 unfolding refusal
 allowed_pair before one other none = answer_ok (Unit {0}) (pair_refusal one other before.entries before.pairs) tt none
 
-pub refused_bind : (before : Stored) (name : Name) (expr : Expr) (operands : Vec Name Global) (lent : List Name) (cause : StoreError) (began : ℕ)
-    → lent ≡ operands.items
+pub refused_bind : (before : Stored) (name : Name) (expr : Expr) (operands : List Name) (lent : List Name) (cause : StoreError) (began : ℕ)
+    → lent ≡ operands
     → (cause ≡ error.Memory) ⊎ (Some cause ≡ bind_refusal name expr lent before.entries before.pairs)
     → Applied (Bind name expr operands) before before (Err cause) began began
 unfolding refusal
@@ -346,7 +346,7 @@ refused_bind before name expr operands lent cause began loan why =
           subst (λ (e : StoreError). IsChangeAnswer {T = Notices} (Bind name expr operands) before (Err e)) (sym short)
           (memory_answer (Bind name expr operands) before)
       | inr some ↦
-          answer_err Notices (bind_refusal name expr operands.items before.entries before.pairs) cause
+          answer_err Notices (bind_refusal name expr operands before.entries before.pairs) cause
           (ap (λ (ns : List Name). bind_refusal name expr ns before.entries before.pairs) (sym loan) ∙ sym some)
     ])
     refl

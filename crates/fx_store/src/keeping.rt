@@ -19,7 +19,7 @@ ghost use Rattle.fx_store_pairs.specs.Pairs.{is_among, without_pair};
 use crate::refusing::{of_listen, of_unlisten, of_unpair};
 use crate::store::Store;
 use crate::watching::read_watched;
-use fx_base::{Ledgers, Name, Work};
+use fx_base::{Ledgers, List, Name, Work};
 use fx_handles::{Owner, Owners};
 use fx_listen::{ListenKind, Listeners};
 use fx_store_model::{Notices, StoreError};
@@ -28,13 +28,13 @@ use std::alloc::{AllocError, Global};
 /// What tells of nothing but a listener that was added.
 fn silent(alloc: Global, added: Option<u32>) -> Notices
     ensures added { result.added ≡ added }
-    ensures invalid { result.invalid.items ≡ [] }
-    ensures changed { result.changed.items ≡ [] }
+    ensures invalid { result.invalid ≡ [] }
+    ensures changed { result.changed ≡ [] }
 {
     Notices {
         added,
-        invalid: Vec::new(alloc),
-        changed: Vec::new(alloc),
+        invalid: List::new(alloc),
+        changed: List::new(alloc),
     }
 }
 
@@ -216,7 +216,7 @@ impl Store {
     pub(crate) fn forget<L: Ledgers>(
         &mut self,
         alloc: Global,
-        names: Vec<Name>,
+        names: List<Name>,
         work: &mut Work<L>,
     ) -> Result<Notices, StoreError>
         ensures applied { Applied (change.Forget names) self.old self.new result work.old.evaluated work.new.evaluated }

@@ -29,7 +29,7 @@ use crate::refusing::of_pair;
 use crate::store::Store;
 use crate::telling::tell;
 use crate::watching::{Watched, push_two, watch};
-use fx_base::{Ledgers, Name, Value, Work};
+use fx_base::{Ledgers, List, Name, Value, Work};
 use fx_expr::Expr;
 use fx_graph::Graph;
 use fx_graph_model::GraphError;
@@ -247,7 +247,7 @@ impl Store {
     pub(crate) fn publish<L: Ledgers>(
         &mut self,
         alloc: Global,
-        pairs: Vec<(Name, Value)>,
+        pairs: List<(Name, Value)>,
         work: &mut Work<L>,
     ) -> Result<Notices, StoreError>
         requires { IsFit (change.Publish pairs) self.old }
@@ -277,10 +277,10 @@ impl Store {
         alloc: Global,
         name: Name,
         expr: Expr,
-        operands: Vec<Name>,
+        operands: List<Name>,
         work: &mut Work<L>,
     ) -> Result<Notices, StoreError>
-        requires { is_within (tree expr) (length operands.items) ≡ true }
+        requires { is_within (tree expr) (length operands) ≡ true }
         ensures applied { Applied (change.Bind name expr operands) self.old self.new result work.old.evaluated
             work.new.evaluated }
         ensures others { work.new ≡ record work.old { evaluated = work.new.evaluated } }
@@ -291,7 +291,7 @@ impl Store {
             None => {}
         }
         let watch = self.look(alloc, work)?;
-        self.graph.make_binding(name, expr, operands)?;
+        self.graph.make_binding(name, expr, operands.into_vec())?;
         finish(
             alloc,
             &mut self.graph,

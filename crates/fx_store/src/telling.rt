@@ -11,7 +11,7 @@ ghost use Rattle.fx_graph_model.specs.Changes.{AreKnown, after_read_all, IsSomeR
 ghost use Rattle.fx_store.specs.Watching.{IsWatch, values_of};
 
 use crate::watching::Watched;
-use fx_base::{Ledgers, Name, Value, Work};
+use fx_base::{Ledgers, List, Name, Value, Work};
 use fx_graph::Graph;
 use fx_graph_model::are_same;
 use fx_handles::Owners;
@@ -117,11 +117,11 @@ pub fn tell<L: Ledgers>(
     ensures ok { OnOk result (graph.new ≡ after_read_all (numbers watch.now.names.items) graph.old) }
     ensures part { IsSomeRead graph.old graph.new }
     ensures added { IfOk result (λ notices. notices.added ≡ None) }
-    ensures invalid { IfOk result (λ notices. notices.invalid.items
+    ensures invalid { IfOk result (λ notices. notices.invalid
         ≡ invalid_notices graph.old.newly (living_in owners.now.living listeners.now.entries)) }
     ensures changed { IfOk result (λ notices. (before : List Entry)
         → watch.now.before.items ≡ values_of before watch.now.heard.items
-        → notices.changed.items ≡ changed_notices before graph.old.entries
+        → notices.changed ≡ changed_notices before graph.old.entries
         (living_in owners.now.living listeners.now.entries)) }
     ensures cost { work.new.evaluated ≤ work.old.evaluated
         + evaluations_of graph.old.entries (numbers watch.now.names.items) graph.old.unread }
@@ -137,7 +137,7 @@ pub fn tell<L: Ledgers>(
     )?;
     Ok(Notices {
         added: None,
-        invalid,
-        changed,
+        invalid: List::from_vec(invalid),
+        changed: List::from_vec(changed),
     })
 }

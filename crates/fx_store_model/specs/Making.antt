@@ -97,15 +97,15 @@ made_forget names stored =
 
 unfoldable pub made : Change → Stored → Stored
 made (Set name value) stored = made_set name.0 value stored
-made (Publish pairs) stored = with_entries (with_values false pairs.items stored.entries) stored
+made (Publish pairs) stored = with_entries (with_values false pairs stored.entries) stored
 made (Bind name expr operands) stored =
-    with_entries (with_binding name.0 expr (numbers operands.items) stored.entries) stored
+    with_entries (with_binding name.0 expr (numbers operands) stored.entries) stored
 made (Unbind name) stored = made_unbind name.0 stored
 made (Pair one other) stored = made_pair one.0 other.0 stored
 made (Unpair one other) stored = with_pairs (without_pair one.0 other.0 stored.pairs) stored
 made (Listen name kind owner tag) stored = made_listen name kind owner tag stored
 made (Unlisten name kind owner tag) stored = made_unlisten name.0 kind owner tag stored
-made (Forget names) stored = made_forget (numbers names.items) stored
+made (Forget names) stored = made_forget (numbers names) stored
 
 -- all that are joined with the name, where it has another value
 abbrev pub moved : ℕ → Value → Stored → List ℕ
@@ -114,7 +114,7 @@ moved name value stored =
 
 unfoldable pub changed_by : Change → Stored → List ℕ
 changed_by (Set name value) stored = moved name.0 value stored
-changed_by (Publish pairs) stored = changed pairs.items stored.entries
+changed_by (Publish pairs) stored = changed pairs stored.entries
 changed_by (Bind name expr operands) stored = name.0 ∷ []
 changed_by (Pair one other) stored = moved one.0 (eager stored.entries other.0) stored
 changed_by _ stored = []

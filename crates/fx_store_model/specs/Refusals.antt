@@ -72,8 +72,8 @@ bind_refusal name expr operands entries pairs =
 -- of each change but the one that forgets
 unfoldable pub refusal : Change → Stored → Option StoreError
 refusal (Set name value) stored = of_graph_refusal (set_refusal ((name, value) ∷ []) stored.entries)
-refusal (Publish pairs) stored = of_graph_refusal (publish_refusal pairs.items stored.entries)
-refusal (Bind name expr operands) stored = bind_refusal name expr operands.items stored.entries stored.pairs
+refusal (Publish pairs) stored = of_graph_refusal (publish_refusal pairs stored.entries)
+refusal (Bind name expr operands) stored = bind_refusal name expr operands stored.entries stored.pairs
 refusal (Unbind name) stored = unknown_of (name ∷ []) stored.entries
 refusal (Pair one other) stored = pair_refusal one other stored.entries stored.pairs
 refusal (Unpair one other) stored = unpair_refusal one other stored.entries
@@ -90,7 +90,7 @@ IsForgetAnswer names entries (Err cause) =
     ⊎ (cause ≡ error.Memory)
 
 abbrev pub IsChangeAnswer : {T : Type 0} → Change → Stored → Result T StoreError → Type 0
-IsChangeAnswer (Forget names) stored result = IsForgetAnswer names.items stored.entries result
+IsChangeAnswer (Forget names) stored result = IsForgetAnswer names stored.entries result
 IsChangeAnswer change stored result = IsAnswer error.Memory (refusal change stored) result
 
 -- the change isn't refused

@@ -64,8 +64,8 @@ added_by _ stored = None
 -- what a change tells
 pub record Tells (change : Change) (stored : Stored) (notices : Notices) : Type 0 where
   pub added : notices.added ≡ added_by change stored
-  pub invalid : notices.invalid.items ≡ invalid_notices (newly change stored) (made change stored).listeners
-  pub changed : notices.changed.items
+  pub invalid : notices.invalid ≡ invalid_notices (newly change stored) (made change stored).listeners
+  pub changed : notices.changed
       ≡ changed_notices stored.entries (made change stored).entries (made change stored).listeners
 
 -- how many unread bound names the watched ones need
@@ -97,9 +97,9 @@ IsUnfinished change before now =
 -- for each place of its expression
 abbrev pub IsFit : Change → Stored → Type 0
 IsFit (Publish pairs) stored =
-    AllPairs (λ (one other : Name × Value). one.0 ≢ other.0) pairs.items
+    AllPairs (λ (one other : Name × Value). one.0 ≢ other.0) pairs
     × All
     (λ (pair : Name × Value). unknown_in stored.entries pair.0.0 ≡ false → read_only_in stored.entries pair.0.0 ≡ true)
-    pairs.items
-IsFit (Bind name expr operands) stored = is_within (tree expr) (length operands.items) ≡ true
+    pairs
+IsFit (Bind name expr operands) stored = is_within (tree expr) (length operands) ≡ true
 IsFit change stored = Unit {0}

@@ -8,7 +8,7 @@
 ghost use Rattle.std.specs.Prelude.{◌≡◌};
 
 use anyhow::bail;
-use fx_base::{Kind, Ledgers, Name, Value, Work};
+use fx_base::{Kind, Ledgers, List, Name, Value, Work};
 use fx_expr::read_expr;
 use fx_listen::ListenKind;
 use fx_store::Store;
@@ -106,7 +106,8 @@ fn bound<L: Ledgers>(
     if operands.len() != parsed.paths.as_slice().len() {
         bail!("each path has one operand");
     }
-    store.apply(alloc, Change::Bind(name, parsed.expr, operands), work)?;
+    let change = Change::Bind(name, parsed.expr, List::from_vec(operands));
+    store.apply(alloc, change, work)?;
     Ok(name)
 }
 
@@ -120,7 +121,7 @@ fn set_often<L: Ledgers>(
     for round in 0..rounds {
         let value = Value::Int((round % 1000) as i64 + 1);
         let told = store.apply(alloc, Change::Set(Name(0), value), work)?;
-        notices = notices.wrapping_add(told.changed.len());
+        notices = notices.wrapping_add(told.changed.as_slice().len());
     }
     Ok(notices)
 }

@@ -2,7 +2,7 @@
 use crate::answers::{of_change, of_error, of_value};
 use crate::words::{name, next, value};
 use anyhow::bail;
-use fx_base::{Ledgers, Work};
+use fx_base::{Ledgers, List, Work};
 use fx_expr::read_expr;
 use fx_graph_model::Origin;
 use fx_handles::Owner;
@@ -140,7 +140,8 @@ fn forget<L: Ledgers>(
     for word in words {
         names.push(name(word)?)?;
     }
-    let answer = run.store.apply(alloc, Change::Forget(names), work);
+    let change = Change::Forget(List::from_vec(names));
+    let answer = run.store.apply(alloc, change, work);
     Ok(of_change(alloc, answer)?)
 }
 
@@ -201,7 +202,8 @@ fn publish<L: Ledgers>(
     }
     let mut pairs = Vec::new(alloc);
     pairs.push((name, value))?;
-    let answer = run.store.apply(alloc, Change::Publish(pairs), work);
+    let change = Change::Publish(List::from_vec(pairs));
+    let answer = run.store.apply(alloc, change, work);
     Ok(of_change(alloc, answer)?)
 }
 
@@ -220,7 +222,7 @@ fn bind<L: Ledgers>(
     if operands.len() != parsed.paths.as_slice().len() {
         bail!("each path has one operand");
     }
-    let change = Change::Bind(bound, parsed.expr, operands);
+    let change = Change::Bind(bound, parsed.expr, List::from_vec(operands));
     Ok(of_change(alloc, run.store.apply(alloc, change, work))?)
 }
 

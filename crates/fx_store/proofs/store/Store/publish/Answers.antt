@@ -12,14 +12,14 @@ pub returns-in-Some-clause-applied : goal.returns-in-Some-clause-applied
 returns-in-Some-clause-applied g c =
     refused_publish c.self.inside.graph c.self.inside.pairs c.self.inside.listeners c.self.inside.owners c.self.inside.behind
     c.args.self.now c.args.pairs c.as_slice-given.result.now c.in-Some.refusal c.from.result c.args.work.now.evaluated c.self.view_is
-    c.as_slice-given.ensures.value (sym c.refuses_publish.ensures ∙ c.in-Some.is) c.from.ensures
+    c.as_slice-given.ensures (sym c.refuses_publish.ensures ∙ c.in-Some.is) c.from.ensures
 
 pub returns-in_err-watch-clause-applied : goal.returns-in_err-watch-clause-applied
 returns-in_err-watch-clause-applied g c =
     let none : publish_refusal c.as_slice-given.result.now c.args.self.now.entries ≡ None =
     subst (λ (stored : Stored). publish_refusal c.as_slice-given.result.now stored.entries ≡ None) c.self.view_is
     (sym c.refuses_publish.ensures ∙ not_some c.refuses_publish.result c.in_default.not-Some) in
-    let allowed = allowed_publish c.args.self.now c.args.pairs c.as_slice-given.result.now c.as_slice-given.ensures.value none in
+    let allowed = allowed_publish c.args.self.now c.args.pairs c.as_slice-given.result.now c.as_slice-given.ensures none in
     let p = err_from_is_err_and c.from_residual.result c.from_residual.ensures.1 in
     rw (p.1, p.2) (step_unmade _ _ _ _ _ allowed c.look.ensures.same c.look.ensures.cost)
 
@@ -28,7 +28,7 @@ returns-in_err-publish-clause-applied g c =
     let none : publish_refusal c.as_slice-given.result.now c.args.self.now.entries ≡ None =
     subst (λ (stored : Stored). publish_refusal c.as_slice-given.result.now stored.entries ≡ None) c.self.view_is
     (sym c.refuses_publish.ensures ∙ not_some c.refuses_publish.result c.in_default.not-Some) in
-    let allowed = allowed_publish c.args.self.now c.args.pairs c.as_slice-given.result.now c.as_slice-given.ensures.value none in
+    let allowed = allowed_publish c.args.self.now c.args.pairs c.as_slice-given.result.now c.as_slice-given.ensures none in
     let p = err_from_is_err_and c.from_residual-in_err-publish.result c.from_residual-in_err-publish.ensures.1 in
     let view = c.self-2.view_is ∙ c.look.ensures.same in
     rw (p.1, p.2)
@@ -44,7 +44,7 @@ finish-requires-clause-known g c =
     under_publish c.self-2.inside.graph c.self-2.inside.pairs c.self-2.inside.listeners c.self-2.inside.owners c.self-2.inside.behind
     c.args.self.now c.publish.new.self c.args.pairs c.as_slice-given.result.now c.in_ok-watch.watch.names.items c.in_ok-watch.watch.heard.items
     c.in_ok-watch.watch.before.items c.args.work.now.evaluated c.look.new.work.evaluated (c.self-2.view_is ∙ c.look.ensures.same)
-    c.self-2.invariant (record { watch = c.in_ok-watch.ensures.watch; few = c.look.ensures.cost }) c.requires c.as_slice-given.ensures.value
+    c.self-2.invariant (record { watch = c.in_ok-watch.ensures.watch; few = c.look.ensures.cost }) c.requires c.as_slice-given.ensures
     (graph_ok (Unit {0}) _ c.in_ok-publish.field-0 c.in_ok-publish.ensures.answer) c.in_ok-publish.ensures.ok in
     under_known _ _ _ _ _ _ c.in_ok-watch.watch.names.items _ _ _ _ under
 
@@ -54,7 +54,7 @@ invariant_of-self-2 g c =
     under_publish c.self-2.inside.graph c.self-2.inside.pairs c.self-2.inside.listeners c.self-2.inside.owners c.self-2.inside.behind
     c.args.self.now c.publish.new.self c.args.pairs c.as_slice-given.result.now c.in_ok-watch.watch.names.items c.in_ok-watch.watch.heard.items
     c.in_ok-watch.watch.before.items c.args.work.now.evaluated c.look.new.work.evaluated (c.self-2.view_is ∙ c.look.ensures.same)
-    c.self-2.invariant (record { watch = c.in_ok-watch.ensures.watch; few = c.look.ensures.cost }) c.requires c.as_slice-given.ensures.value
+    c.self-2.invariant (record { watch = c.in_ok-watch.ensures.watch; few = c.look.ensures.cost }) c.requires c.as_slice-given.ensures
     (graph_ok (Unit {0}) _ c.in_ok-publish.field-0 c.in_ok-publish.ensures.answer) c.in_ok-publish.ensures.ok in
     c.finish.ensures.kept c.self-2.inside.pairs under.kept under.watched
 
@@ -64,6 +64,6 @@ returns-clause-applied g c =
     under_publish c.self-2.inside.graph c.self-2.inside.pairs c.self-2.inside.listeners c.self-2.inside.owners c.self-2.inside.behind
     c.args.self.now c.publish.new.self c.args.pairs c.as_slice-given.result.now c.in_ok-watch.watch.names.items c.in_ok-watch.watch.heard.items
     c.in_ok-watch.watch.before.items c.args.work.now.evaluated c.look.new.work.evaluated (c.self-2.view_is ∙ c.look.ensures.same)
-    c.self-2.invariant (record { watch = c.in_ok-watch.ensures.watch; few = c.look.ensures.cost }) c.requires c.as_slice-given.ensures.value
+    c.self-2.invariant (record { watch = c.in_ok-watch.ensures.watch; few = c.look.ensures.cost }) c.requires c.as_slice-given.ensures
     (graph_ok (Unit {0}) _ c.in_ok-publish.field-0 c.in_ok-publish.ensures.answer) c.in_ok-publish.ensures.ok in
     c.finish.ensures.told (Publish c.args.pairs) c.args.self.now c.self-2.inside.pairs c.args.work.now.evaluated under

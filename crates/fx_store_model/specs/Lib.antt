@@ -1,5 +1,6 @@
 pub mod Applied
 pub mod Causes
+pub mod Copies
 pub mod Making
 pub mod Refusals
 pub mod Step

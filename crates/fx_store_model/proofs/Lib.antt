@@ -1,2 +1,4 @@
 pub mod Grouping
+pub mod Leaving
+pub mod Readers
 pub mod Telling

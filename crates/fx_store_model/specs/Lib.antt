@@ -1,6 +1,7 @@
 pub mod Applied
 pub mod Causes
 pub mod Copies
+pub mod Laws
 pub mod Making
 pub mod Refusals
 pub mod Step

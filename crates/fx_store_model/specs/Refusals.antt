@@ -1,5 +1,6 @@
 -- When each change is refused, and with which error: in the order of the script's refusal words, each over all names.
-use Rattle.std.specs.Prelude.{ℕ, ◌≡◌, ◌==◌, ◌⊎◌, nat_le, Bool, if◌then◌else◌, ◌||◌, List, [], ◌∷◌, length, Option, Some, None, Result, Ok, Err}
+use Rattle.std.specs.Prelude.{ℕ, ◌≡◌, ◌==◌, ◌⊎◌, nat_le, Bool, if◌then◌else◌, not, ◌&&◌, ◌||◌, List, [], ◌∷◌, length, Option, Some, None, Result, Ok, Err}
+use Rattle.std.specs.List.{list_any, range_with_len}
 use Rattle.std.specs.Option.{option_map}
 use Rattle.fx_base.specs.Answers.{IsAnswer, or_else}
 use Rattle.fx_base.specs.Names.{numbers}
@@ -9,12 +10,12 @@ use Rattle.fx_handles.specs.declared.Owner.{Owner}
 use Rattle.fx_handles.specs.Living.{Register}
 use Rattle.fx_listen.specs.declared.entries.Listener.{Listener}
 use Rattle.fx_listen.specs.Listening.{has_life}
-use Rattle.fx_store_pairs.specs.Pairs.{is_paired}
+use Rattle.fx_store_pairs.specs.Pairs.{is_among, is_paired}
 use Rattle.fx_graph_model.specs.declared.entries.Entry.{Entry}
 use Rattle.fx_graph_model.specs.declared.errors.GraphError.{GraphError}
 use Rattle.fx_graph_model.specs.Equality.{same_kind}
 use Rattle.fx_graph_model.specs.Refusals.{IsFree, IsForgetRefusal, fit_refusal, kind_at, link_refusal, publish_refusal, read_only_in, set_refusal, unknown_name}
-use Rattle.fx_graph_model.specs.Uses.{bound_in}
+use Rattle.fx_graph_model.specs.Uses.{bound_in, uses}
 use Rattle.fx_store_model.specs.declared.changes.Change.{Change}
 use Rattle.fx_store_model.specs.declared.changes.Change.TheVariants.{Set, Publish, Bind, Unbind, Pair, Unpair, Listen, Unlisten, Forget}
 use Rattle.fx_store_model.specs.declared.errors.StoreError.{StoreError}
@@ -81,6 +82,15 @@ refusal (Listen name kind owner tag) stored =
     listen_refusal name owner stored.entries stored.owners.living stored.listeners stored.given
 refusal (Unlisten name kind owner tag) stored = unlisten_refusal name owner stored.entries stored.owners.living
 refusal (Forget names) stored = None
+
+-- it isn't one of these names, and it is bound to one of them
+abbrev pub is_outside_reader : List ℕ → List Entry → ℕ → Bool
+is_outside_reader names entries user =
+    not (is_among names user) && list_any (is_among names) (uses entries user)
+
+-- a name outside reads one of these
+unfoldable pub is_read_outside : List ℕ → List Entry → Bool
+is_read_outside names entries = list_any (is_outside_reader names entries) (range_with_len 0 (length entries))
 
 -- properties are forgotten just where all are known and no other one is bound to one of them
 abbrev pub IsForgetAnswer : {T : Type 0} → List Name → List Entry → Result T StoreError → Type 0

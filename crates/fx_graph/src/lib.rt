@@ -15,7 +15,7 @@ mod refusals;
 mod room;
 mod unbinding;
 
-ghost use Rattle.std.specs.Prelude.{ℕ, map, ◌≡◌, ◌≢◌, AllPairs, IsOk, None, true, ◌+◌, ◌≤◌, ◌<◌, length, IfOk, IfErr, OnOk, OnErr, false};
+ghost use Rattle.std.specs.Prelude.{ℕ, map, option_copied, ◌≡◌, ◌≢◌, AllPairs, IsOk, None, true, ◌+◌, ◌≤◌, ◌<◌, length, IfOk, IfErr, OnOk, OnErr, false};
 ghost use Rattle.fx_base.specs.declared.keys.Name.{Name as Named};
 ghost use Rattle.fx_base.specs.declared.values.Value.{Value as Content};
 ghost use Rattle.fx_base.specs.Printing.{kind_of};
@@ -30,6 +30,7 @@ ghost use Rattle.fx_graph_model.specs.Changes as changes;
 ghost use Rattle.fx_base.specs.Answers.{IsAnswer, IsFirmAnswer};
 ghost use Rattle.fx_graph_model.specs.Refusals as refusals;
 ghost use Rattle.fx_graph.specs.Given.{ArePlain, AreReadOnly};
+ghost use Rattle.fx_graph.specs.Known.{known_kind, known_value};
 ghost use Rattle.fx_graph.specs.Store.{origin_in};
 
 use crate::lists::Lists;
@@ -384,6 +385,27 @@ impl Graph {
         ensures { result ≡ unknown_in self.now.entries name.0 }
     {
         asking::is_unknown(self.lists.entries.as_slice(), name)
+    }
+
+    /// How many names were ever declared.
+    pub fn count(&self) -> usize
+        ensures { result ≡ length self.now.entries }
+    {
+        self.lists.entries.len()
+    }
+
+    /// The kind of a known property.
+    pub fn kind(&self, name: Name) -> Option<Kind>
+        ensures { result ≡ known_kind self.now.entries name.0 }
+    {
+        refusals::known_kind(self.lists.entries.as_slice(), name)
+    }
+
+    /// Lends the value of a known property that isn't unread.
+    pub fn value(&self, name: Name) -> Option<&Value>
+        ensures { option_copied result ≡ known_value self.now.entries self.now.unread name.0 }
+    {
+        looking::kept_of(&self.lists, name)
     }
 
     /// Whether two known properties are of one kind.

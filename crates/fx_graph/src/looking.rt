@@ -1,16 +1,32 @@
-//! Several names at once: read one after another, or looked at, so that all stay as unread as they were.
-ghost use Rattle.std.specs.Prelude.{ℕ, ◌≡◌, ◌≤◌, ◌<◌, ◌+◌, true, false, Contains, length, map, IfOk, OnOk, if◌then◌else◌};
+//! Several names at once: read one after another, or looked at, so that all stay as unread as they were. And one name,
+//! whose value is lent where it isn't unread.
+ghost use Rattle.std.specs.Prelude.{ℕ, ◌≡◌, ◌≤◌, ◌<◌, ◌+◌, true, false, Contains, length, map, option_copied, IfOk, OnOk, if◌then◌else◌};
 ghost use Rattle.fx_base.specs.Names.{numbers};
 ghost use Rattle.fx_graph_model.specs.Eager.{eager};
 ghost use Rattle.fx_graph_model.specs.Unread.{marked, evaluations_of};
 ghost use Rattle.fx_graph_model.specs.Changes.{after_read_all, IsSomeRead};
+ghost use Rattle.fx_graph.specs.Known.{known_value};
 ghost use Rattle.fx_graph.specs.Store.{Holds, shown};
 
-use crate::asking::is_marked;
+use crate::asking::{is_marked, is_unknown};
 use crate::lists::Lists;
 use crate::reading::value_of;
 use fx_base::{Ledgers, Name, Value, Work};
 use std::alloc::{AllocError, Global};
+
+/// The value that is kept of a known name, unless it is unread.
+pub fn kept_of(lists: &Lists, name: Name) -> Option<&Value>
+    requires { Holds lists.now }
+    ensures { option_copied result ≡ known_value lists.now.entries.items lists.now.unread.items name.0 }
+{
+    if is_unknown(lists.entries.as_slice(), name) {
+        return None;
+    }
+    if is_marked(lists.unread.as_slice(), name) {
+        return None;
+    }
+    Some(&lists.cache[name.0 as usize])
+}
 
 /// Reads known names, and gives their values.
 pub fn read_each<L: Ledgers>(

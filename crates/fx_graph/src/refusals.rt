@@ -7,6 +7,7 @@ ghost use Rattle.fx_graph_model.specs.Uses.{bound_in};
 ghost use Rattle.fx_graph_model.specs.Equality.{same_family, same_kind};
 ghost use Rattle.fx_base.specs.Answers.{refused_first};
 ghost use Rattle.fx_graph_model.specs.Refusals.{unknown_name, pair_names, wrong_kind, read_only_in, kind_at, set_refusal, publish_refusal};
+ghost use Rattle.fx_graph.specs.Known.{known_kind};
 
 use crate::asking::{is_bound, is_read_only, is_unknown};
 use fx_base::{Family, Kind, Name, Value};
@@ -46,6 +47,16 @@ pub fn kind_of(entries: &[Entry], name: Name) -> Kind
         None => Kind::Bool,
         Some(entry) => entry.kind,
     }
+}
+
+/// The kind of a known name.
+pub fn known_kind(entries: &[Entry], name: Name) -> Option<Kind>
+    ensures { result ≡ known_kind entries.now name.0 }
+{
+    if is_unknown(entries, name) {
+        return None;
+    }
+    Some(kind_of(entries, name))
 }
 
 /// Whether the two are of one kind.

@@ -1,7 +1,8 @@
 //! The store itself: its parts, what contracts see of them, and the calls that change nothing but one part.
-ghost use Rattle.std.specs.Prelude.{ℕ, ◌≡◌, ◌≢◌, ◌≤◌, ◌+◌, ◌↔◌, ◌==◌, ◌⊎◌, [], ◌∷◌, false, true, All, Contains, Err, IfErr, IfOk, IsTrue, OnErr, OnOk, length};
+ghost use Rattle.std.specs.Prelude.{ℕ, ◌≡◌, ◌≢◌, ◌≤◌, ◌+◌, ◌↔◌, ◌==◌, ◌⊎◌, [], ◌∷◌, false, true, All, Contains, Err, IfErr, IfOk, IsTrue, OnErr, OnOk, length, option_copied};
 ghost use Rattle.std.specs.List.{list_any};
 ghost use Rattle.fx_base.specs.Printing.{kind_of};
+ghost use Rattle.fx_graph.specs.Known.{known_kind, known_value};
 ghost use Rattle.fx_graph.specs.Store.{origin_in};
 ghost use Rattle.fx_handles.specs.Living.{after_make};
 ghost use Rattle.fx_listen.specs.Listening.{IsSound, is_live};
@@ -157,6 +158,27 @@ impl Store {
         ensures released { self.new ≡ after_end owner self.old }
     {
         self.owners.release(owner)
+    }
+
+    /// How many names were ever declared.
+    pub fn count(&self) -> usize
+        ensures { result ≡ length self.now.entries }
+    {
+        self.graph.count()
+    }
+
+    /// The kind of a known property.
+    pub fn kind(&self, name: Name) -> Option<Kind>
+        ensures { result ≡ known_kind self.now.entries name.0 }
+    {
+        self.graph.kind(name)
+    }
+
+    /// Lends the value of a known property that isn't unread.
+    pub fn value(&self, name: Name) -> Option<&Value>
+        ensures { option_copied result ≡ known_value self.now.entries self.now.unread name.0 }
+    {
+        self.graph.value(name)
     }
 
     /// Whether the property is bound.

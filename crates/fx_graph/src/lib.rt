@@ -259,6 +259,7 @@ impl Graph {
         ensures value { IfOk result (λ value. value ≡ eager self.old.entries name.0) }
         ensures again { marked self.old.unread name.0 ≡ false → self.new ≡ self.old }
         ensures ok { OnOk result (self.new ≡ changes.after_read name.0 self.old) }
+        ensures entries { self.new.entries ≡ self.old.entries }
         ensures memory { result ≡ Err GraphError.Memory → changes.IsReadInPart name.0 self.old self.new }
         ensures refused { IfErr result (λ error. error ≢ GraphError.Memory → self.new ≡ self.old) }
 

@@ -5,7 +5,7 @@ use Rattle.std.proofs.lemmas.List.Elements.{All-contains, All-filter}
 use Rattle.fx_base.specs.declared.kinds.Kind.{Kind}
 use Rattle.fx_base.specs.declared.values.Value.{Value}
 use Rattle.fx_store_model.specs.Making.{made_forget, made_unbind, with_group}
-use Rattle.fx_store_model.specs.Stored.{Stored}
+use Rattle.fx_store_model.specs.Stored.{Stored, with_unread}
 use Rattle.fx_store_model.proofs.Grouping.{set_group}
 use Rattle.fx_handles.specs.declared.Owner.{Owner}
 use Rattle.fx_handles.specs.Living.{Register, after_make, after_release}
@@ -50,6 +50,21 @@ reading_some name graph now read =
       fewer = reading_fewer graph.entries name graph.unread;
       newly = refl;
     })
+
+-- all but the flags is as before
+pub read_rest : (graph now : State) (pairs : List (ℕ × ℕ)) (table : Table) (owners : Register) → now.entries ≡ graph.entries
+    → stored_of now pairs table owners ≡ with_unread now.unread (stored_of graph pairs table owners)
+read_rest graph now pairs table owners same =
+    ap
+    (λ (entries : List Entry). record {
+      entries = entries;
+      unread = now.unread;
+      pairs = pairs;
+      listeners = living_in owners.living table.entries;
+      owners = owners;
+      given = table.given;
+    })
+    same
 
 -- a further property
 

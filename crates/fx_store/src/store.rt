@@ -131,6 +131,7 @@ impl Store {
         ensures ok { OnOk result (self.new
             ≡ with_unread (after_reading self.old.entries name.0 self.old.unread) self.old) }
         ensures memory { result ≡ Err StoreError.Memory → IsReadSome self.old self.new }
+        ensures rest { self.new ≡ with_unread self.new.unread self.old }
         ensures refused { IfErr result (λ error. error ≢ StoreError.Memory → self.new ≡ self.old) }
         ensures cost { work.new.evaluated ≤ work.old.evaluated + evaluations self.old.entries name.0 self.old.unread }
         ensures others { work.new ≡ record work.old { evaluated = work.new.evaluated } }

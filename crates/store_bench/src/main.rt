@@ -1,8 +1,6 @@
-//! Sets the first property of a chain of diamonds, with one change listener at its end, and makes owners that listen
-//! and
-//! are released, so many times each; it prints how many notices came. A script counts its instructions; no other crate
-//! stands on
-//! this one.
+//! Sets the first property of a chain of diamonds, with one change listener at its end and many on another property,
+//! and makes owners that listen and are released, so many times each; it prints how many notices came. A script counts
+//! its instructions; no other crate stands on this one.
 #![tactic(auto)]
 
 ghost use Rattle.std.specs.Prelude.{◌≡◌};
@@ -25,6 +23,8 @@ struct Rounds {
     sets: u64,
     /// An owner is made, listens and is released.
     owners: u64,
+    /// A change listener is added to a property that stays as it is.
+    listeners: u32,
 }
 
 fn main(rt: HostRuntime) -> anyhow::Result<()> {
@@ -32,12 +32,16 @@ fn main(rt: HostRuntime) -> anyhow::Result<()> {
     let _program = words.next();
     let (Some(diamonds), Some(sets), Some(owners)) = (words.next(), words.next(), words.next())
     else {
-        bail!("usage: store_bench DIAMONDS SETS OWNERS");
+        bail!("usage: store_bench DIAMONDS SETS OWNERS LISTENERS");
+    };
+    let Some(listeners) = words.next() else {
+        bail!("usage: store_bench DIAMONDS SETS OWNERS LISTENERS");
     };
     let diamonds = diamonds.as_str().parse::<u32>()?;
     let rounds = Rounds {
         sets: sets.as_str().parse::<u64>()?,
         owners: owners.as_str().parse::<u64>()?,
+        listeners: listeners.as_str().parse::<u32>()?,
     };
     let notices = start::<Brand>(
         rt.alloc(),
@@ -71,6 +75,7 @@ fn start<L: Ledgers>(
     let last = build(alloc, &mut store, diamonds, &mut work)?;
     let listen = Change::Listen(last, ListenKind::Change, None, 0);
     store.apply(alloc, listen, &mut work)?;
+    listen_often(alloc, &mut store, rounds.listeners, &mut work)?;
     let notices = set_often(alloc, &mut store, rounds.sets, &mut work)?;
     own_often(alloc, &mut store, last, rounds.owners, &mut work)?;
     Ok(notices)
@@ -109,6 +114,21 @@ fn bound<L: Ledgers>(
     let change = Change::Bind(name, parsed.expr, List::from_vec(operands));
     store.apply(alloc, change, work)?;
     Ok(name)
+}
+
+/// So many change listeners on a property of their own.
+fn listen_often<L: Ledgers>(
+    alloc: Global,
+    store: &mut Store,
+    listeners: u32,
+    work: &mut Work<L>,
+) -> anyhow::Result<()> {
+    let name = store.declare(alloc, Kind::Int, false, Value::Int(0))?;
+    for tag in 0..listeners {
+        let listen = Change::Listen(name, ListenKind::Change, None, tag);
+        store.apply(alloc, listen, work)?;
+    }
+    Ok(())
 }
 
 fn set_often<L: Ledgers>(

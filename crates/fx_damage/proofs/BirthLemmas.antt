@@ -21,7 +21,7 @@ among-with_birth : (b : ℕ) (cs : List ℕ) (k : ℕ) → is_among (with_birth 
 among-with_birth b [] k = refl
 among-with_birth b (c ∷ cs) k = grind (arith, among-with_birth b cs k)
 
-AllAbove-trans : (b c : ℕ) (cs : List ℕ) → b < c → AllAbove c cs → AllAbove b cs
+pub AllAbove-trans : (b c : ℕ) (cs : List ℕ) → b < c → AllAbove c cs → AllAbove b cs
 AllAbove-trans b c [] l a = tt
 AllAbove-trans b c (d ∷ ds) l a = (omega (arith, l, a.0), AllAbove-trans b c ds l a.1)
 
@@ -46,7 +46,7 @@ pub among-births : (entries : List Entry) (k : ℕ) → is_among (births_of entr
 among-births [] k = refl
 among-births (e ∷ es) k = among-with_birth e.key.birth (births_of es) k ∙ ap (λ t. e.key.birth == k || t) (among-births es k)
 
-above_none : (b : ℕ) (cs : List ℕ) (k : ℕ) → k ≤ b → AllAbove b cs → is_among cs k ≡ false
+pub above_none : (b : ℕ) (cs : List ℕ) (k : ℕ) → k ≤ b → AllAbove b cs → is_among cs k ≡ false
 above_none b [] k l h = refl
 above_none b (c ∷ cs) k l h = let n = above_none b cs k l h.1 in let g : k < c = omega (arith, l, h.0) in grind (arith, n, g)
 

@@ -1,125 +1,24 @@
 -- The damage that edits make is that between what stood at their places and what stands there then.
-use Rattle.std.proofs.Common.{◌≡◌, ◌<◌, ◌≤◌, ◌+◌, ◌==◌, ◌&&◌, ◌||◌, ℕ, suc, zero, Bool, true, false, cond, List, [], ◌∷◌, ◌++◌, length, get_or, set, map, Option, Some, None, refl, sym, ap, subst, ◌∙◌, inl, inr, arith, ◌⊎◌, pos, drop, append-nil}
-use Rattle.std.specs.Prelude.{IfNone, nat_eq}
-use Rattle.std.specs.Cmp.Lexicographic.{pointwise}
-use Rattle.std.specs.List.{filter, flat_map, list_any}
-use Rattle.std.proofs.lemmas.Bool.{cases_eq, cases_order}
-use Rattle.std.proofs.lemmas.Bool.Decides.{Decides-eqb, leb_tells, nat_tests}
-use Rattle.std.proofs.lemmas.List.{get_or-set_same, get_or-map, get_or-set_other, length-map}
+use Rattle.std.proofs.Common.{◌≡◌, ◌<◌, ◌≤◌, ◌+◌, ◌==◌, ◌||◌, ℕ, suc, zero, Bool, true, false, List, [], ◌∷◌, ◌++◌, length, get_or, set, Option, Some, None, refl, sym, ap, ◌∙◌, inl, inr, arith, ◌⊎◌, pos, drop, append-nil}
+use Rattle.std.proofs.lemmas.Bool.Decides.{Decides-eqb, nat_tests}
+use Rattle.std.proofs.lemmas.List.{drop_all, get_or-set_same, get_or-map, get_or-set_other, length-map}
 use Rattle.std.proofs.lemmas.List.Folds.{list_any-append}
-use Rattle.std.proofs.lemmas.Slice.Eq.{slice_eq-Decides}
-use Rattle.std.proofs.Math.ListN.{drop_of_length-le, length-set}
-use Rattle.fx_picture.specs.declared.edges.Bounds.{Bounds}
+use Rattle.std.proofs.Math.ListN.{length-set}
 use Rattle.fx_picture.specs.declared.entries.Entry.{Entry}
 use Rattle.fx_picture.specs.Entries.{HasDistinctBirths, entry_with}
-use Rattle.fx_picture.specs.Sameness.{is_same_shape}
-use Rattle.fx_picture.proofs.SamenessLemmas.{Decides-shapes}
 use Rattle.fx_damage.specs.declared.edits.Edit.{Edit}
-use Rattle.fx_damage.specs.Births.{AllAbove, RisesStrictly, birth_numbers, candidates, is_among}
-use Rattle.fx_damage.specs.Damage.{births_of, boxes_at, boxes_of, changed_boxes, stays}
-use Rattle.fx_damage.specs.Edits.{AreEdits, births_after, births_before, edited, entries_of, places_of, replaced}
-use Rattle.fx_damage.specs.Finding.{HasBirthAt, HasNoBirthIn, IsPlaceOf, StandsNowhere}
-use Rattle.fx_damage.proofs.BirthLemmas.{has_birth, among-births, rises-births, rises-filter, rising_same, among-filter, flat_map-filter}
-use Rattle.fx_damage.proofs.FindingLemmas.{entry_at, entry_none}
-
--- ---- any numbers that leave nothing out
-or_false : (a b : Bool) → (a || b) ≡ false → (a ≡ false) × (b ≡ false)
-or_false true b h = cc
-or_false false b h = (refl, h)
+use Rattle.fx_damage.specs.Births.{AllAbove, RisesStrictly, is_among}
+use Rattle.fx_damage.specs.Changes.{changed_nows, changed_olds, if_changed}
+use Rattle.fx_damage.specs.Damage.{births_of, boxes_at, boxes_of, changed_boxes}
+use Rattle.fx_damage.specs.Edits.{AreEdits, edited, entries_of, places_of, replaced}
+use Rattle.fx_damage.proofs.BirthLemmas.{has_birth, among-births, rises-births}
+use Rattle.fx_damage.proofs.BoxLemmas.{changed_among, flat_same, or_false, same_none}
+use Rattle.fx_damage.proofs.ChangeLemmas.{nows_more, olds_more}
+use Rattle.fx_damage.proofs.FindingLemmas.{Found, any_default, entry_at, entry_none, found, none_at, one_place}
 
 or_true : (a b : Bool) → (a || b) ≡ true → (a ≡ true) ⊎ (b ≡ true)
 or_true true b h = inl refl
 or_true false b h = inr h
-
-both_turn : (a b : Bool) → (a && b) ≡ (b && a)
-both_turn true true = refl
-both_turn true false = refl
-both_turn false true = refl
-both_turn false false = refl
-
-none_with : (es : List Entry) (b : ℕ) → has_birth es b ≡ false → entry_with b es ≡ None
-none_with [] b h = refl
-none_with (e ∷ es) b h = let parts = or_false (e.key.birth == b) (has_birth es b) h in rw parts.0 (none_with es b parts.1)
-
-unknown_none : (olds nows : List Entry) (b : ℕ) → is_among (births_of (olds ++ nows)) b ≡ false → boxes_at olds nows b ≡ []
-unknown_none olds nows b h =
-    let all : (has_birth olds b || has_birth nows b) ≡ false =
-    sym (list_any-append (λ (e : Entry). e.key.birth == b) olds nows) ∙ (sym (among-births (olds ++ nows) b) ∙ h) in
-    let parts = or_false (has_birth olds b) (has_birth nows b) all in
-    rw (none_with olds b parts.0, none_with nows b parts.1) refl
-
-pub changed_among : (olds nows : List Entry) (numbers : List ℕ) → RisesStrictly numbers
-    → ((b : ℕ) → is_among numbers b ≡ false → boxes_at olds nows b ≡ []) → changed_boxes olds nows ≡ flat_map (boxes_at olds nows) numbers
-changed_among olds nows numbers rises none =
-    let all = births_of (olds ++ nows) in
-    let f = boxes_at olds nows in
-    flat_map-filter f (is_among numbers) all none
-    ∙ (ap (λ r. flat_map f r) (rising_same (filter (is_among numbers) all) (filter (is_among all) numbers)
-    (rises-filter (is_among numbers) all (rises-births (olds ++ nows))) (rises-filter (is_among all) numbers rises)
-    (λ k. among-filter (is_among numbers) all k ∙ (both_turn (is_among numbers k) (is_among all k) ∙ sym (among-filter (is_among all) numbers k))))
-    ∙ sym (flat_map-filter f (is_among all) numbers (λ b h. unknown_none olds nows b h)))
-
-flat_same : (f g : ℕ → List Bounds) (ks : List ℕ) → ((k : ℕ) → is_among ks k ≡ true → f k ≡ g k) → flat_map f ks ≡ flat_map g ks
-flat_same f g [] h = refl
-flat_same f g (k ∷ ks) h =
-    let t : (k == k) ≡ true = (Decides-eqb k k).1 refl in
-    let here : f k ≡ g k = h k (rw t refl) in
-    let rest = flat_same f g ks (λ m q. h m (later (k == m) (is_among ks m) q)) in
-    rw (here, rest) refl
-  where
-    later : (a b : Bool) → b ≡ true → (a || b) ≡ true
-    later true b q = refl
-    later false b q = q
-
--- ---- a node that stays
-same_stays : (o : Option Entry) → stays o o ≡ true
-same_stays None = refl
-same_stays (Some e) =
-    let path = (slice_eq-Decides Decides-eqb e.path e.path (pointwise nat_eq e.path e.path) refl).1 refl in
-    let shapes = (Decides-shapes e.shapes e.shapes).1 refl in
-    rw (path, shapes) refl
-
-pub same_none : (o p : Option Entry) → o ≡ p → boxes_of o p ≡ []
-same_none o p e = let s : stays o p ≡ true = subst (λ (q : Option Entry). stays o q ≡ true) e (same_stays o) in rw s refl
-
--- ---- where an entry stands
-pub record Found (es : List Entry) (b : ℕ) (e : Entry) : Type 0 where
-  pub place : ℕ
-  pub within : place < length es
-  pub is : (d : Entry) → get_or es place d ≡ e
-  pub birth : e.key.birth ≡ b
-
-pub found : (es : List Entry) (b : ℕ) (e : Entry) → entry_with b es ≡ Some e → Found es b e
-found [] b e h = cc
-found (f ∷ fs) b e h = one (f.key.birth == b) refl h (λ r. found fs b e r)
-  where
-    one : (t : Bool) → (f.key.birth == b) ≡ t → cond t (Some f) (entry_with b fs) ≡ Some e → (entry_with b fs ≡ Some e → Found fs b e) → Found (f ∷ fs) b e
-    one true q h go =
-        let same : f ≡ e = cc in
-        record { place = 0; within = omega arith; is = λ d. same; birth = sym (ap (λ (g : Entry). g.key.birth) same) ∙ (Decides-eqb f.key.birth b).0 q }
-    one false q h go = let r = go h in record { place = suc r.place; within = omega (arith, r.within); is = λ d. r.is d; birth = r.birth }
-
-pub none_at : (es : List Entry) (b k : ℕ) (d : Entry) → entry_with b es ≡ None → k < length es → (get_or es k d).key.birth ≡ b → ⊥
-none_at [] b k d h l e = omega (arith, l)
-none_at (f ∷ fs) b zero d h l e = first (f.key.birth == b) refl h
-  where
-    first : (t : Bool) → (f.key.birth == b) ≡ t → cond t (Some f) (entry_with b fs) ≡ None → ⊥
-    first true q h = cc
-    first false q h = let t : (f.key.birth == b) ≡ true = (Decides-eqb f.key.birth b).1 e in cc
-none_at (f ∷ fs) b (suc k) d h l e = later (f.key.birth == b) h (λ r. none_at fs b k d r (omega (arith, l)) e)
-  where
-    later : (t : Bool) → cond t (Some f) (entry_with b fs) ≡ None → (entry_with b fs ≡ None → ⊥) → ⊥
-    later true h go = cc
-    later false h go = go h
-
--- one birth number stands at one place
-pub one_place : (es : List Entry) (b i j : ℕ) (d : Entry) → HasDistinctBirths es → i < length es → j < length es
-    → (get_or es i d).key.birth ≡ b → (get_or es j d).key.birth ≡ b → i ≡ j
-one_place [] b i j d h p q e f = omega (arith, p)
-one_place (g ∷ gs) b zero zero d h p q e f = refl
-one_place (g ∷ gs) b zero (suc j) d h p q e f = absurd (none_at gs g.key.birth j d h.0 (omega (arith, q)) (f ∙ sym e))
-one_place (g ∷ gs) b (suc i) zero d h p q e f = absurd (none_at gs g.key.birth i d h.0 (omega (arith, p)) (e ∙ sym f))
-one_place (g ∷ gs) b (suc i) (suc j) d h p q e f = ap suc (one_place gs b i j d h.1 (omega (arith, p)) (omega (arith, q)) e f)
 
 -- ---- entries picked from a list by rising places
 pub record Picks (ps : List ℕ) (xs zs : List Entry) : Type 0 where
@@ -137,7 +36,7 @@ above_at a [] j h l = absurd (omega (arith, l))
 above_at a (p ∷ ps) zero h l = h.0
 above_at a (p ∷ ps) (suc j) h l = above_at a ps j h.1 (omega (arith, l))
 
-rising_at : (ps : List ℕ) (i j : ℕ) → RisesStrictly ps → i < j → j < length ps → get_or ps i 0 < get_or ps j 0
+pub rising_at : (ps : List ℕ) (i j : ℕ) → RisesStrictly ps → i < j → j < length ps → get_or ps i 0 < get_or ps j 0
 rising_at [] i j h a b = absurd (omega (arith, b))
 rising_at (p ∷ ps) zero zero h a b = absurd (omega (arith, a))
 rising_at (p ∷ ps) (suc i) zero h a b = absurd (omega (arith, a))
@@ -148,7 +47,7 @@ pub distinct_from : (zs : List Entry) → ((i j : ℕ) (d : Entry) → i < j →
     → HasDistinctBirths zs
 distinct_from [] h = tt
 distinct_from (z ∷ zs) h = (
-  entry_none zs z.key.birth (λ j d a b e. h 0 (suc j) d (omega arith) (omega (arith, b)) (sym e)),
+  entry_none zs z.key.birth (λ j d b e. h 0 (suc j) d (omega arith) (omega (arith, b)) (sym e)),
   distinct_from zs (λ i j d a b e. h (suc i) (suc j) d (omega (arith, a)) (omega (arith, b)) e),
 )
 
@@ -227,7 +126,7 @@ module _ (ps : List ℕ) (xs ys zx zy : List Entry) (left : Picks ps xs zx) (rig
   unpicked b nx ny = by_option (entry_with b xs) (entry_with b xs ≡ entry_with b ys) none some
     where
       none : entry_with b xs ≡ None → entry_with b xs ≡ entry_with b ys
-      none h = h ∙ sym (entry_none ys b (λ k d p q e. by_test (is_among ps k) ⊥
+      none h = h ∙ sym (entry_none ys b (λ k d q e. by_test (is_among ps k) ⊥
           (λ t. (let i = index_of ps k t in
           let long = right.long in
           let here : get_or zy i.index d ≡ get_or ys k d = right.at i.index i.within d ∙ ap (λ n. get_or ys n d) i.is in
@@ -250,7 +149,7 @@ module _ (ps : List ℕ) (xs ys zx zy : List Entry) (left : Picks ps xs zx) (rig
   picked b has = by_option (entry_with b xs) (entry_with b xs ≡ entry_with b zx) none some
     where
       none : entry_with b xs ≡ None → entry_with b xs ≡ entry_with b zx
-      none h = h ∙ sym (entry_none zx b (λ i d p q e. (let long = left.long in
+      none h = h ∙ sym (entry_none zx b (λ i d q e. (let long = left.long in
           let l : i < length ps = omega (arith, q) in
           none_at xs b (get_or ps i 0) d h (left.within i l) (ap (λ (g : Entry). g.key.birth) (sym (left.at i l d)) ∙ e))))
 
@@ -334,11 +233,6 @@ edited_at (e ∷ es) xs (suc i) d h l w =
     edited_at es (set xs e.place e.entry) i d h.1 (omega (arith, l))
     (λ j b. (let n = w (suc j) (omega (arith, b)) in omega (arith, n, long)))
 
-any_default : (xs : List Entry) (i : ℕ) (d e : Entry) → i < length xs → get_or xs i d ≡ get_or xs i e
-any_default [] i d e h = absurd (omega (arith, h))
-any_default (x ∷ xs) zero d e h = refl
-any_default (x ∷ xs) (suc i) d e h = any_default xs i d e (omega (arith, h))
-
 replaced_at : (es : List Edit) (xs : List Entry) (i : ℕ) (d : Entry) → i < length es
     → ((j : ℕ) → j < length es → get_or (places_of es) j 0 < length xs) → get_or (replaced es xs) i d ≡ get_or xs (get_or (places_of es) i 0) d
 replaced_at [] xs i d l w = absurd (omega (arith, l))
@@ -380,25 +274,7 @@ replaced_distinct es xs a d = picks_distinct (places_of es) xs (replaced es xs) 
 pub put_distinct : (es : List Edit) (xs : List Entry) → AreEdits es (length xs) → HasDistinctBirths (edited es xs) → HasDistinctBirths (entries_of es)
 put_distinct es xs a d = picks_distinct (places_of es) (edited es xs) (entries_of es) a.rise (picks_edited es xs a) d
 
--- ---- entries by their birth numbers
-pub numbered : (es : List Entry) (b k : ℕ) (d : Entry) → HasDistinctBirths es → IsPlaceOf (birth_numbers es) b k → entry_with b es ≡ Some (get_or es k d)
-numbered es b k d distinct at =
-    let long : length (birth_numbers es) ≡ length es = length-map es _ in
-    let inside = at.within in
-    let within : k < length es = omega arith in
-    entry_at es b k d distinct (record { within = within; is = λ e. sym (get_or-map (λ (f : Entry). f.key.birth) es k e 0 within) ∙ at.is })
-
-pub unnumbered : (es : List Entry) (b : ℕ) → is_among (birth_numbers es) b ≡ false → entry_with b es ≡ None
-unnumbered [] b h = refl
-unnumbered (e ∷ es) b h =
-    let parts = or_false (e.key.birth == b) (is_among (birth_numbers es) b) h in rw parts.0 (unnumbered es b parts.1)
-
-pub stands_nowhere : (ns : List ℕ) (n : ℕ) → ((k : ℕ) → k < length ns → get_or ns k 0 ≡ n → ⊥) → is_among ns n ≡ false
-stands_nowhere [] n h = refl
-stands_nowhere (m ∷ ns) n h =
-    let t : (m == n) ≡ false = grind (arith, nat_tests, h 0 (omega arith)) in
-    let r = stands_nowhere ns n (λ k l. h (suc k) (omega (arith, l))) in rw (t, r) refl
-
+-- ---- one edit: what it replaces and what it puts there
 pub replaced_item : (es : List Edit) (xs : List Entry) (k : ℕ) (e : Edit) (x : Entry) → k < length es → (get_or es k e).place < length xs
     → get_or (replaced es xs) k x ≡ get_or xs (get_or es k e).place x
 replaced_item es xs k e x h within =
@@ -414,48 +290,45 @@ place_within es count k e a h =
     let same : get_or (places_of es) k 0 ≡ (get_or es k e).place = get_or-map (λ (f : Edit). f.place) es k e 0 h in
     omega (arith, n, same)
 
--- ---- a number that stands nowhere
-pub if_none : (r : Option ℕ) (P Q : Type 0) → (P → Q) → IfNone r P → IfNone r Q
-if_none None P Q f h = f h
-if_none (Some n) P Q f h = h
+edit_at : (es : List Edit) (xs : List Entry) (i : ℕ) (item : Edit) (x : Entry) → i < length es → item ≡ get_or es i item → AreEdits es (length xs)
+    → x ≡ get_or xs item.place x
+    → (i < length (replaced es xs)) × (i < length (entries_of es)) × (x ≡ get_or (replaced es xs) i x) × (item.entry ≡ get_or (entries_of es) i item.entry)
+edit_at es xs i item x l item_is a x_is =
+    let long = length-map es (λ (e : Edit). get_or xs e.place e.entry) in
+    let other = length-map es (λ (e : Edit). e.entry) in (
+      omega (arith, long, l),
+      omega (arith, other, l),
+      x_is ∙ (ap (λ (e : Edit). get_or xs e.place x) item_is ∙ sym (replaced_item es xs i item x l (place_within es (length xs) i item a l))),
+      ap (λ (e : Edit). e.entry) item_is ∙ sym (put_item es i item item.entry l),
+    )
 
-pub in_neither : (ns : List ℕ) (n start : ℕ) → StandsNowhere ns n start (length ns) → StandsNowhere ns n 0 start → is_among ns n ≡ false
-in_neither ns n start behind front = stands_nowhere ns n (λ k l e. elim (leb_tells start k) [
-  | inl t ↦ behind k t.1 l e
-  | inr t ↦ front k (omega arith) t.1 e
-])
+-- ---- the loop over edits
+pub edited_olds : (done more : List Entry) (es : List Edit) (xs : List Entry) (i : ℕ) (item : Edit) (x : Entry) → i < length es
+    → item ≡ get_or es i item → AreEdits es (length xs) → x ≡ get_or xs item.place x → more ≡ done ++ if_changed x item.entry x
+    → more ++ changed_olds (drop (i + 1) (replaced es xs)) (drop (i + 1) (entries_of es)) ≡ done ++ changed_olds (drop i (replaced es xs)) (drop i (entries_of es))
+edited_olds done more es xs i item x l item_is a x_is made =
+    let at = edit_at es xs i item x l item_is a x_is in
+    olds_more done more (replaced es xs) (entries_of es) i x item.entry at.0 at.1 at.2 at.3 made
 
-pub before_is : (es : List Edit) (xs : List Entry) → births_before es xs ≡ birth_numbers (replaced es xs)
-before_is [] xs = refl
-before_is (e ∷ es) xs = ap (λ l. (get_or xs e.place e.entry).key.birth ∷ l) (before_is es xs)
+pub edited_nows : (done more : List Entry) (es : List Edit) (xs : List Entry) (i : ℕ) (item : Edit) (x : Entry) → i < length es
+    → item ≡ get_or es i item → AreEdits es (length xs) → x ≡ get_or xs item.place x → more ≡ done ++ if_changed x item.entry item.entry
+    → more ++ changed_nows (drop (i + 1) (replaced es xs)) (drop (i + 1) (entries_of es)) ≡ done ++ changed_nows (drop i (replaced es xs)) (drop i (entries_of es))
+edited_nows done more es xs i item x l item_is a x_is made =
+    let at = edit_at es xs i item x l item_is a x_is in
+    nows_more done more (replaced es xs) (entries_of es) i x item.entry at.0 at.1 at.2 at.3 made
 
-pub after_is : (es : List Edit) → births_after es ≡ birth_numbers (entries_of es)
-after_is [] = refl
-after_is (e ∷ es) = ap (λ l. e.entry.key.birth ∷ l) (after_is es)
+pub olds_done : (done : List Entry) (es : List Edit) (xs : List Entry) (k : ℕ) → length es ≤ k
+    → done ++ changed_olds (drop k (replaced es xs)) (drop k (entries_of es)) ≡ done
+olds_done done es xs k past =
+    let long = length-map es (λ (e : Edit). get_or xs e.place e.entry) in
+    let one : drop k (replaced es xs) ≡ [] = drop_all k (replaced es xs) (omega (arith, long, past)) in
+    ap (λ l. done ++ changed_olds l (drop k (entries_of es))) one ∙ append-nil done
 
--- one edit more of those whose numbers were listed
-pub before_item : (xs : List Entry) (e : Edit) (x : Entry) → e.place < length xs → x ≡ get_or xs e.place x → x.key.birth ≡ (get_or xs e.place e.entry).key.birth
-before_item xs e x within at = ap (λ (f : Entry). f.key.birth) (at ∙ any_default xs e.place x e.entry within)
-
-pub all_listed : (done : List ℕ) (es : List Edit) (xs : List Entry) (k : ℕ) → length es ≤ k
-    → done ++ candidates (drop k (replaced es xs)) (drop k (entries_of es)) ≡ candidates (replaced es xs) (entries_of es) → done ≡ candidates (replaced es xs) (entries_of es)
-all_listed done es xs k past h =
+pub nows_done : (done : List Entry) (es : List Edit) (xs : List Entry) (k : ℕ) → length es ≤ k
+    → done ++ changed_nows (drop k (replaced es xs)) (drop k (entries_of es)) ≡ done
+nows_done done es xs k past =
     let long = length-map es (λ (e : Edit). get_or xs e.place e.entry) in
     let other = length-map es (λ (e : Edit). e.entry) in
-    let one_past : length (replaced es xs) ≤ k = omega (arith, long) in
-    let two_past : length (entries_of es) ≤ k = omega (arith, other) in
-    let one : drop k (replaced es xs) ≡ [] = drop_of_length-le (replaced es xs) {i = k} one_past in
-    let two : drop k (entries_of es) ≡ [] = drop_of_length-le (entries_of es) {i = k} two_past in
-    sym (append-nil done) ∙ (ap (λ l. done ++ l) (sym (ap (λ l. candidates l (drop k (entries_of es))) one ∙ ap (λ l. candidates [] l) two)) ∙ h)
-
-pub edit_at : (es : List Edit) (b k : ℕ) → IsPlaceOf (birth_numbers (entries_of es)) b k → k < length es
-edit_at es b k at =
-    let one : length (entries_of es) ≡ length es = length-map es _ in
-    let two : length (birth_numbers (entries_of es)) ≡ length (entries_of es) = length-map (entries_of es) _ in
-    let inside = at.within in omega arith
-
-pub replaced_at_place : (es : List Edit) (xs : List Entry) (b k : ℕ) → IsPlaceOf (birth_numbers (replaced es xs)) b k → k < length es
-replaced_at_place es xs b k at =
-    let one : length (replaced es xs) ≡ length es = length-map es _ in
-    let two : length (birth_numbers (replaced es xs)) ≡ length (replaced es xs) = length-map (replaced es xs) _ in
-    let inside = at.within in omega arith
+    let one : drop k (replaced es xs) ≡ [] = drop_all k (replaced es xs) (omega (arith, long, past)) in
+    let two : drop k (entries_of es) ≡ [] = drop_all k (entries_of es) (omega (arith, other, past)) in
+    ap (λ l. done ++ changed_nows l (drop k (entries_of es))) one ∙ (ap (λ l. done ++ l) two ∙ append-nil done)

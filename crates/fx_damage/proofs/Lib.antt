@@ -2,6 +2,8 @@ pub mod MergeLemmas
 pub mod BirthLemmas
 pub mod OutsideLemmas
 pub mod WindowLemmas
-pub mod CandidateLemmas
 pub mod FindingLemmas
+pub mod BoxLemmas
+pub mod ChangeLemmas
+pub mod OrderLemmas
 pub mod EditLemmas

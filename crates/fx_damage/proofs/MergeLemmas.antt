@@ -1,5 +1,5 @@
 -- Two pictures in pre-order show the same at a point, if each entry that shows there in one stands in the other too.
-use Rattle.std.proofs.Common.{◌≡◌, ◌≤◌, ◌+◌, ◌⊎◌, ◌||◌, ℕ, suc, zero, Bool, true, false, cond, List, [], ◌∷◌, ◌++◌, length, refl, sym, ap, subst, ◌∙◌, inl, inr, arith}
+use Rattle.std.proofs.Common.{◌≡◌, ◌≤◌, ◌+◌, ◌⊎◌, ◌||◌, ℕ, suc, zero, Bool, true, false, cond, List, [], ◌∷◌, length, refl, sym, ap, subst, ◌∙◌, inl, inr, arith}
 use Rattle.std.specs.Prelude.{All}
 use Rattle.std.specs.Cmp.Lexicographic.{slice_cmp}
 use Rattle.std.specs.List.{list_any}
@@ -14,7 +14,7 @@ use Rattle.fx_picture.specs.declared.entries.Entry.{Entry}
 use Rattle.fx_picture.specs.declared.shapes.Shape.{Shape}
 use Rattle.fx_picture.proofs.PixelLemmas.{over-append}
 use Rattle.fx_picture.specs.Entries.{IsBefore, Rises}
-use Rattle.fx_picture.specs.Pixels.{laid, over, shapes_of}
+use Rattle.fx_picture.specs.Pixels.{over, shapes_of}
 use Rattle.fx_base.specs.Pixel.{blended}
 use Rattle.fx_picture.specs.Shapes.{color_of, holds}
 

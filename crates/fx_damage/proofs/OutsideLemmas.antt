@@ -145,7 +145,7 @@ among-birth (f ∷ fs) e a = elim a [
   | inr more ↦ or_right (f.key.birth == e.key.birth) (has_birth fs e.key.birth) (among-birth fs e more)
 ]
 
-none_among : (es : List Entry) (b : ℕ) → entry_with b es ≡ None → has_birth es b ≡ false
+pub none_among : (es : List Entry) (b : ℕ) → entry_with b es ≡ None → has_birth es b ≡ false
 none_among [] b h = refl
 none_among (e ∷ es) b h = none (e.key.birth == b) h (λ r. none_among es b r)
   where
@@ -198,7 +198,7 @@ stays_back es b (Some e) f q s =
       shapes = (Decides-shapes e.shapes f.shapes).0 parts.1;
     }
 
-has-append : (es fs : List Entry) (b : ℕ) → has_birth (es ++ fs) b ≡ (has_birth es b || has_birth fs b)
+pub has-append : (es fs : List Entry) (b : ℕ) → has_birth (es ++ fs) b ≡ (has_birth es b || has_birth fs b)
 has-append es fs b = list_any-append (λ e. e.key.birth == b) es fs
 
 -- what is not covered lies within no box

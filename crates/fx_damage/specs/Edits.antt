@@ -23,10 +23,3 @@ replaced edits olds = map (λ (e : Edit). slice_index_or olds e.place e.entry) e
 
 abbrev pub entries_of : List Edit → List Entry
 entries_of edits = map (λ (e : Edit). e.entry) edits
-
--- their birth numbers
-abbrev pub births_before : List Edit → List Entry → List ℕ
-births_before edits olds = map (λ (e : Edit). (slice_index_or olds e.place e.entry).key.birth) edits
-
-abbrev pub births_after : List Edit → List ℕ
-births_after edits = map (λ (e : Edit). e.entry.key.birth) edits

@@ -1,6 +1,6 @@
 pub mod Births
+pub mod Changes
 pub mod Damage
 pub mod Edits
-pub mod Finding
 pub mod Laws
 pub mod Windows

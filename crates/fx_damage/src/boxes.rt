@@ -1,14 +1,15 @@
 //! The boxes of nodes, each cut to the window.
 ghost use Rattle.std.specs.Prelude.{◌≡◌, ◌++◌, ◌∷◌, [], IfOk, OnOk, Some, None, map};
-ghost use Rattle.std.specs.List.{flat_map};
 ghost use Rattle.std.specs.Option.{option_copied};
-ghost use Rattle.fx_damage.specs.Damage.{box_of, boxes_at, boxes_of, changed_boxes, cut_to, stays, two_boxes};
+ghost use Rattle.fx_damage.specs.Births.{RisesStrictly, birth_numbers};
+ghost use Rattle.fx_damage.specs.Changes.{lent};
+ghost use Rattle.fx_damage.specs.Damage.{box_of, boxes_of, changed_boxes, cut_to, stays, two_boxes};
 ghost use Rattle.fx_picture.specs.Bounds.{hull_of};
 ghost use Rattle.fx_picture.specs.Entries.{HasDistinctBirths};
 ghost use Rattle.fx_picture.specs.Shapes.{bounds};
 
-use crate::births::{changed_births, stays};
-use crate::finding::entry_with;
+use crate::changes::{add_changed, stays};
+use crate::ordering::{next_birth, sort_by_birth, take_with};
 use fx_picture::{Bounds, Entry, Shape, bounds, is_empty, joined, meeting, same_bounds};
 use std::alloc::{AllocError, Global};
 
@@ -31,36 +32,62 @@ pub(crate) fn changed_boxes(
     requires nows { HasDistinctBirths nows.now }
     ensures { IfOk result (λ boxes. boxes.items ≡ cut_to window (changed_boxes olds.now nows.now)) }
 {
-    let births = changed_births(alloc, olds, nows)?;
-    let boxes = boxes_with(alloc, births.as_slice(), olds, nows, window)?;
+    let mut changed_olds = Vec::new(alloc);
+    let mut changed_nows = Vec::new(alloc);
+    add_changed(&mut changed_olds, &mut changed_nows, olds, nows)?;
+    let boxes = boxes_between(alloc, changed_olds, changed_nows, window)?;
     Ok(boxes)
 }
 
-/// The boxes of the nodes with these birth numbers, each cut to the window.
-fn boxes_with(
+/// The boxes of the nodes that have these entries and don't stay.
+pub(crate) fn boxes_between(
     alloc: Global,
-    births: &[u32],
-    olds: &[Entry],
-    nows: &[Entry],
+    olds: Vec<&Entry>,
+    nows: Vec<&Entry>,
     window: Bounds,
 ) -> Result<Vec<Bounds>, AllocError>
-    requires olds { HasDistinctBirths olds.now }
-    requires nows { HasDistinctBirths nows.now }
-    ensures { IfOk result (λ boxes. boxes.items ≡ cut_to window (flat_map (boxes_at olds.now nows.now) births.now)) }
+    requires olds { HasDistinctBirths (lent olds.items) }
+    requires nows { HasDistinctBirths (lent nows.items) }
+    ensures { IfOk result (λ boxes. boxes.items
+        ≡ cut_to window (changed_boxes (lent olds.entry.items) (lent nows.entry.items))) }
+{
+    let mut rising_olds = olds;
+    let mut rising_nows = nows;
+    sort_by_birth(&mut rising_olds);
+    sort_by_birth(&mut rising_nows);
+    let boxes = merged_boxes(
+        alloc,
+        rising_olds.as_slice(),
+        rising_nows.as_slice(),
+        window,
+    )?;
+    Ok(boxes)
+}
+
+/// The same of entries in order of their birth numbers.
+fn merged_boxes(
+    alloc: Global,
+    olds: &[&Entry],
+    nows: &[&Entry],
+    window: Bounds,
+) -> Result<Vec<Bounds>, AllocError>
+    requires olds { RisesStrictly (birth_numbers (lent olds.now)) }
+    requires nows { RisesStrictly (birth_numbers (lent nows.now)) }
+    ensures { IfOk result (λ boxes. boxes.items ≡ cut_to window (changed_boxes (lent olds.now) (lent nows.now))) }
 {
     let mut boxes = Vec::new(alloc);
     let mut old_place = 0;
     let mut place = 0;
-    for birth in births {
-        let old = entry_with(olds, *birth, &mut old_place);
-        let now = entry_with(nows, *birth, &mut place);
+    while let Some(birth) = next_birth(olds, old_place, nows, place) {
+        let old = take_with(olds, birth, &mut old_place);
+        let now = take_with(nows, birth, &mut place);
         add_boxes(&mut boxes, old, now, window)?;
     }
     Ok(boxes)
 }
 
 /// Adds the boxes of a node that doesn't stay: the old one, and the new one if it is another.
-pub(crate) fn add_boxes(
+fn add_boxes(
     boxes: &mut Vec<Bounds>,
     old: Option<&Entry>,
     now: Option<&Entry>,

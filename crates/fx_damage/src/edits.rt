@@ -1,15 +1,12 @@
 //! The damage that edits of a picture make: only what stands at their places is looked at.
-ghost use Rattle.std.specs.Prelude.{◌≡◌, ◌≤◌, ◌<◌, IfNone, IfOk, IfSome, Some, false, length, slice_index_or};
-ghost use Rattle.std.specs.List.{flat_map};
-ghost use Rattle.std.specs.Option.{option_copied};
-ghost use Rattle.fx_damage.specs.Births.{candidates, is_among};
-ghost use Rattle.fx_damage.specs.Damage.{boxes_at, changed_boxes, cut_to, damage};
-ghost use Rattle.fx_damage.specs.Edits.{AreEdits, births_after, births_before, edited, entries_of, replaced};
-ghost use Rattle.fx_damage.specs.Finding.{IsPlaceOf, StandsNowhere};
-ghost use Rattle.fx_picture.specs.Entries.{HasDistinctBirths, entry_with};
+ghost use Rattle.std.specs.Prelude.{◌≡◌, ◌<◌, IfOk, OnOk, Some, ◌++◌, length, slice_index_or};
+ghost use Rattle.fx_damage.specs.Changes.{changed_nows, changed_olds, lent};
+ghost use Rattle.fx_damage.specs.Damage.{changed_boxes, cut_to, damage};
+ghost use Rattle.fx_damage.specs.Edits.{AreEdits, edited, entries_of, replaced};
+ghost use Rattle.fx_picture.specs.Entries.{HasDistinctBirths};
 
-use crate::births::{add_changed, ordered};
-use crate::boxes::add_boxes;
+use crate::boxes::boxes_between;
+use crate::changes::add_if_changed;
 use crate::rects::{joined_rects, window};
 use fx_base::Rect;
 use fx_picture::{Bounds, Entry, Picture};
@@ -54,66 +51,30 @@ fn edited_boxes(
     requires new { HasDistinctBirths (edited edits.now olds.now) }
     ensures { IfOk result (λ boxes. boxes.items ≡ cut_to window (changed_boxes olds.now (edited edits.now olds.now))) }
 {
-    let births = ordered(edited_births(alloc, olds, edits)?);
-    let boxes = boxes_between(alloc, births.as_slice(), olds, edits, window)?;
+    let mut changed_olds = Vec::new(alloc);
+    let mut changed_nows = Vec::new(alloc);
+    add_edited(&mut changed_olds, &mut changed_nows, olds, edits)?;
+    let boxes = boxes_between(alloc, changed_olds, changed_nows, window)?;
     Ok(boxes)
 }
 
-/// The birth numbers of what changes at the places of the edits.
-fn edited_births(alloc: Global, olds: &[Entry], edits: &[Edit]) -> Result<Vec<u32>, AllocError>
-    requires { AreEdits edits.now (length olds.now) }
-    ensures { IfOk result (λ births. births.items ≡ candidates (replaced edits.now olds.now) (entries_of edits.now)) }
+/// Adds what the edits replace and what they put there, unless that is one node that stays.
+fn add_edited<'a>(
+    olds: &mut Vec<&'a Entry>,
+    nows: &mut Vec<&'a Entry>,
+    entries: &'a [Entry],
+    edits: &'a [Edit],
+) -> Result<(), AllocError>
+    requires { AreEdits edits.now (length entries.now) }
+    ensures olds { OnOk result (lent olds.new.items
+        ≡ lent olds.old.items ++ changed_olds (replaced edits.now entries.now) (entries_of edits.now)) }
+    ensures nows { OnOk result (lent nows.new.items
+        ≡ lent nows.old.items ++ changed_nows (replaced edits.now entries.now) (entries_of edits.now)) }
 {
-    let mut births = Vec::new(alloc);
     for edit in edits {
-        add_changed(&mut births, entry_at(olds, edit.place), &edit.entry)?;
+        add_if_changed(olds, nows, entry_at(entries, edit.place), &edit.entry)?;
     }
-    Ok(births)
-}
-
-/// The boxes of the nodes with these birth numbers, each cut to the window.
-fn boxes_between(
-    alloc: Global,
-    births: &[u32],
-    olds: &[Entry],
-    edits: &[Edit],
-    window: Bounds,
-) -> Result<Vec<Bounds>, AllocError>
-    requires edits { AreEdits edits.now (length olds.now) }
-    requires old { HasDistinctBirths (replaced edits.now olds.now) }
-    requires new { HasDistinctBirths (entries_of edits.now) }
-    ensures { IfOk result (λ boxes. boxes.items
-        ≡ cut_to window (flat_map (boxes_at (replaced edits.now olds.now) (entries_of edits.now)) births.now)) }
-{
-    let old_births = births_before(alloc, olds, edits)?;
-    let new_births = births_after(alloc, edits)?;
-    let mut boxes = Vec::new(alloc);
-    let mut old_start = 0;
-    let mut new_start = 0;
-    for birth in births {
-        let old = replaced_with(olds, edits, old_births.as_slice(), *birth, &mut old_start);
-        let new = put_with(edits, new_births.as_slice(), *birth, &mut new_start);
-        add_boxes(&mut boxes, old, new, window)?;
-    }
-    Ok(boxes)
-}
-
-fn births_before(alloc: Global, olds: &[Entry], edits: &[Edit]) -> Result<Vec<u32>, AllocError>
-    requires { AreEdits edits.now (length olds.now) }
-    ensures { IfOk result (λ births. births.items ≡ births_before edits.now olds.now) }
-{
-    let mut births = Vec::with_capacity(alloc, edits.len())?;
-    for edit in edits {
-        births.push(birth_before(olds, edit))?;
-    }
-    Ok(births)
-}
-
-fn birth_before(olds: &[Entry], edit: &Edit) -> u32
-    requires { edit.now.place < length olds.now }
-    ensures { result ≡ (slice_index_or olds.now edit.now.place edit.now.entry).key.birth }
-{
-    entry_at(olds, edit.place).key.birth
+    Ok(())
 }
 
 fn entry_at<'a>(entries: &'a [Entry], place: usize) -> &'a Entry
@@ -121,82 +82,4 @@ fn entry_at<'a>(entries: &'a [Entry], place: usize) -> &'a Entry
     ensures { result.now ≡ slice_index_or entries.now place result.now }
 {
     &entries[place]
-}
-
-fn births_after(alloc: Global, edits: &[Edit]) -> Result<Vec<u32>, AllocError>
-    ensures { IfOk result (λ births. births.items ≡ births_after edits.now) }
-{
-    let mut births = Vec::with_capacity(alloc, edits.len())?;
-    for edit in edits {
-        births.push(edit.entry.key.birth)?;
-    }
-    Ok(births)
-}
-
-/// What an edit replaces of the node with this birth number. The search begins where the last one ended, since numbers
-/// mostly rise with the places.
-fn replaced_with<'a>(
-    olds: &'a [Entry],
-    edits: &[Edit],
-    births: &[u32],
-    birth: u32,
-    start: &mut usize,
-) -> Option<&'a Entry>
-    requires edits { AreEdits edits.now (length olds.now) }
-    requires births { births.now ≡ births_before edits.now olds.now }
-    requires distinct { HasDistinctBirths (replaced edits.now olds.now) }
-    ensures { option_copied result ≡ entry_with birth (replaced edits.now olds.now) }
-{
-    match place_of(births, birth, (*start).min(births.len())) {
-        Some(at) => {
-            *start = at + 1;
-            Some(entry_at(olds, edits[at].place))
-        }
-        None => None,
-    }
-}
-
-/// What an edit puts there of the node with this birth number.
-fn put_with<'a>(
-    edits: &'a [Edit],
-    births: &[u32],
-    birth: u32,
-    start: &mut usize,
-) -> Option<&'a Entry>
-    requires births { births.now ≡ births_after edits.now }
-    requires distinct { HasDistinctBirths (entries_of edits.now) }
-    ensures { option_copied result ≡ entry_with birth (entries_of edits.now) }
-{
-    match place_of(births, birth, (*start).min(births.len())) {
-        Some(at) => {
-            *start = at + 1;
-            Some(&edits[at].entry)
-        }
-        None => None,
-    }
-}
-
-/// Where a number stands, looked for from a place on, and then before it.
-fn place_of(numbers: &[u32], number: u32, start: usize) -> Option<usize>
-    requires { start ≤ length numbers.now }
-    ensures found { IfSome result (IsPlaceOf numbers.now number) }
-    ensures none { IfNone result (is_among numbers.now number ≡ false) }
-{
-    match number_in(numbers, number, start, numbers.len()) {
-        Some(place) => Some(place),
-        None => number_in(numbers, number, 0, start),
-    }
-}
-
-fn number_in(numbers: &[u32], number: u32, start: usize, end: usize) -> Option<usize>
-    requires { end ≤ length numbers.now }
-    ensures found { IfSome result (IsPlaceOf numbers.now number) }
-    ensures none { IfNone result (StandsNowhere numbers.now number start end) }
-{
-    for place in start..end {
-        if numbers[place] == number {
-            return Some(place);
-        }
-    }
-    None
 }

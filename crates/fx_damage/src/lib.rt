@@ -4,10 +4,10 @@
 
 ghost use Rattle.fx_damage.specs.Laws.{SameOutside};
 
-mod births;
 mod boxes;
+mod changes;
 mod edits;
-mod finding;
+mod ordering;
 mod rects;
 
 pub use edits::{Edit, damage_of_edits};

@@ -1,7 +1,7 @@
 use Rattle.std.proofs.Common.{◌≡◌, ◌∙◌, ◌++◌, ◌∷◌, [], ap, sym, false, append_assoc}
 use Rattle.fx_damage.specs.Damage.{cut_to}
 use Rattle.fx_picture.specs.Bounds.{are_same}
-use Rattle.fx_damage.proofs.CandidateLemmas.{cut-append}
+use Rattle.fx_damage.proofs.BoxLemmas.{cut-append}
 use Rattle.fx_damage.proofs.boxes.add_two.Goals as goal
 
 pub returns : goal.returns

@@ -1,13 +1,25 @@
-use Rattle.std.proofs.Common.{◌∙◌, List, ℕ, ap, sym}
-use Rattle.std.specs.List.{flat_map}
-use Rattle.fx_damage.specs.Damage.{boxes_at, cut_to}
-use Rattle.fx_damage.proofs.CandidateLemmas.{changed_by}
+-- what may have changed has distinct numbers, and gives all boxes
+use Rattle.std.proofs.Common.{List, sym, subst}
+use Rattle.fx_picture.specs.declared.entries.Entry.{Entry}
+use Rattle.fx_picture.specs.Entries.{HasDistinctBirths}
+use Rattle.fx_damage.proofs.BoxLemmas.{lent_from_none}
+use Rattle.fx_damage.proofs.ChangeLemmas.{boxes_made, distinct_nows, distinct_olds}
 use Rattle.fx_damage.proofs.boxes.changed_boxes.Goals as goal
+
+pub boxes_between-requires-clause-olds : goal.boxes_between-requires-clause-olds
+boxes_between-requires-clause-olds c =
+    subst (λ (l : List Entry). HasDistinctBirths l)
+    (sym (lent_from_none _ _ _ c.new-changed_olds.ensures.items c.in_ok-add_changed.ensures.olds))
+    (distinct_olds c.args.olds.now c.args.nows.now c.requires.olds)
+
+pub boxes_between-requires-clause-nows : goal.boxes_between-requires-clause-nows
+boxes_between-requires-clause-nows c =
+    subst (λ (l : List Entry). HasDistinctBirths l)
+    (sym (lent_from_none _ _ _ c.new-changed_nows.ensures.items c.in_ok-add_changed.ensures.nows))
+    (distinct_nows c.args.olds.now c.args.nows.now c.requires.nows)
 
 pub returns : goal.returns
 returns c =
-    let olds = c.args.olds.now in
-    let nows = c.args.nows.now in
-    c.in_ok-boxes.ensures
-    ∙ ap (cut_to c.args.window) (ap (λ (l : List ℕ). flat_map (boxes_at olds nows) l) c.as_slice.ensures.value
-    ∙ sym (changed_by olds nows c.in_ok-births.births.items c.in_ok-births.ensures.rising c.in_ok-births.ensures.members))
+    boxes_made c.args.window _ _ _ c.args.olds.now c.args.nows.now c.in_ok-boxes.ensures
+    (lent_from_none _ _ _ c.new-changed_olds.ensures.items c.in_ok-add_changed.ensures.olds)
+    (lent_from_none _ _ _ c.new-changed_nows.ensures.items c.in_ok-add_changed.ensures.nows) c.requires.olds c.requires.nows

@@ -7,3 +7,4 @@ pub mod BoxLemmas
 pub mod ChangeLemmas
 pub mod OrderLemmas
 pub mod EditLemmas
+pub mod CheckLemmas

@@ -6,10 +6,12 @@ ghost use Rattle.fx_damage.specs.Laws.{SameOutside};
 
 mod boxes;
 mod changes;
+mod checks;
 mod edits;
 mod ordering;
 mod rects;
 
+pub use checks::{are_edits, has_distinct_births, keep_births_distinct};
 pub use edits::{Edit, damage_of_edits};
 pub use rects::damage;
 

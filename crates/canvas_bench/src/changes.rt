@@ -1,66 +1,77 @@
-//! The damage between two pictures of 4,000 nodes of which one changes.
-ghost use Rattle.std.specs.Prelude.{◌≡◌, IsTrue, None};
-ghost use Rattle.fx_picture.specs.Entries.{HasDistinctBirths, entry_with};
-
-use crate::pictures::{many, small};
+//! The damage between two pictures of small nodes, and that of edits which make the one of the other.
+use crate::pictures::{Change, entries, node, opacity_of};
 use anyhow::bail;
 use fx_base::{List, Rect};
-use fx_damage::damage;
-use fx_picture::{Entry, Picture};
+use fx_damage::{
+    Edit, are_edits, damage, damage_of_edits, has_distinct_births, keep_births_distinct,
+};
+use fx_picture::Picture;
 use std::alloc::Global;
 
-/// How many nodes show.
-const COUNT: u32 = 4000;
-
-/// The place of the node that changes.
-const CHANGED: usize = 2345;
-
-/// Works out the damage so many times, and adds up the areas.
-pub fn damaged(alloc: Global, rounds: u32) -> anyhow::Result<u32> {
-    let old = many(alloc, COUNT)?;
-    let mut new = many(alloc, COUNT)?;
-    if CHANGED < new.len() {
-        new[CHANGED] = small(alloc, 2345, 100)?;
-    }
-    if !are_distinct(old.as_slice()) || !are_distinct(new.as_slice()) {
+/// Works out the damage between both pictures so many times, and adds up the areas.
+pub fn damaged(alloc: Global, change: Change, rounds: u32) -> anyhow::Result<u32> {
+    let old = picture(alloc, change, false)?;
+    let new = picture(alloc, change, true)?;
+    if !has_distinct_births(alloc, &old)? || !has_distinct_births(alloc, &new)? {
         bail!("two nodes have one birth number");
     }
-    let old = Picture {
-        entries: List::from_vec(old),
-    };
-    let new = Picture {
-        entries: List::from_vec(new),
-    };
     let mut sum = 0u32;
     for _ in 0..rounds {
-        for rect in damage(alloc, Some(&old), &new, 1000, 1000)? {
-            sum = sum.wrapping_add(area(rect));
-        }
+        sum = added(sum, damage(alloc, Some(&old), &new, 1000, 1000)?.as_slice());
     }
     Ok(sum)
+}
+
+/// The same of the edits.
+pub fn edited(alloc: Global, change: Change, rounds: u32) -> anyhow::Result<u32> {
+    let old = picture(alloc, change, false)?;
+    let all = edits(alloc, change)?;
+    let edits = all.as_slice();
+    if !are_edits(&old, edits) || !has_distinct_births(alloc, &old)? {
+        bail!("places that don't rise, or two nodes with one birth number");
+    }
+    if !keep_births_distinct(alloc, &old, edits)? {
+        bail!("an edit makes a second node with one birth number");
+    }
+    let mut sum = 0u32;
+    for _ in 0..rounds {
+        sum = added(
+            sum,
+            damage_of_edits(alloc, &old, edits, 1000, 1000)?.as_slice(),
+        );
+    }
+    Ok(sum)
+}
+
+fn picture(alloc: Global, change: Change, new: bool) -> anyhow::Result<Picture> {
+    Ok(Picture {
+        entries: List::from_vec(entries(alloc, change, new)?),
+    })
+}
+
+fn edits(alloc: Global, change: Change) -> anyhow::Result<Vec<Edit>> {
+    let mut edits = Vec::new(alloc);
+    for place in 0..change.count {
+        if change.changes(place) {
+            edits.push(Edit {
+                place: place as usize,
+                entry: node(alloc, change.birth(place), place, opacity_of(true))?,
+            })?;
+        }
+    }
+    Ok(edits)
+}
+
+fn added(sum: u32, rects: &[Rect]) -> u32 {
+    let mut all = sum;
+    for rect in rects {
+        all = all.wrapping_add(area(*rect));
+    }
+    all
 }
 
 fn area(rect: Rect) -> u32 {
     let w = u32::try_from(rect.w).unwrap_or(0);
     let h = u32::try_from(rect.h).unwrap_or(0);
     w.wrapping_mul(h)
-}
-
-/// Whether no two entries have one birth number.
-fn are_distinct(entries: &[Entry]) -> bool
-    ensures { IsTrue result → HasDistinctBirths entries.now }
-{
-    match entries {
-        [] => true,
-        [first, rest @ ..] => is_without(rest, first.key.birth) && are_distinct(rest),
-    }
-}
-
-fn is_without(entries: &[Entry], birth: u32) -> bool
-    ensures { IsTrue result → entry_with birth entries.now ≡ None }
-{
-    match entries {
-        [] => true,
-        [first, rest @ ..] => first.key.birth != birth && is_without(rest, birth),
-    }
 }

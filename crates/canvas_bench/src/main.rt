@@ -1,4 +1,4 @@
-//! Repaints a window of 1,000 by 1,000 pixels, or works out the damage of a picture in which one entry changed, so many
+//! Repaints a window of 1,000 by 1,000 pixels, or works out the damage of a picture whose nodes changed, so many
 //! times, and prints a checksum. A script counts its instructions; no other crate stands on this one.
 #![tactic(auto)]
 
@@ -8,11 +8,11 @@ mod pictures;
 ghost use Rattle.std.specs.Prelude.{◌≡◌};
 
 use anyhow::bail;
-use changes::damaged;
+use changes::{damaged, edited};
 use fx_base::{Ledgers, Rect, Work};
 use fx_canvas::Canvas;
 use fx_picture::Picture;
-use pictures::{filled, lettered, nothing};
+use pictures::{Change, filled, lettered, nothing};
 use std::alloc::Global;
 use std::env;
 use std::marker::Brand;
@@ -25,22 +25,32 @@ enum Task {
     Fill,
     Blend,
     Letters,
-    Damage,
+    Damage(Change),
+    Edits(Change),
 }
 
 /// How many columns and rows the window has.
 const SIDE: u32 = 1000;
 
+/// How many nodes show, where no word says so.
+const COUNT: u32 = 4000;
+
 fn main(rt: HostRuntime) -> anyhow::Result<()> {
     let mut words = env::args(&rt)?;
     let _program = words.next();
     let (Some(task), Some(rounds)) = (words.next(), words.next()) else {
-        bail!("usage: canvas_bench white|fill|blend|letters|damage ROUNDS");
+        bail!(
+            "usage: canvas_bench white|fill|blend|letters|damage|edits|falling|falling-edits ROUNDS [COUNT]"
+        );
     };
     let rounds = rounds.as_str().parse::<u32>()?;
+    let count = match words.next() {
+        Some(word) => word.as_str().parse::<u32>()?,
+        None => COUNT,
+    };
     let sum = start::<Brand>(
         rt.alloc(),
-        task_of(task.as_str()),
+        task_of(task.as_str(), count),
         rounds,
         Blank::new(1),
         Blank::new(1),
@@ -51,13 +61,30 @@ fn main(rt: HostRuntime) -> anyhow::Result<()> {
     Ok(())
 }
 
-fn task_of(word: &str) -> Task {
+fn task_of(word: &str, count: u32) -> Task {
     match word {
-        "damage" => Task::Damage,
+        "damage" => Task::Damage(one_of(count)),
+        "edits" => Task::Edits(one_of(count)),
+        "falling" => Task::Damage(all_falling(count)),
+        "falling-edits" => Task::Edits(all_falling(count)),
         "fill" => Task::Fill,
         "blend" => Task::Blend,
         "letters" => Task::Letters,
         _ => Task::White,
+    }
+}
+
+fn one_of(count: u32) -> Change {
+    Change {
+        count,
+        falling: false,
+    }
+}
+
+fn all_falling(count: u32) -> Change {
+    Change {
+        count,
+        falling: true,
     }
 }
 
@@ -77,7 +104,8 @@ fn start<L: Ledgers>(
 {
     let mut work: Work<L> = Work::new(evaluated, styled, laid, painted);
     match task {
-        Task::Damage => damaged(alloc, rounds),
+        Task::Damage(change) => damaged(alloc, change, rounds),
+        Task::Edits(change) => edited(alloc, change, rounds),
         Task::Fill => painted_often(alloc, &filled(alloc, 255)?, rounds, &mut work),
         Task::Blend => painted_often(alloc, &filled(alloc, 128)?, rounds, &mut work),
         Task::Letters => painted_often(alloc, &lettered(alloc)?, rounds, &mut work),

@@ -64,7 +64,7 @@ fn picture_of(alloc: Global, shapes: Vec<Shape>) -> Result<Picture, AllocError> 
 }
 
 /// A node at this place among the children of the root.
-pub fn entry_of(
+fn entry_of(
     alloc: Global,
     birth: u32,
     place: u32,
@@ -80,17 +80,46 @@ pub fn entry_of(
     })
 }
 
-/// So many nodes of 10 by 10 pixels, each with a background and a line of text.
-pub fn many(alloc: Global, count: u32) -> anyhow::Result<Vec<Entry>> {
+/// What changes: one of so many nodes, or all of them where their birth numbers fall from place to place.
+#[derive(Clone, Copy)]
+pub struct Change {
+    pub count: u32,
+    pub falling: bool,
+}
+
+impl Change {
+    /// Whether the node at this place changes.
+    pub fn changes(self, place: u32) -> bool {
+        self.falling || place == self.count / 2
+    }
+
+    /// The birth number of the node at this place.
+    pub fn birth(self, place: u32) -> u32 {
+        if self.falling {
+            self.count.wrapping_sub(place)
+        } else {
+            place.wrapping_add(1)
+        }
+    }
+}
+
+/// Nodes of 10 by 10 pixels, each with a background and a line of text, before or after the change.
+pub fn entries(alloc: Global, change: Change, new: bool) -> anyhow::Result<Vec<Entry>> {
     let mut entries = Vec::new(alloc);
-    for place in 0..count {
-        entries.push(small(alloc, place, 255)?)?;
+    for place in 0..change.count {
+        let opacity = opacity_of(new && change.changes(place));
+        entries.push(node(alloc, change.birth(place), place, opacity)?)?;
     }
     Ok(entries)
 }
 
+/// How opaque the background of a node is.
+pub fn opacity_of(changed: bool) -> u8 {
+    if changed { 100 } else { 255 }
+}
+
 /// The node at this place.
-pub fn small(alloc: Global, place: u32, opacity: u8) -> anyhow::Result<Entry> {
+pub fn node(alloc: Global, birth: u32, place: u32, opacity: u8) -> anyhow::Result<Entry> {
     let rect = Rect {
         x: i64::from(place % 100 * 10),
         y: i64::from(place / 100 * 10),
@@ -110,5 +139,5 @@ pub fn small(alloc: Global, place: u32, opacity: u8) -> anyhow::Result<Entry> {
         clip: rect,
         color: color(255),
     })?;
-    Ok(entry_of(alloc, place.wrapping_add(1), place, shapes)?)
+    Ok(entry_of(alloc, birth, place, shapes)?)
 }

@@ -24,7 +24,8 @@ pub(crate) fn next_birth(
     nows: &[&Entry],
     place: usize,
 ) -> Option<u32>
-    ensures { result ≡ lesser (first_birth (drop old_place (lent olds.now))) (first_birth (drop place (lent nows.now))) }
+    ensures { result
+        ≡ lesser (first_birth (drop old_place (lent olds.now))) (first_birth (drop place (lent nows.now))) }
 {
     lesser(first_birth(olds, old_place), first_birth(nows, place))
 }

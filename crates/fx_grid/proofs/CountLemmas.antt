@@ -1,18 +1,15 @@
 -- No child covers a track behind the last one.
-use Rattle.std.proofs.Common.{◌≡◌, ℕ, ◌+◌, ◌∙◌, List, [], ◌∷◌, length, map, All, ap, Result, Ok, Err, Vec, Global, arith}
-use Rattle.std.specs.Prelude.{IfOk}
-use Rattle.std.specs.List.{range_with_len}
+use Rattle.std.proofs.Common.{◌≡◌, ℕ, ◌+◌, List, [], ◌∷◌, length, map, All, arith}
 use Rattle.std.proofs.lemmas.List.FromFn.{length-map-range_with_len}
 use Rattle.std.proofs.lemmas.List.Elements.{All-cons, All-nil, All-weaker}
 use Rattle.fx_base.specs.declared.facts.ChildSize.{ChildSize}
 use Rattle.fx_base.specs.declared.facts.Track.{Track}
 use Rattle.fx_panes_parts.specs.declared.axes.Axis.{Axis}
 use Rattle.fx_panes_parts.specs.declared.axes.ChildAxis.{ChildAxis}
-use Rattle.fx_panes_parts.specs.declared.parts.Part.{Part}
 use Rattle.fx_panes.specs.declared.rules.Bound.{Bound}
 use Rattle.fx_panes_parts.specs.Axes.{along}
 use Rattle.fx_panes_parts.specs.Parts.{greatest_of}
-use Rattle.fx_grid.specs.Tracks.{IsWithin, length_alone, lengths_alone, track_count, track_of}
+use Rattle.fx_grid.specs.Tracks.{IsWithin, length_alone, lengths_alone, track_count}
 
 -- where the children end along an axis at most
 abbrev ends : Axis → List ChildSize → ℕ
@@ -36,13 +33,3 @@ pub length-lengths_alone : (bound : Bound) (given : List Track) (children : List
     → length (lengths_alone bound given children) ≡ track_count given children
 length-lengths_alone bound given children =
     length-map-range_with_len (length_alone bound given children) 0 (track_count given children)
-
--- and there is a track for each
-pub length-tracks : {E : Type 0} (axis : Axis) (given : List Track) (children : List ChildSize) (leasts wishes : List ℕ)
-    (result : Result (Vec Part Global) E)
-    → IfOk result (λ tracks. tracks.items
-    ≡ map (track_of given (along axis children) leasts wishes) (range_with_len 0 (track_count given (along axis children))))
-    → IfOk result (λ tracks. length tracks.items ≡ track_count given (along axis children))
-length-tracks axis given children leasts wishes (Ok tracks) are =
-    ap length are ∙ length-map-range_with_len (track_of given (along axis children) leasts wishes) 0 _
-length-tracks axis given children leasts wishes (Err error) are = are

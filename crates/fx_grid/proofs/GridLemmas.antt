@@ -1,6 +1,5 @@
 -- Grids by what was worked out before, and what they are across.
-use Rattle.std.proofs.Common.{◌≡◌, ℕ, ℤ, ◌+◌, ◌-◌, ◌^◌, ◌<◌, ◌≤◌, All, List, [], ◌∷◌, length, map, sum_by, Result, Ok, Err, Vec, Global, refl, sym, ◌∙◌, ap, arith}
-use Rattle.std.specs.Prelude.{IfOk}
+use Rattle.std.proofs.Common.{◌≡◌, ℕ, ℤ, ◌+◌, List, [], ◌∷◌, length, map, sum_by, refl, sym, ◌∙◌, ap, arith}
 use Rattle.std.specs.Simd.Lanes.{zip2}
 use Rattle.std.proofs.lemmas.List.{length-map}
 use Rattle.fx_base.specs.declared.facts.ChildSize.{ChildSize}
@@ -13,16 +12,15 @@ use Rattle.fx_panes_parts.specs.declared.axes.Extent.{Extent}
 use Rattle.fx_panes_parts.specs.declared.axes.PaneAxis.{PaneAxis}
 use Rattle.fx_panes_parts.specs.declared.axes.Span.{Span}
 use Rattle.fx_panes_parts.specs.declared.parts.Part.{Part}
-use Rattle.fx_panes_parts.specs.Axes.{along, child_axis, content, gaps, insets, pane_axis, rect_of}
+use Rattle.fx_panes_parts.specs.Axes.{along, child_axis, gaps, insets, pane_axis, rect_of}
 use Rattle.fx_panes_parts.specs.Lengths.{pixels}
 use Rattle.fx_panes_parts.specs.Panes.{across_of}
 use Rattle.fx_panes_parts.specs.Sizes.{pane_extent}
-use Rattle.fx_panes_parts.specs.Tracks.{tracked}
 use Rattle.fx_panes_parts.proofs.PaneLemmas.{OneEach}
-use Rattle.fx_grid.specs.Grid.{AreLengths, IsGridAcrossFirst, grid_extent, grid_lengths, grid_rects, grid_span, grid_spans, grid_start}
+use Rattle.fx_grid.specs.Grid.{IsGridAcrossFirst, grid_extent, grid_lengths, grid_rects, grid_span, grid_spans, grid_start}
 use Rattle.fx_grid.specs.Tracks.{track_count, tracks_of}
-use Rattle.fx_grid.proofs.CountLemmas.{within_count}
 
+-- the extent by what was worked out before
 pub extent_is : (given : List Track) (facts pane : PaneAxis) (children : List ChildAxis) (around between count : ℕ)
     (tracks : List Part) (extent : Extent)
     → facts ≡ pane → around ≡ insets facts → between ≡ gaps facts.gap count → count ≡ track_count given children
@@ -33,31 +31,6 @@ pub extent_is : (given : List Track) (facts pane : PaneAxis) (children : List Ch
 unfolding grid_extent
 extent_is given facts pane children around between count tracks extent facts_is around_is between_is count_is tracks_are is =
     rw (is, around_is, between_is, count_is, tracks_are, facts_is) refl
-
-pub lengths_are : {E : Type 0} (given : List Track) (facts pane : PaneAxis) (children : List ChildAxis)
-    (n space between count room : ℕ) (shown tracks : List Part) (result : Result (Vec ℕ Global) E)
-    → facts ≡ pane → space ≡ content facts n → between ≡ gaps facts.gap count → count ≡ track_count given children
-    → room ≡ space - between → shown ≡ tracks → tracks ≡ tracks_of facts.gap given children
-    → IfOk result (λ lengths. lengths.items ≡ tracked room shown)
-    → IfOk result (λ lengths. lengths.items ≡ grid_lengths given pane children n)
-unfolding grid_lengths
-lengths_are given facts pane children n space between count room shown tracks (Ok lengths)
-    facts_is space_is between_is count_is room_is shown_is tracks_are are =
-    rw (are, room_is, space_is, between_is, count_is, shown_is, tracks_are, facts_is) refl
-lengths_are given facts pane children n space between count room shown tracks (Err error)
-    facts_is space_is between_is count_is room_is shown_is tracks_are are = are
-
-pub bounds_hold : {E : Type 0} (axis : Axis) (given : List Track) (children : List ChildSize) (count : ℕ)
-    (shown tracks : List Part) (result : Result (Vec ℕ Global) E)
-    → count ≤ 319 → count ≡ track_count given (along axis children)
-    → shown ≡ tracks → length tracks ≡ track_count given (along axis children)
-    → IfOk result (λ lengths. length lengths.items ≡ length shown)
-    → IfOk result (λ lengths. All (λ n. n < 2 ^ 34) lengths.items)
-    → IfOk result (λ lengths. AreLengths axis lengths.items children)
-bounds_hold axis given children count shown tracks (Ok lengths) few count_is shown_is each_track each short =
-    let all : length lengths.items ≡ track_count given (along axis children) = each ∙ (ap length shown_is ∙ each_track) in
-    record { few = omega (arith, all, count_is, few); short = short; within = within_count axis given children (length lengths.items) all }
-bounds_hold axis given children count shown tracks (Err error) few count_is shown_is each_track each short = each
 
 pub one_grid : (axis : Axis) (given : List Track) → OneEach (grid_spans axis given)
 one_grid axis given pane children n =

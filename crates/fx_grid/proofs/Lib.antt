@@ -3,3 +3,4 @@ pub mod GridLemmas
 pub mod GridTests
 pub mod NeedLemmas
 pub mod SharingLemmas
+pub mod StartLemmas

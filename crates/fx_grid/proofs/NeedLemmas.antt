@@ -1,12 +1,12 @@
 -- What is needed in each track, raised by one child after the other, and the lengths and tracks that it makes.
-use Rattle.std.proofs.Common.{◌≡◌, ◌≢◌, ℕ, zero, suc, ◌+◌, ◌<◌, ◌≤◌, Bool, true, false, List, ◌∷◌, length, map, drop, get_or, set, refl, sym, ◌∙◌, ap, subst, inl, inr, drop-cons, Result, Ok, Err, Vec, Global, arith}
-use Rattle.std.specs.Prelude.{◌&&◌, ◌==◌, IfOk, slice_index}
+use Rattle.std.proofs.Common.{◌≡◌, ◌≢◌, ℕ, zero, suc, ◌+◌, ◌<◌, ◌≤◌, Bool, true, false, List, ◌∷◌, length, map, drop, take, get_or, set, refl, sym, ◌∙◌, ap, subst, inl, inr, drop-cons, arith}
+use Rattle.std.specs.Prelude.{◌&&◌, ◌==◌, replicate, slice_index}
 use Rattle.std.specs.List.{range_with_len}
 use Rattle.std.proofs.lemmas.List.FromFn.{length-map-range_with_len}
 use Rattle.std.proofs.Math.Nat.{zero-max}
 use Rattle.std.proofs.lemmas.Bool.Decides.{eqb_tells}
 use Rattle.std.proofs.lemmas.Bool.{ne_eqb}
-use Rattle.std.proofs.lemmas.List.{get_or-set_same, get_or-set_other, get_or_default}
+use Rattle.std.proofs.lemmas.List.{get_or-set_same, get_or-set_other, get_or_default, length-replicate, take-replicate}
 use Rattle.fx_base.specs.declared.facts.ChildSize.{ChildSize}
 use Rattle.fx_base.specs.declared.facts.Track.{Track}
 use Rattle.fx_panes_parts.specs.declared.axes.Axis.{Axis}
@@ -63,24 +63,24 @@ map_range_same {A} f g a (suc n) same =
 
 -- lengths by a list of needs are those by the children
 pub lengths_alone_are : (bound : Bound) (given : List Track) (children : List ChildAxis) (count : ℕ)
-    (needs shown : List Need) (lengths : List ℕ)
-    → count ≡ track_count given children → AreNeeds count children needs → shown ≡ needs
-    → lengths ≡ map (length_at_place bound given shown) (range_with_len 0 (length shown))
+    (needs : List Need) (lengths : List ℕ)
+    → count ≡ track_count given children → AreNeeds count children needs
+    → lengths ≡ map (length_at_place bound given needs) (range_with_len 0 (length needs))
     → lengths ≡ lengths_alone bound given children
-lengths_alone_are bound given children count needs shown lengths count_is are shown_is lengths_are =
-    rw (lengths_are, shown_is, are.each, count_is)
+lengths_alone_are bound given children count needs lengths count_is are lengths_are =
+    rw (lengths_are, are.each, count_is)
     (map_range_same (length_at_place bound given needs) (length_alone bound given children) 0 (track_count given children)
     (λ k low high. ap (length_by bound (track_at given k)) (are.needed k no_need (omega (arith, are.each, count_is, high)))))
 
 -- and so are the tracks
-pub tracks_are : {E : Type 0} (gap : ℕ) (given : List Track) (children : List ChildAxis) (count : ℕ)
-    (needs shown : List Need) (leasts wishes : List ℕ) (result : Result (Vec Part Global) E)
-    → count ≡ track_count given children → AreNeeds count children needs → shown ≡ needs
+pub tracks_are : (gap : ℕ) (given : List Track) (children : List ChildAxis) (count : ℕ)
+    (needs : List Need) (leasts wishes : List ℕ) (tracks : List Part)
+    → count ≡ track_count given children → AreNeeds count children needs
     → leasts ≡ lengths_of Minimum gap given children → wishes ≡ lengths_of Preferred gap given children
-    → IfOk result (λ tracks. tracks.items ≡ map (track_at_place given shown leasts wishes) (range_with_len 0 (length shown)))
-    → IfOk result (λ tracks. tracks.items ≡ tracks_of gap given children)
-tracks_are gap given children count needs shown leasts wishes (Ok tracks) count_is are shown_is leasts_are wishes_are tracks_is =
-    rw (tracks_is, shown_is, leasts_are, wishes_are, are.each, count_is)
+    → tracks ≡ map (track_at_place given needs leasts wishes) (range_with_len 0 (length needs))
+    → tracks ≡ tracks_of gap given children
+tracks_are gap given children count needs leasts wishes tracks count_is are leasts_are wishes_are tracks_is =
+    rw (tracks_is, leasts_are, wishes_are, are.each, count_is)
     (map_range_same
     (track_at_place given needs (lengths_of Minimum gap given children) (lengths_of Preferred gap given children))
     (track_of given children (lengths_of Minimum gap given children) (lengths_of Preferred gap given children))
@@ -88,12 +88,18 @@ tracks_are gap given children count needs shown leasts wishes (Ok tracks) count_
     (λ k low high. ap (λ (need : Need). track_by (track_at given k) need
     (slice_index (lengths_of Minimum gap given children) k) (slice_index (lengths_of Preferred gap given children) k))
     (are.needed k no_need (omega (arith, are.each, count_is, high)))))
-tracks_are gap given children count needs shown leasts wishes (Err error) count_is are shown_is leasts_are wishes_are tracks_is = tracks_is
 
-pub tracks_few : {E : Type 0} (gap : ℕ) (given : List Track) (children : List ChildAxis) (result : Result (Vec Part Global) E)
-    → IfOk result (λ tracks. tracks.items ≡ tracks_of gap given children)
-    → IfOk result (λ tracks. length tracks.items ≡ track_count given children)
-tracks_few gap given children (Ok tracks) are =
-    ap length are ∙ length-map-range_with_len
+-- there is a track for each that is counted
+pub length-tracks_of : (gap : ℕ) (given : List Track) (children : List ChildAxis)
+    → length (tracks_of gap given children) ≡ track_count given children
+length-tracks_of gap given children =
+    length-map-range_with_len
     (track_of given children (lengths_of Minimum gap given children) (lengths_of Preferred gap given children)) 0 _
-tracks_few gap given children (Err error) are = are
+
+-- a part of the tracks that need nothing
+pub length_front : (room n : ℕ) → n ≤ room → length (take n (replicate room no_need)) ≡ n
+length_front room n few = ap length (take-replicate n room no_need few) ∙ length-replicate n no_need
+
+pub fresh_needs : (room n : ℕ) → n ≤ room
+    → take n (replicate room no_need) ≡ replicate (length (take n (replicate room no_need))) no_need
+fresh_needs room n few = rw (take-replicate n room no_need few, length-replicate) refl

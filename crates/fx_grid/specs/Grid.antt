@@ -1,6 +1,6 @@
 -- A pane whose children stand in columns and rows: JavaFX 21 API, javafx.scene.layout.GridPane.
 -- Columns and rows are one rule for the two axes. Cited by src/grid.rt.
-use Rattle.std.specs.Prelude.{◌≡◌, ◌&&◌, Bool, nat_le, ℕ, ◌+◌, ◌-◌, ◌*◌, ◌^◌, ◌<◌, ◌≤◌, All, List, length, map, sum, sum_by, take, drop, unwrap_or}
+use Rattle.std.specs.Prelude.{◌≡◌, ◌&&◌, Bool, nat_le, ℕ, ◌+◌, ◌-◌, ◌*◌, ◌≤◌, All, List, length, map, sum, sum_by, take, drop, unwrap_or}
 use Rattle.std.specs.List.{list_all}
 use Rattle.fx_base.specs.declared.facts.ChildSize.{ChildSize}
 use Rattle.fx_base.specs.declared.facts.PaneFacts.{PaneFacts}
@@ -19,7 +19,7 @@ use Rattle.fx_panes_parts.specs.Panes.{across_of, measured, placed, widths_of}
 use Rattle.fx_panes_parts.specs.Sizes.{filled_length, in_area, pane_extent}
 use Rattle.fx_panes_parts.specs.Tracks.{tracked}
 use Rattle.fx_panes.specs.Rules.{inner}
-use Rattle.fx_grid.specs.Tracks.{IsCell, IsWithin, is_cell, track_at, track_count, tracks_of}
+use Rattle.fx_grid.specs.Tracks.{IsCell, is_cell, track_at, track_count, tracks_of}
 
 -- the insets, the tracks and the gaps between them
 unfoldable pub grid_extent : List Track → PaneAxis → List ChildAxis → Extent
@@ -74,12 +74,6 @@ pub record IsGrid (pane : PaneFacts) (children : List ChildSize) : Type 0 where
 unfoldable pub is_grid : PaneFacts → List ChildSize → Bool
 is_grid pane children = nat_le (length pane.columns) 256 && nat_le (length pane.rows) 256
     && list_all (is_cell Across) children && list_all (is_cell Down) children
-
--- these are the lengths of tracks that the children stand in
-pub record AreLengths (axis : Axis) (lengths : List ℕ) (children : List ChildSize) : Type 0 where
-  pub few : length lengths ≤ 319
-  pub short : All (λ n. n < 2 ^ 34) lengths
-  pub within : All (IsWithin axis (length lengths)) children
 
 -- Grids that have the same columns and are the same across have the same widths, and their children stand at the
 -- same places across, whatever the rows and the heights are.

@@ -4,8 +4,10 @@ use Rattle.std.specs.Prelude.{◌≡◌, ◌<◌, ℕ, ℤ, pos, negsuc, Bool, �
 use Rattle.std.specs.List.{range_with_len}
 use Rattle.std.specs.Simd.Lanes.{zip2}
 use Rattle.fx_base.specs.declared.facts.ChildSize.{ChildSize}
+use Rattle.fx_base.specs.declared.facts.PaneFacts.{PaneFacts}
 use Rattle.fx_base.specs.declared.facts.Track.{Track}
 use Rattle.fx_panes_parts.specs.declared.axes.Axis.{Axis}
+use Rattle.fx_panes_parts.specs.declared.axes.Axis.TheVariants.{Across, Down}
 use Rattle.fx_panes_parts.specs.declared.axes.ChildAxis.{ChildAxis}
 use Rattle.fx_panes_parts.specs.declared.parts.Part.{Part}
 use Rattle.fx_grid.specs.declared.needs.Need.{Need}
@@ -21,6 +23,11 @@ use Rattle.fx_panes.specs.Rules.{outer_by}
 -- a track without a constraint: one that computes its lengths and says nothing else
 abbrev pub free_track : Track
 free_track = record { min = negsuc 0; pref = negsuc 0; max = negsuc 0; grow = None; align = None }
+
+-- the constraints of a pane's columns or rows
+abbrev pub given_on : Axis → PaneFacts → List Track
+given_on Across pane = pane.columns
+given_on Down pane = pane.rows
 
 -- the constraint of a track
 abbrev pub track_at : List Track → ℕ → Track

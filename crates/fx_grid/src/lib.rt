@@ -5,4 +5,5 @@
 pub mod grid;
 mod needs;
 mod sharing;
+mod starts;
 mod tracks;

@@ -1,14 +1,13 @@
 //! What the children that are alone in a column or row need there, in one pass over the children.
 //! It stands below the tracks.
-ghost use Rattle.std.specs.Prelude.{◌≡◌, ℕ, ◌+◌, ◌<◌, ◌≤◌, All, IfOk, length, replicate, slice_index_or};
+ghost use Rattle.std.specs.Prelude.{◌≡◌, ℕ, ◌+◌, ◌<◌, ◌≤◌, All, length, replicate, slice_index_or};
 ghost use Rattle.fx_grid.specs.declared.needs.Need.{Need};
 ghost use Rattle.fx_panes_parts.specs.Axes.{IsChildAxis, along};
-ghost use Rattle.fx_grid.specs.Tracks.{AreNeeds, IsWithin, alone, alone_grow, is_alone, need_of, no_need, raised};
+ghost use Rattle.fx_grid.specs.Tracks.{AreNeeds, IsWithin, alone, alone_grow, is_alone, no_need, raised};
 
 use fx_base::ChildSize;
 use fx_panes::{Bound, outer_by};
 use fx_panes_parts::{Axis, ChildAxis, child_axis};
-use std::alloc::{AllocError, Global};
 
 /// What a track has to hold: the greatest minimum and preferred length of the children that are alone in it, with their
 /// margins, in pixels, and the greatest number of their priorities.
@@ -26,27 +25,11 @@ pub(crate) const NO_NEED: Need = Need {
     grow: 0,
 };
 
-/// What is needed in each of so many tracks.
-pub(crate) fn needs_of(
-    alloc: Global,
-    axis: Axis,
-    count: usize,
-    children: &[ChildSize],
-) -> Result<Vec<Need>, AllocError>
-    requires { All (IsWithin axis count) children.now }
-    ensures { IfOk result (λ needs. AreNeeds count (along axis children.now) needs.items) }
-{
-    let mut needs = vec![in alloc; NO_NEED; count]?;
-    fill(axis, children, needs.as_mut_slice());
-    Ok(needs)
-}
-
-/// Raises what is needed in tracks that need nothing yet. It begins with the last child.
-fn fill(axis: Axis, children: &[ChildSize], needs: &mut [Need])
+/// Fills in what is needed in each of these tracks, which need nothing yet. It begins with the last child.
+pub(crate) fn fill_needs(axis: Axis, children: &[ChildSize], needs: &mut [Need])
     requires none { needs.old ≡ replicate (length needs.old) no_need }
     requires within { All (IsWithin axis (length needs.old)) children.now }
-    ensures { (k : ℕ) (other : Need) → k < length needs.old
-        → slice_index_or needs.new k other ≡ need_of (along axis children.now) k }
+    ensures { AreNeeds (length needs.old) (along axis children.now) needs.new }
 {
     let mut place = children.len();
     while place > 0 {

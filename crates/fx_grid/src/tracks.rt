@@ -1,17 +1,16 @@
 //! The columns or the rows of a grid, by their constraints and by the children along one axis.
 //! They stand between facts along that axis and the track rule.
-ghost use Rattle.std.specs.Prelude.{◌≡◌, ◌≤◌, All, IfOk, fold, length, map, slice_index_or};
+ghost use Rattle.std.specs.Prelude.{◌≡◌, ◌≤◌, All, length, map, slice_index_or};
 ghost use Rattle.fx_panes_parts.specs.Axes.{along};
 ghost use Rattle.std.specs.List.{range_with_len};
 ghost use Rattle.fx_panes_parts.specs.Sizes.{limited};
-ghost use Rattle.fx_grid.specs.Tracks.{IsCell, IsWithin, length_at_place, no_need, own_min, own_pref, part_by, track_at, track_at_place, track_count, tracks_of, widened};
+ghost use Rattle.fx_grid.specs.Tracks.{IsCell, given_on, length_at_place, no_need, own_min, own_pref, part_by, track_at, track_at_place, track_count, tracks_of};
 
-use crate::needs::{NO_NEED, Need, needs_of};
+use crate::needs::{NO_NEED, Need, fill_needs};
 use crate::sharing::widen_all;
-use fx_base::{ChildSize, Track};
+use fx_base::{ChildSize, PaneFacts, Track};
 use fx_panes::Bound;
 use fx_panes_parts::{Axis, Part, child_axis, length_of};
-use std::alloc::{AllocError, Global};
 
 /// A track without a constraint.
 const FREE_TRACK: Track = Track {
@@ -21,6 +20,24 @@ const FREE_TRACK: Track = Track {
     grow: None,
     align: None,
 };
+
+/// A track of no length, until its own is known.
+pub(crate) const NO_TRACK: Part = Part {
+    min: 0,
+    pref: 0,
+    max: 0,
+    priority: 0,
+};
+
+/// The constraints of a pane's columns or rows.
+pub(crate) fn given_on(axis: Axis, pane: &PaneFacts) -> &[Track]
+    ensures { result.now ≡ given_on axis pane.now }
+{
+    match axis {
+        Axis::Across => pane.columns.as_slice(),
+        Axis::Down => pane.rows.as_slice(),
+    }
+}
 
 /// The constraint of a track.
 pub(crate) fn track_at(given: &[Track], k: usize) -> Track
@@ -47,65 +64,44 @@ pub(crate) fn track_count(axis: Axis, given: &[Track], children: &[ChildSize]) -
     count
 }
 
-/// All tracks of a grid, as the track rule takes them.
-pub(crate) fn tracks_of(
-    alloc: Global,
+/// Fills in all tracks of a grid, as the track rule takes them, with room for `N` of them.
+pub(crate) fn fill_tracks<const N: usize>(
     axis: Axis,
     gap: u64,
     given: &[Track],
     children: &[ChildSize],
-) -> Result<Vec<Part>, AllocError>
-    requires gap { gap ≤ 100000 }
-    requires given { length given.now ≤ 256 }
-    requires cells { All (IsCell axis) children.now }
-    ensures value { IfOk result (λ tracks. tracks.items ≡ tracks_of gap given.now (along axis children.now)) }
-    ensures few { IfOk result (λ tracks. length tracks.items ≡ track_count given.now (along axis children.now)) }
-{
-    let needs = needs_of(alloc, axis, track_count(axis, given, children), children)?;
-    let leasts = lengths_alone(alloc, Bound::Minimum, given, needs.as_slice())?;
-    let leasts = widened(axis, Bound::Minimum, gap, children, leasts);
-    let wishes = lengths_alone(alloc, Bound::Preferred, given, needs.as_slice())?;
-    let wishes = widened(axis, Bound::Preferred, gap, children, wishes);
-    tracks_by(
-        alloc,
-        given,
-        needs.as_slice(),
-        leasts.as_slice(),
-        wishes.as_slice(),
-    )
-}
-
-/// These lengths, widened by the children that cover more than one track.
-fn widened(
-    axis: Axis,
-    bound: Bound,
-    gap: u64,
-    children: &[ChildSize],
-    mut lengths: Vec<u64>,
-) -> Vec<u64>
+    tracks: &mut [Part],
+)
     requires gap { gap ≤ 100000 }
     requires cells { All (IsCell axis) children.now }
-    requires within { All (IsWithin axis (length lengths.items)) children.now }
-    ensures { result.items ≡ fold (widened bound gap) lengths.items (along axis children.now) }
+    requires count { length tracks.old ≡ track_count given.now (along axis children.now) }
+    requires few { length tracks.old ≤ N }
+    requires most { N ≤ 320 }
+    ensures { tracks.new ≡ tracks_of gap given.now (along axis children.now) }
 {
-    widen_all(axis, bound, gap, children, lengths.as_mut_slice());
-    lengths
+    let mut needs = [NO_NEED; N];
+    let needs = &mut needs[..tracks.len()];
+    fill_needs(axis, children, needs);
+    let mut leasts = [0; N];
+    let leasts = &mut leasts[..tracks.len()];
+    fill_alone(Bound::Minimum, given, needs, leasts);
+    widen_all(axis, Bound::Minimum, gap, children, leasts);
+    let mut wishes = [0; N];
+    let wishes = &mut wishes[..tracks.len()];
+    fill_alone(Bound::Preferred, given, needs, wishes);
+    widen_all(axis, Bound::Preferred, gap, children, wishes);
+    fill_by(given, needs, leasts, wishes, tracks);
 }
 
-/// The tracks by what is needed there and by their lengths.
-fn tracks_by(
-    alloc: Global,
-    given: &[Track],
-    needs: &[Need],
-    leasts: &[u64],
-    wishes: &[u64],
-) -> Result<Vec<Part>, AllocError>
-    ensures { IfOk result (λ tracks. tracks.items ≡ map (track_at_place given.now needs.now leasts.now wishes.now)
-        (range_with_len 0 (length needs.now))) }
+/// Fills in the tracks by what is needed there and by their lengths.
+fn fill_by(given: &[Track], needs: &[Need], leasts: &[u64], wishes: &[u64], tracks: &mut [Part])
+    requires { length tracks.old ≡ length needs.now }
+    ensures { tracks.new ≡ map (track_at_place given.now needs.now leasts.now wishes.now)
+        (range_with_len 0 (length needs.now)) }
 {
-    (0..needs.len())
-        .map(|k| track_at_place(given, needs, leasts, wishes, k))
-        .collect(alloc)
+    for k in 0..tracks.len() {
+        tracks[k] = track_at_place(given, needs, leasts, wishes, k);
+    }
 }
 
 #[tactic(auto, unfolding(crate::specs::Tracks::track_by))]
@@ -162,19 +158,14 @@ fn greatest_length(own: i64, pref: u64) -> u64
     }
 }
 
-/// The lengths of all tracks before any child covers more than one, and before they are clamped.
-fn lengths_alone(
-    alloc: Global,
-    bound: Bound,
-    given: &[Track],
-    needs: &[Need],
-) -> Result<Vec<u64>, AllocError>
-    ensures { IfOk result (λ lengths. lengths.items
-        ≡ map (length_at_place bound given.now needs.now) (range_with_len 0 (length needs.now))) }
+/// Fills in the lengths of all tracks before any child covers more than one, and before they are clamped.
+fn fill_alone(bound: Bound, given: &[Track], needs: &[Need], lengths: &mut [u64])
+    requires { length lengths.old ≡ length needs.now }
+    ensures { lengths.new ≡ map (length_at_place bound given.now needs.now) (range_with_len 0 (length needs.now)) }
 {
-    (0..needs.len())
-        .map(|k| length_at_place(bound, given, needs, k))
-        .collect(alloc)
+    for k in 0..lengths.len() {
+        lengths[k] = length_at_place(bound, given, needs, k);
+    }
 }
 
 #[tactic(auto, unfolding(crate::specs::Tracks::length_by))]

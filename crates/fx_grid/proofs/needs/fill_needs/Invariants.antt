@@ -2,7 +2,7 @@ use Rattle.std.proofs.Common.{◌≡◌, ℕ, ◌<◌, ◌≤◌, drop, length, 
 use Rattle.fx_panes_parts.specs.Axes.{along}
 use Rattle.fx_grid.specs.declared.needs.Need.{Need}
 use Rattle.fx_grid.specs.Tracks.{need_of}
-use Rattle.fx_grid.proofs.needs.fill.Given as goal
+use Rattle.fx_grid.proofs.needs.fill_needs.Given as goal
 
 -- so far what the children from a place on need
 abbrev pub invariant-loop-place : goal.invariant-loop-place

@@ -1,6 +1,6 @@
 use Rattle.std.proofs.Common.{◌-◌, arith}
 use Rattle.fx_grid.proofs.NeedLemmas.{raised_next}
-use Rattle.fx_grid.proofs.needs.fill.Goals as goal
+use Rattle.fx_grid.proofs.needs.fill_needs.Goals as goal
 
 pub loop-place-preserved : goal.loop-place-preserved
 loop-place-preserved c = record {

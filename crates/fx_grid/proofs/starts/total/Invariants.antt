@@ -1,5 +1,5 @@
 use Rattle.std.proofs.Common.{◌≡◌, ◌+◌, ◌*◌, ◌^◌, ◌≤◌, drop, sum}
-use Rattle.fx_grid.proofs.grid.total.Given as goal
+use Rattle.fx_grid.proofs.starts.total.Given as goal
 
 -- the sum so far and what is left make the whole
 abbrev pub invariant-loop-length : goal.invariant-loop-length

@@ -5,8 +5,7 @@ use Rattle.std.proofs.lemmas.List.{length-set, map-append}
 use Rattle.fx_base.specs.declared.keys.Name.{Name}
 use Rattle.fx_base.specs.declared.kinds.Kind.{Kind}
 use Rattle.fx_base.specs.declared.values.Value.{Value}
-use Rattle.fx_expr.specs.declared.tree.Expr.{Expr}
-use Rattle.fx_expr.specs.Tree.{tree, is_within}
+use Rattle.fx_expr.specs.Tree.{Tree, is_within}
 use Rattle.fx_graph_model.specs.declared.entries.Entry.{Entry}
 use Rattle.fx_graph_model.specs.declared.errors.GraphError.TheVariants.{Unknown, Cycle}
 use Rattle.fx_base.specs.Names.{numbers, name_of}
@@ -29,7 +28,7 @@ use Rattle.fx_graph.specs.Store.{IsStore}
 use Rattle.fx_graph_edges.proofs.RowLemmas.{numbers_more}
 
 -- the names of a binding that fits
-pub fit_within : (es : List Entry) (name : Name) (expr : Expr) (operands : List Name) → None ≡ fit_refusal name expr operands es
+pub fit_within : (es : List Entry) (name : Name) (expr : Tree) (operands : List Name) → None ≡ fit_refusal name expr operands es
     → (name.0 < length es) × ((o : ℕ) → Contains (numbers operands) o → o < length es)
 unfolding fit_refusal
 fit_within es name expr operands none =
@@ -69,13 +68,13 @@ marked_leads es flags name operands same within =
     ∙ marked-blank es (length es) name operand.0 (within operand.0 (contains_map (λ (n : Name). n.0) operands operand c)))
 
 -- a binding that may be made has ranks
-pub bind_ranked : (es : List Entry) (rank : ℕ → ℕ) → Ranked es rank → (name : ℕ) (expr : Expr) (operands : List ℕ) → Bindable es name expr operands
+pub bind_ranked : (es : List Entry) (rank : ℕ → ℕ) → Ranked es rank → (name : ℕ) (expr : Tree) (operands : List ℕ) → Bindable es name expr operands
     → (after : ℕ → ℕ) × Ranked (with_binding name expr operands es) after
 bind_ranked es rank ranked name expr operands b =
     ranked_bound es rank ranked name (bound_to expr operands (entry_of es name)) (λ o c. (known_within es o (b.operands_known o c), b.free o c))
 
 -- how many operands there are with the binding
-pub bind_counted : (es : List Entry) (name : ℕ) (expr : Expr) (operands : List ℕ) → name < length es
+pub bind_counted : (es : List Entry) (name : ℕ) (expr : Tree) (operands : List ℕ) → name < length es
     → operand_count (with_binding name expr operands es) + length (uses es name) ≡ operand_count es + length operands
 bind_counted es name expr operands within = operand_count-set es name (bound_to expr operands (entry_of es name)) within
 
@@ -110,9 +109,9 @@ store_roomier es users users' unread before newly n cache fresh work operands wo
 
 -- a binding was made
 pub store_bound : (es : List Entry) (users users' : List Row) (unread before : List Bool) (newly : List Name) (n : ℕ) (cache fresh : List Value) (work : List ℕ) (total : ℕ)
-    (name : ℕ) (expr : Expr) (operands : List ℕ) (newly' : List Name) (n' : ℕ) (work' : List ℕ) (total' : ℕ)
+    (name : ℕ) (expr : Tree) (operands : List ℕ) (newly' : List Name) (n' : ℕ) (work' : List ℕ) (total' : ℕ)
     → IsStore es users unread before newly n cache fresh work total
-    → Bindable es name expr operands → is_within (tree expr) (length operands) ≡ true → Mirrors (with_binding name expr operands es) users'
+    → Bindable es name expr operands → is_within expr (length operands) ≡ true → Mirrors (with_binding name expr operands es) users'
     → length newly' ≡ length es → n' ≤ length es → length work' ≡ length es
     → total' + length (uses es name) ≡ total + length operands
     → IsStore (with_binding name expr operands es) users' (after_marking (with_binding name expr operands es) (name ∷ []) unread) before newly' n' cache fresh work' total'

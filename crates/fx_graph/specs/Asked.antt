@@ -1,7 +1,7 @@
 -- What reading asks of an entry.
 use Rattle.std.specs.Prelude.{ℕ, ◌≡◌, ◌<◌, Bool, true, false, List, length, slice_index_or, Option, Some, None, Contains}
 use Rattle.fx_base.specs.declared.values.Value.{Value}
-use Rattle.fx_expr.specs.Tree.{tree, is_within}
+use Rattle.fx_expr.specs.Tree.{is_within}
 use Rattle.fx_expr.specs.Meaning.{no_value}
 use Rattle.fx_graph_model.specs.declared.entries.Definition.{Definition}
 use Rattle.fx_graph_model.specs.declared.entries.Definition.TheVariants.{Base, Bound, Forgotten}
@@ -19,5 +19,5 @@ kept_value cache name = slice_index_or cache name no_value
 abbrev pub IsEvaluable : ℕ → Definition → Type 0
 IsEvaluable size (Base value) = Unit {0}
 IsEvaluable size (Bound expr operands) =
-    ((name : ℕ) → Contains operands name → name < size) × (is_within (tree expr) (length operands) ≡ true)
+    ((name : ℕ) → Contains operands name → name < size) × (is_within expr (length operands) ≡ true)
 IsEvaluable size Forgotten = Unit {0}

@@ -1,8 +1,7 @@
 //! Bindings (JavaFX `bind`): tested first, then room is made for all edges, and then nothing can fail.
 ghost use Rattle.std.specs.Prelude.{ℕ, ◌≡◌, ◌≤◌, ◌<◌, [], ◌∷◌, true, false, Contains, length, map, nat_lt, None, IfOk, OnOk, OnErr};
 ghost use Rattle.fx_base.specs.declared.keys.Name.{Name as Named};
-ghost use Rattle.fx_expr.specs.declared.tree.Expr.{Expr as Expression};
-ghost use Rattle.fx_expr.specs.Tree.{tree, is_within};
+ghost use Rattle.fx_expr.specs.Tree.{Tree, is_within};
 ghost use Rattle.fx_graph_model.specs.declared.errors.GraphError.TheVariants as error;
 ghost use Rattle.fx_base.specs.Names.{numbers};
 ghost use Rattle.fx_graph_model.specs.Uses.{Ranked, uses, leads};
@@ -18,9 +17,9 @@ use crate::lists::Lists;
 use crate::marking::finish;
 use crate::refusals::{is_same_kind, kind_of};
 use fx_base::{Kind, Name};
-use fx_expr::{Expr, KindError, type_of};
+use fx_expr::{KindError, type_of};
 use fx_graph_edges::{mark_one, operands_at, relink, spread, take_back};
-use fx_graph_model::{Definition, Entry, GraphError, Operands, Origin};
+use fx_graph_model::{Definition, Entry, Formula, GraphError, Operands, Origin};
 use std::alloc::{AllocError, Global};
 
 /// The most operands of all bindings together.
@@ -41,14 +40,14 @@ fn has_kind(
     alloc: Global,
     entries: &[Entry],
     name: Name,
-    expr: &Expr,
+    expr: &Formula,
     operands: &[Name],
 ) -> Result<bool, AllocError>
-    requires { is_within (tree expr.now) (length operands.now) ≡ true }
+    requires { is_within expr.now (length operands.now) ≡ true }
     ensures { IfOk result (λ answer. answer ≡ fits entries.now name.0 expr.now (numbers operands.now)) }
 {
     let kinds = kinds_of(alloc, entries, operands)?;
-    match type_of(expr, kinds.as_slice()) {
+    match type_of(expr.as_expr(), kinds.as_slice()) {
         Ok(kind) => Ok(is_same_kind(kind, kind_of(entries, name))),
         Err(KindError::Mismatch) => Ok(false),
     }
@@ -100,7 +99,7 @@ fn is_full(entries: &[Entry], total: usize, name: usize, operands: &[Name]) -> b
     requires known { name < length entries.now }
     requires counted { total ≡ operand_count entries.now }
     requires few { total ≤ 1000000 }
-    ensures { (expr : Expression) → result
+    ensures { (expr : Tree) → result
         ≡ nat_lt 1000000 (operand_count (with_binding name expr (numbers operands.now) entries.now)) }
 {
     let others = total - operands_at(entries, name);
@@ -113,10 +112,10 @@ pub fn unfit(
     alloc: Global,
     entries: &[Entry],
     name: Name,
-    expr: &Expr,
+    expr: &Formula,
     operands: &[Name],
 ) -> Result<Option<GraphError>, AllocError>
-    requires { is_within (tree expr.now) (length operands.now) ≡ true }
+    requires { is_within expr.now (length operands.now) ≡ true }
     ensures { IfOk result (λ refusal. refusal ≡ fit_refusal name expr.now operands.now entries.now) }
 {
     if is_unknown(entries, name) {
@@ -144,7 +143,7 @@ fn unlinkable(lists: &mut Lists, name: Name, operands: &[Name]) -> Option<GraphE
         → operand < length lists.old.entries.items }
     ensures holds { Holds lists.new }
     ensures same { shown lists.new ≡ shown lists.old }
-    ensures refusal { (expr : Expression)
+    ensures refusal { (expr : Tree)
         → result ≡ link_refusal name expr operands.now lists.old.entries.items }
 {
     let place = name.0 as usize;
@@ -168,11 +167,11 @@ pub fn refusal(
     alloc: Global,
     lists: &mut Lists,
     name: Name,
-    expr: &Expr,
+    expr: &Formula,
     operands: &[Name],
 ) -> Result<Option<GraphError>, AllocError>
     requires holds { Holds lists.old }
-    requires within { is_within (tree expr.now) (length operands.now) ≡ true }
+    requires within { is_within expr.now (length operands.now) ≡ true }
     ensures holds { Holds lists.new }
     ensures same { shown lists.new ≡ shown lists.old }
     ensures refusal { IfOk result (λ refusal. refusal
@@ -186,7 +185,7 @@ pub fn refusal(
     Ok(unlinkable(lists, name, operands))
 }
 
-fn write_binding(entries: &mut [Entry], name: usize, expr: Expr, operands: Vec<Name>)
+fn write_binding(entries: &mut [Entry], name: usize, expr: Formula, operands: Vec<Name>)
     requires { name < length entries.old }
     ensures { entries.new ≡ with_binding name expr (numbers operands.items) entries.old }
 {
@@ -202,7 +201,7 @@ fn write_binding(entries: &mut [Entry], name: usize, expr: Expr, operands: Vec<N
 }
 
 /// Writes the binding and marks the name. The edges are made already.
-fn bind_linked(lists: &mut Lists, name: usize, expr: Expr, operands: Vec<Name>)
+fn bind_linked(lists: &mut Lists, name: usize, expr: Formula, operands: Vec<Name>)
     requires ranks { (rank : ℕ → ℕ)
         × Ranked (with_binding name expr (numbers operands.items) lists.old.entries.items) rank }
     requires mirrors { Mirrors (with_binding name expr (numbers operands.items) lists.old.entries.items)
@@ -237,11 +236,11 @@ fn bind_linked(lists: &mut Lists, name: usize, expr: Expr, operands: Vec<Name>)
 pub fn bind_name(
     lists: &mut Lists,
     name: Name,
-    expr: Expr,
+    expr: Formula,
     operands: Vec<Name>,
 ) -> Result<(), AllocError>
     requires holds { Holds lists.old }
-    requires places { is_within (tree expr) (length operands.items) ≡ true }
+    requires places { is_within expr (length operands.items) ≡ true }
     requires allowed { bind_refusal name expr operands.items lists.old.entries.items ≡ None }
     ensures holds { Holds lists.new }
     ensures ok { OnOk result (shown lists.new ≡ after_bind name.0 expr (numbers operands.items) (shown lists.old)) }

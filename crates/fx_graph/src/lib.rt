@@ -19,7 +19,7 @@ ghost use Rattle.std.specs.Prelude.{ℕ, map, option_copied, ◌≡◌, ◌≢�
 ghost use Rattle.fx_base.specs.declared.keys.Name.{Name as Named};
 ghost use Rattle.fx_base.specs.declared.values.Value.{Value as Content};
 ghost use Rattle.fx_base.specs.Printing.{kind_of};
-ghost use Rattle.fx_expr.specs.Tree.{tree, is_within};
+ghost use Rattle.fx_expr.specs.Tree.{is_within};
 ghost use Rattle.fx_base.specs.Names.{numbers};
 ghost use Rattle.fx_graph_model.specs.Uses.{Ranked, bound_in, unknown_in};
 ghost use Rattle.fx_graph_model.specs.Unread.{marked, IsClosed, bound_unread, evaluations, evaluations_of};
@@ -35,9 +35,8 @@ ghost use Rattle.fx_graph.specs.Store.{origin_in};
 
 use crate::lists::Lists;
 use fx_base::{Kind, Ledgers, Name, Value, Work};
-use fx_expr::Expr;
 use fx_graph_edges::Users;
-use fx_graph_model::{Definition, Entry, GraphError, Origin};
+use fx_graph_model::{Definition, Entry, Formula, GraphError, Origin};
 use std::alloc::{AllocError, Global};
 use std::marker::Model;
 
@@ -55,12 +54,12 @@ pub struct Graph {
 
 impl Model for Graph {
     ghost use Rattle.fx_graph_model.specs.Changes.{State};
-    ghost use Rattle.fx_expr.specs.contracts.tree.Expr as e;
+    ghost use Rattle.fx_graph_model.specs.contracts.entries.Entry as entry;
     ghost use Rattle.std.specs.Coded.{codes};
 
     ghost Value = { State };
 
-    ghost coded = { Prim.hlevel (codes, e.the_row.coded) };
+    ghost coded = { Prim.hlevel (codes, entry.the_row.coded) };
 
     ghost use Rattle.fx_graph.specs.Store.{Holds, shown};
 
@@ -183,10 +182,10 @@ impl Graph {
         &mut self,
         alloc: Global,
         name: Name,
-        expr: Expr,
+        expr: Formula,
         operands: Vec<Name>,
     ) -> Result<(), GraphError>
-        requires { is_within (tree expr) (length operands.items) ≡ true }
+        requires { is_within expr (length operands.items) ≡ true }
         ensures answer { IsAnswer GraphError.Memory (refusals.bind_refusal name expr operands.items self.old.entries)
             result }
         ensures ok { OnOk result (self.new ≡ changes.after_bind name.0 expr (numbers operands.items) self.old) }
@@ -206,10 +205,10 @@ impl Graph {
         &self,
         alloc: Global,
         name: Name,
-        expr: &Expr,
+        expr: &Formula,
         operands: &[Name],
     ) -> Result<Option<GraphError>, AllocError>
-        requires { is_within (tree expr.now) (length operands.now) ≡ true }
+        requires { is_within expr.now (length operands.now) ≡ true }
         ensures { IfOk result (λ refusal. refusal ≡ refusals.fit_refusal name expr.now operands.now self.now.entries) }
     {
         binding::unfit(alloc, self.lists.entries.as_slice(), name, expr, operands)
@@ -220,10 +219,10 @@ impl Graph {
         &mut self,
         alloc: Global,
         name: Name,
-        expr: &Expr,
+        expr: &Formula,
         operands: &[Name],
     ) -> Result<Option<GraphError>, AllocError>
-        requires { is_within (tree expr.now) (length operands.now) ≡ true }
+        requires { is_within expr.now (length operands.now) ≡ true }
         ensures same { self.new ≡ self.old }
         ensures refusal { IfOk result (λ refusal. refusal
             ≡ refusals.bind_refusal name expr.now operands.now self.old.entries) }
@@ -235,10 +234,10 @@ impl Graph {
     pub fn make_binding(
         &mut self,
         name: Name,
-        expr: Expr,
+        expr: Formula,
         operands: Vec<Name>,
     ) -> Result<(), AllocError>
-        requires places { is_within (tree expr) (length operands.items) ≡ true }
+        requires places { is_within expr (length operands.items) ≡ true }
         requires allowed { refusals.bind_refusal name expr operands.items self.old.entries ≡ None }
         ensures ok { OnOk result (self.new ≡ changes.after_bind name.0 expr (numbers operands.items) self.old) }
         ensures err { OnErr result (self.new ≡ self.old) }

@@ -67,7 +67,7 @@ fn evaluate<L: Ledgers>(
         Definition::Base(value) => value.copy(alloc),
         Definition::Bound(expr, operands) => {
             let values = kept_values(alloc, operands.as_slice(), cache)?;
-            eval(alloc, expr, values.as_slice(), work)
+            eval(alloc, expr.as_expr(), values.as_slice(), work)
         }
         Definition::Forgotten => Ok(Value::Bool(false)),
     }

@@ -13,7 +13,7 @@ use Rattle.fx_expr.specs.declared.tree.UnarySign.{UnarySign}
 use Rattle.fx_expr.specs.declared.tree.BinarySign.{BinarySign}
 use Rattle.fx_expr.specs.declared.tree.UnarySign.TheVariants as unary
 use Rattle.fx_expr.specs.declared.tree.BinarySign.TheVariants as binary
-use Rattle.fx_expr.specs.Tree.{Tree, Leaf, Place, One, Two, tree}
+use Rattle.fx_expr.specs.Tree.{Tree, Leaf, Place, One, Two}
 use Rattle.fx_expr.specs.Typing.{unary_kind, sum_kind, numeric_kind, same_kind, truth_kind, binary_kind, kind_in}
 use Rattle.fx_expr.specs.Meaning.{no_value, near, unary_of, over_numbers, numeric, sum_of, binary_of, mean}
 use Rattle.fx_graph_model.specs.declared.entries.Entry.{Entry}
@@ -122,8 +122,8 @@ definition_sound : (es : List Entry) (entry : Entry) (d : Definition) → HasKin
     → kind_of (value_of_definition (eager es) d) ≡ entry.kind
 definition_sound es entry (Base v) has known below = has
 definition_sound es entry (Bound expr operands) has known below =
-    mean_sound (tree expr) (map (eager es) operands) entry.kind
-    (ap (kind_in (tree expr)) (kinds_of_values (eager es) (kind_at es) operands below) ∙ has.0)
+    mean_sound expr (map (eager es) operands) entry.kind
+    (ap (kind_in expr) (kinds_of_values (eager es) (kind_at es) operands below) ∙ has.0)
 definition_sound es entry Forgotten has known below = absurd (true≢false known)
 
 eager_sound_below : (es : List Entry) (rank : ℕ → ℕ) → Ranked es rank → AreSound es → (depth name : ℕ) → rank name < depth

@@ -7,8 +7,7 @@ use Rattle.fx_base.specs.Printing.{kind_of}
 use Rattle.fx_base.specs.declared.keys.Name.{Name}
 use Rattle.fx_base.specs.declared.kinds.Kind.{Kind}
 use Rattle.fx_base.specs.declared.values.Value.{Value}
-use Rattle.fx_expr.specs.declared.tree.Expr.{Expr}
-use Rattle.fx_expr.specs.Tree.{tree}
+use Rattle.fx_expr.specs.Tree.{Tree}
 use Rattle.fx_expr.specs.Typing.{kind_in}
 use Rattle.fx_graph_model.specs.declared.entries.Entry.{Entry}
 use Rattle.fx_graph_model.specs.declared.errors.GraphError.{GraphError}
@@ -105,11 +104,11 @@ publishable pairs es e pair c =
     )
 
 -- what is known of a binding that may be made
-pub record Bindable (entries : List Entry) (name : ℕ) (expr : Expr) (operands : List ℕ) : Type 0 where
+pub record Bindable (entries : List Entry) (name : ℕ) (expr : Tree) (operands : List ℕ) : Type 0 where
   pub known : unknown_in entries name ≡ false
   pub operands_known : (o : ℕ) → Contains operands o → unknown_in entries o ≡ false
   pub writable : read_only_in entries name ≡ false
-  pub kind : kind_in (tree expr) (map (kind_at entries) operands) ≡ Some (kind_at entries name)
+  pub kind : kind_in expr (map (kind_at entries) operands) ≡ Some (kind_at entries name)
   pub free : (o : ℕ) → Contains operands o → leads entries o name ≡ false
   pub few : operand_count (with_binding name expr operands entries) ≤ 1000000
 
@@ -121,7 +120,7 @@ none_is : (b : Bool) (error : GraphError) → cond b None (Some error) ≡ None 
 none_is true error e = refl
 none_is false error e = cc
 
-pub bindable : (name : Name) (expr : Expr) (operands : List Name) (es : List Entry) → bind_refusal name expr operands es ≡ None
+pub bindable : (name : Name) (expr : Tree) (operands : List Name) (es : List Entry) → bind_refusal name expr operands es ≡ None
     → Bindable es name.0 expr (numbers operands)
 unfolding bind_refusal fit_refusal link_refusal
 bindable name expr operands es e =

@@ -6,8 +6,7 @@ use Rattle.std.proofs.lemmas.List.{get_or_past, length_push, get_or_push}
 use Rattle.fx_base.specs.Printing.{kind_of}
 use Rattle.fx_base.specs.declared.keys.Name.{Name}
 use Rattle.fx_base.specs.declared.values.Value.{Value}
-use Rattle.fx_expr.specs.declared.tree.Expr.{Expr}
-use Rattle.fx_expr.specs.Tree.{tree, is_within}
+use Rattle.fx_expr.specs.Tree.{Tree, is_within}
 use Rattle.fx_expr.specs.Typing.{kind_in}
 use Rattle.fx_graph_model.specs.declared.entries.Entry.{Entry}
 use Rattle.fx_graph_model.specs.declared.entries.Definition.{Definition}
@@ -29,7 +28,7 @@ pub kind_moved : (es fs : List Entry) (e f : Entry) (d : Definition) → e.kind 
     → ((o : ℕ) → Contains (operands_in d) o → kind_at fs o ≡ kind_at es o) → HasKind es e d → HasKind fs f d
 kind_moved es fs e f (Base value) same kinds has = has ∙ same
 kind_moved es fs e f (Bound expr operands) same kinds has =
-    (ap (kind_in (tree expr)) (map_same (kind_at fs) (kind_at es) operands kinds) ∙ has.0 ∙ ap Some same, has.1)
+    (ap (kind_in expr) (map_same (kind_at fs) (kind_at es) operands kinds) ∙ has.0 ∙ ap Some same, has.1)
 kind_moved es fs e f Forgotten same kinds has = tt
 
 -- an entry that is as it was
@@ -203,9 +202,9 @@ sound_written es sound name entry within same access stays has operands free_ent
         ap (λ (d : Entry). is_binding d.definition) (entry-set_other es name other entry differs)
         ∙ sound.free other (sym (ap (λ (d : Entry). d.read_only) (entry-set_other es name other entry differs)) ∙ only)
 
-pub sound_bound : (es : List Entry) → AreSound es → (name : ℕ) (expr : Expr) (operands : List ℕ)
+pub sound_bound : (es : List Entry) → AreSound es → (name : ℕ) (expr : Tree) (operands : List ℕ)
     → unknown_in es name ≡ false → read_only_in es name ≡ false
-    → kind_in (tree expr) (map (kind_at es) operands) ≡ Some (kind_at es name) → is_within (tree expr) (length operands) ≡ true
+    → kind_in expr (map (kind_at es) operands) ≡ Some (kind_at es name) → is_within expr (length operands) ≡ true
     → ((o : ℕ) → Contains operands o → unknown_in es o ≡ false)
     → AreSound (with_binding name expr operands es)
 sound_bound es sound name expr operands known access kinds places operands_known =

@@ -4,7 +4,6 @@ use Rattle.std.specs.List.{Contains}
 use Rattle.std.proofs.lemmas.Bool.{cases_lt}
 use Rattle.std.proofs.lemmas.List.{get_or_past}
 use Rattle.fx_base.specs.declared.values.Value.{Value}
-use Rattle.fx_expr.specs.Tree.{tree}
 use Rattle.fx_expr.specs.Meaning.{mean, no_value}
 use Rattle.fx_graph_model.specs.declared.entries.Entry.{Entry}
 use Rattle.fx_graph_model.specs.declared.entries.Definition.{Definition}
@@ -17,7 +16,7 @@ pub value_same : (f g : ℕ → Value) (definition : Definition)
     → ((name : ℕ) → Contains (operands_in definition) name → f name ≡ g name)
     → value_of_definition f definition ≡ value_of_definition g definition
 value_same f g (Base value) same = refl
-value_same f g (Bound expr operands) same = ap (mean (tree expr)) (map_same f g operands same)
+value_same f g (Bound expr operands) same = ap (mean expr) (map_same f g operands same)
 value_same f g Forgotten same = refl
 
 pub value_past : (depth : ℕ) (es : List Entry) (name : ℕ) → length es ≤ name → value_in depth es name ≡ no_value

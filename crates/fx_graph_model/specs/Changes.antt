@@ -3,7 +3,7 @@ use Rattle.std.specs.Prelude.{ℕ, ◌≡◌, Bool, true, false, All, length, no
 use Rattle.fx_base.specs.declared.keys.Name.{Name}
 use Rattle.fx_base.specs.declared.kinds.Kind.{Kind}
 use Rattle.fx_base.specs.declared.values.Value.{Value}
-use Rattle.fx_expr.specs.declared.tree.Expr.{Expr}
+use Rattle.fx_expr.specs.Tree.{Tree}
 use Rattle.fx_graph_model.specs.declared.entries.Entry.{Entry}
 use Rattle.fx_graph_model.specs.declared.entries.Origin.TheVariants as origin
 use Rattle.fx_graph_model.specs.declared.entries.Definition.TheVariants.{Base, Bound, Forgotten}
@@ -64,13 +64,13 @@ after_change entries names state =
 abbrev pub after_values : Bool → List (Name × Value) → State → State
 after_values sets pairs state = after_change (with_values sets pairs state.entries) (changed pairs state.entries) state
 
-abbrev pub bound_to : Expr → List ℕ → Entry → Entry
+abbrev pub bound_to : Tree → List ℕ → Entry → Entry
 bound_to expr operands entry = record entry { origin = origin.Bound; definition = Bound expr operands }
 
-abbrev pub with_binding : ℕ → Expr → List ℕ → List Entry → List Entry
+abbrev pub with_binding : ℕ → Tree → List ℕ → List Entry → List Entry
 with_binding name expr operands entries = slice_set entries name (bound_to expr operands (entry_of entries name))
 
-abbrev pub after_bind : ℕ → Expr → List ℕ → State → State
+abbrev pub after_bind : ℕ → Tree → List ℕ → State → State
 after_bind name expr operands state =
     after_change (with_binding name expr operands state.entries) (name ∷ []) state
 

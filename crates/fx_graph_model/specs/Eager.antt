@@ -2,7 +2,6 @@
 -- operands.
 use Rattle.std.specs.Prelude.{ℕ, zero, suc, List, length, map}
 use Rattle.fx_base.specs.declared.values.Value.{Value}
-use Rattle.fx_expr.specs.Tree.{tree}
 use Rattle.fx_expr.specs.Meaning.{mean, no_value}
 use Rattle.fx_graph_model.specs.declared.entries.Entry.{Entry}
 use Rattle.fx_graph_model.specs.declared.entries.Definition.{Definition}
@@ -11,7 +10,7 @@ use Rattle.fx_graph_model.specs.Uses.{entry_of}
 
 abbrev pub value_of_definition : (ℕ → Value) → Definition → Value
 value_of_definition value (Base here) = here
-value_of_definition value (Bound expr operands) = mean (tree expr) (map value operands)
+value_of_definition value (Bound expr operands) = mean expr (map value operands)
 value_of_definition value Forgotten = no_value
 
 -- followed through at most so many bindings

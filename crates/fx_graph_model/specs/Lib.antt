@@ -1,6 +1,7 @@
 pub mod Changes
 pub mod Eager
 pub mod Equality
+pub mod Formulas
 pub mod Laws
 pub mod Marking
 pub mod Refusals

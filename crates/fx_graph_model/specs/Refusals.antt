@@ -6,8 +6,7 @@ use Rattle.fx_base.specs.Printing.{kind_of}
 use Rattle.fx_base.specs.declared.keys.Name.{Name}
 use Rattle.fx_base.specs.declared.kinds.Kind.{Kind}
 use Rattle.fx_base.specs.declared.values.Value.{Value}
-use Rattle.fx_expr.specs.declared.tree.Expr.{Expr}
-use Rattle.fx_expr.specs.Tree.{tree}
+use Rattle.fx_expr.specs.Tree.{Tree}
 use Rattle.fx_expr.specs.Typing.{kind_in}
 use Rattle.fx_graph_model.specs.declared.entries.Entry.{Entry}
 use Rattle.fx_graph_model.specs.declared.errors.GraphError.{GraphError}
@@ -55,8 +54,8 @@ is_of None kind = false
 is_of (Some found) kind = same_kind found kind
 
 -- the expression has the property's kind over its operands
-abbrev pub fits : List Entry → ℕ → Expr → List ℕ → Bool
-fits entries name expr operands = is_of (kind_in (tree expr) (map (kind_at entries) operands)) (kind_at entries name)
+abbrev pub fits : List Entry → ℕ → Tree → List ℕ → Bool
+fits entries name expr operands = is_of (kind_in expr (map (kind_at entries) operands)) (kind_at entries name)
 
 -- how many operands all bindings together have
 unfoldable pub operand_count : List Entry → ℕ
@@ -64,19 +63,19 @@ operand_count [] = 0
 operand_count (entry ∷ entries) = length (operands_in entry.definition) + operand_count entries
 
 -- the names are known, the property may be bound, and the expression has its kind
-unfoldable pub fit_refusal : Name → Expr → List Name → List Entry → Option GraphError
+unfoldable pub fit_refusal : Name → Tree → List Name → List Entry → Option GraphError
 fit_refusal name expr operands entries =
     or_else (unknown_name entries (name ∷ operands))
     (or_else (if read_only_in entries name.0 then Some (ReadOnly name) else None)
     (if fits entries name.0 expr (numbers operands) then None else Some (WrongKind name)))
 
 -- no operand reads the property, and there is room for the operands
-unfoldable pub link_refusal : Name → Expr → List Name → List Entry → Option GraphError
+unfoldable pub link_refusal : Name → Tree → List Name → List Entry → Option GraphError
 link_refusal name expr operands entries =
     or_else (refused_first Cycle (λ (operand : Name). leads entries operand.0 name.0) operands)
     (if nat_lt 1000000 (operand_count (with_binding name.0 expr (numbers operands) entries)) then Some Full else None)
 
-unfoldable pub bind_refusal : Name → Expr → List Name → List Entry → Option GraphError
+unfoldable pub bind_refusal : Name → Tree → List Name → List Entry → Option GraphError
 bind_refusal name expr operands entries =
     or_else (fit_refusal name expr operands entries) (link_refusal name expr operands entries)
 

@@ -2,7 +2,7 @@
 use Rattle.std.specs.Prelude.{ℕ, ◌≡◌, ◌<◌, Bool, true, false, List, length, map, slice_index_or, Some, Contains}
 use Rattle.fx_base.specs.Printing.{kind_of}
 use Rattle.fx_base.specs.declared.values.Value.{Value}
-use Rattle.fx_expr.specs.Tree.{tree, is_within}
+use Rattle.fx_expr.specs.Tree.{is_within}
 use Rattle.fx_expr.specs.Typing.{kind_in}
 use Rattle.fx_expr.specs.Meaning.{no_value}
 use Rattle.fx_graph_model.specs.declared.entries.Entry.{Entry}
@@ -17,8 +17,8 @@ use Rattle.fx_graph_model.specs.Uses.{entry_of, uses, bound_in, unknown_in, reac
 abbrev pub HasKind : List Entry → Entry → Definition → Type 0
 HasKind entries entry (Base value) = kind_of value ≡ entry.kind
 HasKind entries entry (Bound expr operands) =
-    (kind_in (tree expr) (map (kind_at entries) operands) ≡ Some entry.kind)
-    × (is_within (tree expr) (length operands) ≡ true)
+    (kind_in expr (map (kind_at entries) operands) ≡ Some entry.kind)
+    × (is_within expr (length operands) ≡ true)
 HasKind entries entry Forgotten = Unit {0}
 
 -- each entry has its kind, no operand is unknown, and no read-only name is bound

@@ -5,8 +5,8 @@ ghost use Rattle.fx_graph_model.specs.Uses.{is_binding, is_gone};
 ghost use Rattle.fx_base.specs.Names.{numbers};
 ghost use Rattle.fx_graph_model.specs.Equality.{same_value};
 
+use crate::formulas::Formula;
 use fx_base::{Kind, Name, Value};
-use fx_expr::Expr;
 use std::marker::Model;
 
 /// Where the present definition of a property came from.
@@ -58,7 +58,7 @@ pub enum Definition {
     /// The value itself.
     Base(Value),
     /// An expression over the values of other properties.
-    Bound(Expr, Operands),
+    Bound(Formula, Operands),
     /// Nothing any more: the name was given back, and is never given again.
     Forgotten,
 }

@@ -4,7 +4,7 @@ ghost use Rattle.std.specs.Prelude.{◌≡◌, ◌≤◌, ◌+◌, OnOk, length}
 use fx_base::{Kind, Ledgers, Name, Value, Work};
 use fx_expr::read_expr;
 use fx_graph::*;
-use fx_graph_model::GraphError;
+use fx_graph_model::{Formula, GraphError};
 use std::alloc::Global;
 use std::marker::Brand;
 use std::process::Abort;
@@ -33,7 +33,7 @@ fn bound(
         return Err(Fail::new("there is not one operand for each path"));
     }
     let operands = Vec::from_slice(alloc, operands)?;
-    Ok(graph.bind(alloc, name, parsed.expr, operands))
+    Ok(graph.bind(alloc, name, Formula::new(parsed.expr), operands))
 }
 
 /// Reads the property twice. At most each name is evaluated once, and none again.

@@ -4,7 +4,7 @@ ghost use Rattle.std.specs.Prelude.{◌≡◌};
 use fx_base::{Kind, Ledgers, Name, Value, Work};
 use fx_expr::Expr;
 use fx_graph::*;
-use fx_graph_model::{GraphError, Origin};
+use fx_graph_model::{Formula, GraphError, Origin};
 use std::alloc::Global;
 use std::marker::Brand;
 use std::process::Abort;
@@ -18,7 +18,7 @@ fn declared(alloc: Global, graph: &mut Graph, value: i64) -> Result<Name, GraphE
 /// Binds the one name to the other.
 fn bind_to(alloc: Global, graph: &mut Graph, name: Name, other: Name) -> Result<(), GraphError> {
     let operands = Vec::from_slice(alloc, &[other])?;
-    graph.bind(alloc, name, Expr::Operand(0), operands)
+    graph.bind(alloc, name, Formula::new(Expr::Operand(0)), operands)
 }
 
 /// Ends the binding of a bound property, and asks the same of one that isn't bound.

@@ -4,7 +4,7 @@ use Rattle.std.proofs.lemmas.Bool.{cases_Bool, eq-eqb, eqb-false, eqb-true, leb-
 use Rattle.fx_base.specs.Answers.{IsAnswer, or_else}
 use Rattle.fx_base.specs.declared.keys.Name.{Name}
 use Rattle.fx_base.specs.declared.values.Value.{Value}
-use Rattle.fx_expr.specs.declared.tree.Expr.{Expr}
+use Rattle.fx_expr.specs.Tree.{Tree}
 use Rattle.fx_store_model.specs.declared.errors.StoreError.{StoreError}
 use Rattle.fx_store_model.specs.declared.errors.StoreError.TheVariants as error
 use Rattle.fx_handles.specs.declared.Owner.{Owner}
@@ -161,7 +161,7 @@ pairable one other es pairs e =
     }
 
 -- a name that isn't in a pair is bound as the graph says
-pub bind_free : (name : Name) (expr : Expr) (operands : List Name) (es : List Entry) (pairs : List (ℕ × ℕ)) → is_paired pairs name.0 ≡ false
+pub bind_free : (name : Name) (expr : Tree) (operands : List Name) (es : List Entry) (pairs : List (ℕ × ℕ)) → is_paired pairs name.0 ≡ false
     → store.bind_refusal name expr operands es pairs ≡ of_graph_refusal (graph.bind_refusal name expr operands es)
 unfolding store.bind_refusal graph.bind_refusal
 bind_free name expr operands es pairs free =
@@ -171,7 +171,7 @@ bind_free name expr operands es pairs free =
     ∙ either_graph (fit_refusal name expr operands es) (link_refusal name expr operands es)
 
 -- one that is in a pair is never bound
-pub bind_mixed : (name : Name) (expr : Expr) (operands : List Name) (es : List Entry) (pairs : List (ℕ × ℕ)) → is_paired pairs name.0 ≡ true
+pub bind_mixed : (name : Name) (expr : Tree) (operands : List Name) (es : List Entry) (pairs : List (ℕ × ℕ)) → is_paired pairs name.0 ≡ true
     → store.bind_refusal name expr operands es pairs
     ≡ or_else (of_graph_refusal (fit_refusal name expr operands es)) (Some (error.Mixed name))
 unfolding store.bind_refusal
@@ -181,7 +181,7 @@ bind_mixed name expr operands es pairs paired =
     (or_else (refused_if so (error.Mixed name)) (of_graph_refusal (link_refusal name expr operands es)))) paired
 
 -- so is one that may be bound in no pair, and may be bound as the graph says
-pub bind_may : (name : Name) (expr : Expr) (operands : List Name) (es : List Entry) (pairs : List (ℕ × ℕ))
+pub bind_may : (name : Name) (expr : Tree) (operands : List Name) (es : List Entry) (pairs : List (ℕ × ℕ))
     → store.bind_refusal name expr operands es pairs ≡ None
     → (is_paired pairs name.0 ≡ false) × (graph.bind_refusal name expr operands es ≡ None)
 bind_may name expr operands es pairs none =

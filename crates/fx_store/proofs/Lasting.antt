@@ -5,7 +5,7 @@ use Rattle.std.proofs.lemmas.List.{length_push}
 use Rattle.fx_base.specs.declared.keys.Name.{Name}
 use Rattle.fx_base.specs.declared.values.Value.{Value}
 use Rattle.fx_store_model.proofs.Grouping.{IsGroup, given_group}
-use Rattle.fx_expr.specs.declared.tree.Expr.{Expr}
+use Rattle.fx_expr.specs.Tree.{Tree}
 use Rattle.fx_handles.specs.Living.{Register}
 use Rattle.fx_listen.specs.Listening.{Table, living_in}
 use Rattle.fx_store_pairs.specs.Pairs.{is_paired, joined}
@@ -82,7 +82,7 @@ module _ (pairs : List (ℕ × ℕ)) (table : Table) (owners : Register) where
       kept_changed graph (after_values false words graph) behind pairs kept (stays_values false words graph.entries)
       (paired_published graph.entries pairs words kept.twins only) kept.few
 
-  pub kept_bound : (graph : State) (behind : Bool) → IsKept graph pairs table owners behind → (name : ℕ) (expr : Expr) (operands : List ℕ)
+  pub kept_bound : (graph : State) (behind : Bool) → IsKept graph pairs table owners behind → (name : ℕ) (expr : Tree) (operands : List ℕ)
       → is_paired pairs name ≡ false → IsKept (after_bind name expr operands graph) pairs table owners true
   kept_bound graph behind kept name expr operands free =
       kept_changed graph (after_bind name expr operands graph) behind pairs kept (stays_bound name expr operands graph.entries)

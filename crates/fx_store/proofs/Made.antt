@@ -11,7 +11,7 @@ use Rattle.fx_store_model.specs.Making.{changed_by, made, moved, with_entries, w
 use Rattle.fx_store_model.specs.Step.{Tells, added_by, before_reads, changed_notices, invalid_notices, marked_by, newly}
 use Rattle.fx_store_model.specs.Stored.{Stored}
 use Rattle.fx_store_model.proofs.Grouping.{IsGroup, changed_group, changed_group_all, given_group, group_changed}
-use Rattle.fx_expr.specs.declared.tree.Expr.{Expr}
+use Rattle.fx_expr.specs.Tree.{Tree}
 use Rattle.fx_handles.specs.Living.{Register}
 use Rattle.fx_listen.specs.declared.entries.Listener.{Listener}
 use Rattle.fx_listen.specs.Listening.{Table, living_in}
@@ -115,7 +115,7 @@ module _ (graph : State) (pairs : List (ℕ × ℕ)) (table : Table) (owners : R
   unfolding before_reads made changed_by
   made_publish words = record { whole = refl; newly_told = refl }
 
-  pub made_bind : (name : Name) (expr : Expr) (operands : List Name)
+  pub made_bind : (name : Name) (expr : Tree) (operands : List Name)
       → IsMade (Bind name expr operands) (stored_of graph pairs table owners) (after_bind name.0 expr (numbers operands) graph)
       pairs table owners
   unfolding before_reads made changed_by

@@ -7,7 +7,7 @@ use Rattle.fx_base.specs.declared.keys.Name.{Name}
 use Rattle.fx_base.specs.declared.values.Value.{Value}
 use Rattle.fx_store_model.specs.Making.{with_group}
 use Rattle.fx_store_model.proofs.Grouping.{entry-group_in, entry-group_out}
-use Rattle.fx_expr.specs.declared.tree.Expr.{Expr}
+use Rattle.fx_expr.specs.Tree.{Tree}
 use Rattle.fx_handles.specs.declared.Owner.{Owner}
 use Rattle.fx_listen.specs.declared.entries.Listener.{Listener}
 use Rattle.fx_listen.specs.Listening.{is_live, living_in}
@@ -82,7 +82,7 @@ stays_values sets (pair ∷ pairs) es =
     stays_onwards es after (with_values sets pairs after)
     (stays_set es pair.0.0 (given sets pair.1 (entry_of es pair.0.0)) refl refl refl) (stays_values sets pairs after)
 
-pub stays_bound : (name : ℕ) (expr : Expr) (operands : List ℕ) (es : List Entry) → Stays es (with_binding name expr operands es)
+pub stays_bound : (name : ℕ) (expr : Tree) (operands : List ℕ) (es : List Entry) → Stays es (with_binding name expr operands es)
 stays_bound name expr operands es = stays_set es name (bound_to expr operands (entry_of es name)) refl refl refl
 
 pub stays_declared : (es : List Entry) (entry : Entry) → Stays es (es ++ entry ∷ [])
@@ -225,7 +225,7 @@ paired_published es pairs words paired only =
         both_ways _ own.free (subst (λ n. read_only_in es n ≡ true) found.2 (only found.0 found.1))
 
 -- no name in a pair is bound
-pub paired_bound : (es : List Entry) (pairs : List (ℕ × ℕ)) (name : ℕ) (expr : Expr) (operands : List ℕ) → ArePaired es pairs
+pub paired_bound : (es : List Entry) (pairs : List (ℕ × ℕ)) (name : ℕ) (expr : Tree) (operands : List ℕ) → ArePaired es pairs
     → is_paired pairs name ≡ false → ArePaired (with_binding name expr operands es) pairs
 paired_bound es pairs name expr operands paired free =
     paired_same es (with_binding name expr operands es) pairs paired

@@ -15,7 +15,7 @@ use Rattle.fx_store_model.specs.Refusals.{IsAllowed, IsChangeAnswer, bind_refusa
 use Rattle.fx_store_model.specs.Step.{IsFit, due}
 use Rattle.fx_store_model.specs.Stored.{Stored}
 use Rattle.fx_store_model.proofs.Grouping.{IsGroup}
-use Rattle.fx_expr.specs.declared.tree.Expr.{Expr}
+use Rattle.fx_expr.specs.Tree.{Tree}
 use Rattle.fx_handles.specs.Living.{Register}
 use Rattle.fx_listen.specs.declared.entries.Listener.{Listener}
 use Rattle.fx_listen.specs.Listening.{Table, living_in}
@@ -116,7 +116,7 @@ module _ (graph : State) (pairs : List (ℕ × ℕ)) (table : Table) (owners : R
         few = here.few;
       })
 
-  pub under_bind : (before : Stored) (now : State) (name : Name) (expr : Expr) (operands : List Name) (names : List Name)
+  pub under_bind : (before : Stored) (now : State) (name : Name) (expr : Tree) (operands : List Name) (names : List Name)
       (heard : List Listener) (values : List Value) (began looked : ℕ) → seen ≡ before → IsKept graph pairs table owners behind
       → IsLooked before names heard values began looked → is_paired before.pairs name.0 ≡ false
       → graph_refusals.bind_refusal name expr operands graph.entries ≡ None
@@ -320,7 +320,7 @@ allowed_publish before words lent loan none =
     answer_ok (Unit {0}) (of_graph_refusal (publish_refusal words before.entries)) tt
     (ap of_graph_refusal (subst (λ ws. publish_refusal ws before.entries ≡ None) loan none))
 
-pub allowed_bind : (before : Stored) (name : Name) (expr : Expr) (operands : List Name) (lent : List Name) → lent ≡ operands
+pub allowed_bind : (before : Stored) (name : Name) (expr : Tree) (operands : List Name) (lent : List Name) → lent ≡ operands
     → is_paired before.pairs name.0 ≡ false → graph_refusals.bind_refusal name expr lent before.entries ≡ None
     → IsAllowed (Bind name expr operands) before
 unfolding refusal
@@ -334,7 +334,7 @@ pub allowed_pair : (before : Stored) (one other : Name) → pair_refusal one oth
 unfolding refusal
 allowed_pair before one other none = answer_ok (Unit {0}) (pair_refusal one other before.entries before.pairs) tt none
 
-pub refused_bind : (before : Stored) (name : Name) (expr : Expr) (operands : List Name) (lent : List Name) (cause : StoreError) (began : ℕ)
+pub refused_bind : (before : Stored) (name : Name) (expr : Tree) (operands : List Name) (lent : List Name) (cause : StoreError) (began : ℕ)
     → lent ≡ operands
     → (cause ≡ error.Memory) ⊎ (Some cause ≡ bind_refusal name expr lent before.entries before.pairs)
     → Applied (Bind name expr operands) before before (Err cause) began began

@@ -4,7 +4,7 @@
 ghost use Rattle.std.specs.Prelude.{ℕ, List, ◌≡◌, ◌≢◌, ◌≤◌, ◌+◌, ◌++◌, ◌∷◌, ◌==◌, [], false, true, not, cond, filter, AllPairs, IfErr, IfOk, None, OnErr, OnOk, Some, length, map};
 ghost use Rattle.fx_base.specs.declared.keys.Name.{Name as Named};
 ghost use Rattle.fx_base.specs.declared.values.Value.{Value as Content};
-ghost use Rattle.fx_expr.specs.Tree.{is_within, tree};
+ghost use Rattle.fx_expr.specs.Tree.{is_within};
 ghost use Rattle.fx_listen.specs.Listening.{living_in};
 ghost use Rattle.fx_store_pairs.specs.Pairs.{is_paired};
 ghost use Rattle.fx_graph_model.specs.declared.entries.Entry.{Entry};
@@ -30,9 +30,8 @@ use crate::store::Store;
 use crate::telling::tell;
 use crate::watching::{Watched, push_two, watch};
 use fx_base::{Ledgers, List, Name, Value, Work};
-use fx_expr::Expr;
 use fx_graph::Graph;
-use fx_graph_model::GraphError;
+use fx_graph_model::{Formula, GraphError};
 use fx_handles::Owners;
 use fx_listen::Listeners;
 use fx_store_model::{Notices, StoreError};
@@ -276,11 +275,11 @@ impl Store {
         &mut self,
         alloc: Global,
         name: Name,
-        expr: Expr,
+        expr: Formula,
         operands: List<Name>,
         work: &mut Work<L>,
     ) -> Result<Notices, StoreError>
-        requires { is_within (tree expr) (length operands) ≡ true }
+        requires { is_within expr (length operands) ≡ true }
         ensures applied { Applied (change.Bind name expr operands) self.old self.new result work.old.evaluated
             work.new.evaluated }
         ensures others { work.new ≡ record work.old { evaluated = work.new.evaluated } }
@@ -308,10 +307,10 @@ impl Store {
         &mut self,
         alloc: Global,
         name: Name,
-        expr: &Expr,
+        expr: &Formula,
         operands: &[Name],
     ) -> Result<Option<StoreError>, AllocError>
-        requires { is_within (tree expr.now) (length operands.now) ≡ true }
+        requires { is_within expr.now (length operands.now) ≡ true }
         ensures same { self.new ≡ self.old }
         ensures refusal { IfOk result (λ refusal. refusal
             ≡ bind_refusal name expr.now operands.now self.old.entries self.old.pairs) }

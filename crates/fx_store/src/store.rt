@@ -43,12 +43,12 @@ pub struct Store {
 
 impl Model for Store {
     ghost use Rattle.fx_store_model.specs.Stored.{Stored};
-    ghost use Rattle.fx_expr.specs.contracts.tree.Expr as e;
+    ghost use Rattle.fx_graph_model.specs.contracts.entries.Entry as entry;
     ghost use Rattle.std.specs.Coded.{codes};
 
     ghost Value = { Stored };
 
-    ghost coded = { Prim.hlevel (codes, e.the_row.coded) };
+    ghost coded = { Prim.hlevel (codes, entry.the_row.coded) };
 
     ghost use Rattle.fx_store.specs.Kept.{IsKept, stored_of};
 

@@ -6,7 +6,7 @@ use Rattle.std.proofs.lemmas.List.{get_or_past, length-set}
 use Rattle.fx_base.specs.Names.{numbers}
 use Rattle.fx_base.specs.declared.keys.Name.{Name}
 use Rattle.fx_base.specs.declared.values.Value.{Value}
-use Rattle.fx_expr.specs.declared.tree.Expr.{Expr}
+use Rattle.fx_expr.specs.Tree.{Tree}
 use Rattle.fx_graph_model.specs.declared.entries.Entry.{Entry}
 use Rattle.fx_graph_model.specs.Changes.{bound_to, forget_all, given, with_binding, with_values}
 use Rattle.fx_graph_model.specs.Eager.{eager}
@@ -114,7 +114,7 @@ keeps_values sets (pair ∷ pairs) es =
     keeps_onwards es after (with_values sets pairs after)
     (keeps_set es pair.0.0 (given sets pair.1 (entry_of es pair.0.0)) refl refl refl) (keeps_values sets pairs after)
 
-pub keeps_bound : (name : ℕ) (expr : Expr) (operands : List ℕ) (es : List Entry) → KeepsNames es (with_binding name expr operands es)
+pub keeps_bound : (name : ℕ) (expr : Tree) (operands : List ℕ) (es : List Entry) → KeepsNames es (with_binding name expr operands es)
 keeps_bound name expr operands es = keeps_set es name (bound_to expr operands (entry_of es name)) refl refl refl
 
 keeps_unbound : (name : ℕ) (stored : Stored) → KeepsNames stored.entries (made_unbind name stored).entries

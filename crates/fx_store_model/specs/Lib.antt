@@ -1,6 +1,5 @@
 pub mod Applied
 pub mod Causes
-pub mod Copies
 pub mod Laws
 pub mod Making
 pub mod Refusals

@@ -5,7 +5,7 @@ use Rattle.std.specs.Option.{option_map}
 use Rattle.fx_base.specs.Answers.{IsAnswer, or_else}
 use Rattle.fx_base.specs.Names.{numbers}
 use Rattle.fx_base.specs.declared.keys.Name.{Name}
-use Rattle.fx_expr.specs.declared.tree.Expr.{Expr}
+use Rattle.fx_expr.specs.Tree.{Tree}
 use Rattle.fx_handles.specs.declared.Owner.{Owner}
 use Rattle.fx_handles.specs.Living.{Register}
 use Rattle.fx_listen.specs.declared.entries.Listener.{Listener}
@@ -64,7 +64,7 @@ unfoldable pub unlisten_refusal : Name → Option Owner → List Entry → List 
 unlisten_refusal name owner entries living =
     or_else (unknown_of (name ∷ []) entries) (if has_life living owner then None else Some error.StaleOwner)
 
-unfoldable pub bind_refusal : Name → Expr → List Name → List Entry → List (ℕ × ℕ) → Option StoreError
+unfoldable pub bind_refusal : Name → Tree → List Name → List Entry → List (ℕ × ℕ) → Option StoreError
 bind_refusal name expr operands entries pairs =
     or_else (of_graph_refusal (fit_refusal name expr operands entries))
     (or_else (refused_if (is_paired pairs name.0) (error.Mixed name))

@@ -10,7 +10,7 @@ use Rattle.fx_listen.specs.Listening.{same_kind, tells}
 use Rattle.fx_graph_model.specs.declared.entries.Entry.{Entry}
 use Rattle.fx_graph_model.specs.Eager.{eager}
 use Rattle.fx_graph_model.specs.Equality.{same_value}
-use Rattle.fx_expr.specs.Tree.{is_within, tree}
+use Rattle.fx_expr.specs.Tree.{is_within}
 use Rattle.fx_base.specs.Names.{name_of}
 use Rattle.fx_graph_model.specs.Refusals.{read_only_in}
 use Rattle.fx_graph_model.specs.Uses.{unknown_in}
@@ -101,5 +101,5 @@ IsFit (Publish pairs) stored =
     × All
     (λ (pair : Name × Value). unknown_in stored.entries pair.0.0 ≡ false → read_only_in stored.entries pair.0.0 ≡ true)
     pairs
-IsFit (Bind name expr operands) stored = is_within (tree expr) (length operands) ≡ true
+IsFit (Bind name expr operands) stored = is_within expr (length operands) ≡ true
 IsFit change stored = Unit {0}

@@ -1,9 +1,8 @@
 //! What is asked of a store of properties, and what it tells of it.
 ghost use Rattle.std.specs.Prelude.{◌≡◌, IfOk};
-ghost use Rattle.fx_store_model.specs.Copies.{SayTheSame};
 
 use fx_base::{List, Name, Value};
-use fx_expr::Expr;
+use fx_graph_model::Formula;
 use fx_handles::Owner;
 use fx_listen::ListenKind;
 use std::alloc::{AllocError, Global};
@@ -15,8 +14,8 @@ pub enum Change {
     Set(Name, Value),
     /// Gives read-only properties their values, all at once.
     Publish(List<(Name, Value)>),
-    /// Binds the property to the expression over the operands (JavaFX `bind`).
-    Bind(Name, Expr, List<Name>),
+    /// Binds the property to the formula over the operands (JavaFX `bind`).
+    Bind(Name, Formula, List<Name>),
     /// Ends the binding; the property keeps its value (JavaFX `unbind`).
     Unbind(Name),
     /// Joins the two: the first, and all that are joined with it, take the value of the second (JavaFX
@@ -33,9 +32,9 @@ pub enum Change {
 }
 
 impl Change {
-    /// A change that says the same.
+    /// The same change.
     pub fn copy(&self, alloc: Global) -> Result<Change, AllocError>
-        ensures { IfOk result (λ copy. SayTheSame copy self.now) }
+        ensures { IfOk result (λ copy. copy ≡ self.now) }
     {
         match self {
             Change::Set(name, value) => Ok(Change::Set(*name, value.copy(alloc)?)),

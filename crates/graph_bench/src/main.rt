@@ -9,6 +9,7 @@ use anyhow::bail;
 use fx_base::{Kind, Ledgers, Name, Value, Work};
 use fx_expr::read_expr;
 use fx_graph::Graph;
+use fx_graph_model::Formula;
 use std::alloc::Global;
 use std::env;
 use std::marker::Brand;
@@ -103,7 +104,11 @@ fn bind(alloc: Global, graph: &mut Graph, name: Name, operand: Name) -> anyhow::
     if operands.len() != next.paths.as_slice().len() {
         bail!("the expression reads one name");
     }
-    Ok(graph.bind(alloc, name, next.expr, operands).is_ok())
+    Ok(
+        graph
+            .bind(alloc, name, Formula::new(next.expr), operands)
+            .is_ok(),
+    )
 }
 
 fn set_and_read<L: Ledgers>(

@@ -5,7 +5,7 @@ use anyhow::bail;
 use fx_base::{Ledgers, Value, Work};
 use fx_expr::read_expr;
 use fx_graph::Graph;
-use fx_graph_model::Origin;
+use fx_graph_model::{Formula, Origin};
 use std::alloc::Global;
 use std::str::Split;
 
@@ -96,7 +96,10 @@ fn bind(alloc: Global, graph: &mut Graph, words: &mut Split<'_, char>) -> anyhow
     if operands.len() != parsed.paths.as_slice().len() {
         bail!("each path has one operand");
     }
-    Ok(of_call(alloc, graph.bind(alloc, bound, parsed.expr, operands))?)
+    Ok(of_call(
+        alloc,
+        graph.bind(alloc, bound, Formula::new(parsed.expr), operands),
+    )?)
 }
 
 /// The value, and from where the definition came.

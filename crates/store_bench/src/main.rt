@@ -8,6 +8,7 @@ ghost use Rattle.std.specs.Prelude.{◌≡◌};
 use anyhow::bail;
 use fx_base::{Kind, Ledgers, List, Name, Value, Work};
 use fx_expr::read_expr;
+use fx_graph_model::Formula;
 use fx_listen::ListenKind;
 use fx_store::Store;
 use fx_store_model::Change;
@@ -111,7 +112,7 @@ fn bound<L: Ledgers>(
     if operands.len() != parsed.paths.as_slice().len() {
         bail!("each path has one operand");
     }
-    let change = Change::Bind(name, parsed.expr, List::from_vec(operands));
+    let change = Change::Bind(name, Formula::new(parsed.expr), List::from_vec(operands));
     store.apply(alloc, change, work)?;
     Ok(name)
 }

@@ -4,7 +4,7 @@ use crate::words::{name, next, value};
 use anyhow::bail;
 use fx_base::{Ledgers, List, Work};
 use fx_expr::read_expr;
-use fx_graph_model::Origin;
+use fx_graph_model::{Formula, Origin};
 use fx_handles::Owner;
 use fx_listen::ListenKind;
 use fx_store::Store;
@@ -222,7 +222,7 @@ fn bind<L: Ledgers>(
     if operands.len() != parsed.paths.as_slice().len() {
         bail!("each path has one operand");
     }
-    let change = Change::Bind(bound, parsed.expr, List::from_vec(operands));
+    let change = Change::Bind(bound, Formula::new(parsed.expr), List::from_vec(operands));
     Ok(of_change(alloc, run.store.apply(alloc, change, work))?)
 }
 

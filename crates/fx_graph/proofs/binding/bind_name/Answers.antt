@@ -2,7 +2,7 @@ use Rattle.std.proofs.Common.{◌≡◌, true, length, ap, sym, ◌∙◌, arith
 use Rattle.std.proofs.lemmas.List.{with_items_is, length-map, length-set}
 use Rattle.fx_base.specs.declared.keys.Name.{Name}
 use Rattle.fx_base.specs.Names.{numbers}
-use Rattle.fx_expr.specs.Tree.{tree, is_within}
+use Rattle.fx_expr.specs.Tree.{is_within}
 use Rattle.fx_graph_model.specs.Changes.{bound_to, with_binding}
 use Rattle.fx_graph_model.specs.Users.{Mirrors}
 use Rattle.fx_graph_model.specs.Uses.{entry_of, uses}
@@ -81,7 +81,7 @@ returns-clause-holds c =
     let written : f.entries.items ≡ with_binding c.args.name.0 c.args.expr names es = c.bind_linked.ensures.entries in
     let size : length f.entries.items ≡ length es = ap length written ∙ length-set es c.args.name.0 (bound_to c.args.expr names (entry_of es c.args.name.0)) in
     let long : length names ≡ length c.args.operands.items = length-map c.args.operands.items (λ (n : Name). n.0) in
-    let places : is_within (tree c.args.expr) (length names) ≡ true = rw long c.requires.places in
+    let places : is_within c.args.expr (length names) ≡ true = rw long c.requires.places in
     let used : c.operands_at.result ≡ length (uses es c.args.name.0) = rw c.as_slice.ensures.value at c.operands_at.ensures in
     let mirrors : Mirrors (with_binding c.args.name.0 c.args.expr names es) c.relink.new.users =
     rw c.as_slice-2.ensures.value at

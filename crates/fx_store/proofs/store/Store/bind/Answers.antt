@@ -8,7 +8,7 @@ use Rattle.fx_store_model.specs.Step.{due}
 use Rattle.fx_store_model.specs.Stored.{Stored}
 use Rattle.fx_base.specs.Names.{numbers}
 use Rattle.fx_base.specs.declared.keys.Name.{Name}
-use Rattle.fx_expr.specs.Tree.{is_within, tree}
+use Rattle.fx_expr.specs.Tree.{is_within}
 use Rattle.fx_graph_model.specs.Changes.{State, after_bind}
 use Rattle.fx_graph_model.specs.Refusals as graph
 use Rattle.fx_store.specs.Kept.{stored_of}
@@ -54,7 +54,7 @@ returns-in_err-watch-clause-applied g c =
 
 pub make_binding-requires-clause-places : goal.make_binding-requires-clause-places
 make_binding-requires-clause-places g c =
-    subst (λ (ns : List Name). is_within (tree c.args.expr) (length ns) ≡ true) (sym c.into_vec.ensures) c.requires
+    subst (λ (ns : List Name). is_within c.args.expr (length ns) ≡ true) (sym c.into_vec.ensures) c.requires
 
 pub make_binding-requires-clause-allowed : goal.make_binding-requires-clause-allowed
 make_binding-requires-clause-allowed g c =

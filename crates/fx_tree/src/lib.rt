@@ -4,7 +4,7 @@
 
 mod nodes;
 
-ghost use Rattle.std.specs.Prelude.{◌≡◌, ◌↔◌, ◌⊎◌, ◌+◌, ◌++◌, [], Some, length, reverse, is_some, IfOk, OnOk, OnErr};
+ghost use Rattle.std.specs.Prelude.{◌≡◌, ◌↔◌, ◌⊎◌, ◌+◌, ◌==◌, ◌||◌, ◌++◌, [], Some, length, reverse, is_some, IfOk, OnOk, OnErr};
 ghost use Rattle.fx_tree.specs.History.{DeadStayDead, EachBirthOnce, PathsMeetOnce, SubtreesMeetOnce};
 ghost use Rattle.fx_tree.specs.Refusals.{IsAnswer, IsFirmAnswer, attach_refusal, detach_refusal, drop_refusal, root_refusal, stale};
 ghost use Rattle.fx_tree.specs.Scene as spec;
@@ -98,6 +98,13 @@ impl Tree {
             root: None,
             born: 0,
         }
+    }
+
+    /// Whether no more nodes can be made: 4,096 are alive, or the last birth number was given.
+    pub fn is_full(&self) -> bool
+        ensures { result ≡ ((length self.now.nodes == 4096) || (self.now.born == 4294967295)) }
+    {
+        self.nodes.len() == MOST_NODES || self.born == u32::MAX
     }
 
     /// A further node, without parent and children, born after all others.

@@ -1,0 +1,13 @@
+pub mod Graphs
+pub mod World
+pub mod Answers
+pub mod Looking
+pub mod Properties
+pub mod Listening
+pub mod Nodes
+pub mod Dressing
+pub mod Lines
+pub mod Sound
+pub mod Taking
+pub mod Coding
+pub mod Building

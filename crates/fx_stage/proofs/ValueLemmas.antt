@@ -1,0 +1,62 @@
+-- The value that a text spells, as it is read.
+use Rattle.std.proofs.Common.{◌≡◌, ℕ, Bool, true, false, List, Option, Some, None, Result, Ok, Err, IfOk, IfSome, IfNone, refl, sym, ◌∙◌, subst, inl}
+use Rattle.fx_base.specs.declared.keys.Name.{Name}
+use Rattle.fx_base.specs.declared.kinds.Kind.{Kind}
+use Rattle.fx_base.specs.declared.values.Value.{Value}
+use Rattle.fx_look.specs.Readings.{IsValue, value_at}
+use Rattle.fx_graph_model.specs.Refusals.{kind_at, read_only_in}
+use Rattle.fx_look.proofs.ReadingLemmas.{value_complete, value_found}
+use Rattle.fx_store_model.specs.declared.changes.Change.TheVariants.{Set}
+use Rattle.fx_stage_types.specs.declared.answers.Outcome.{Outcome}
+use Rattle.fx_stage_types.specs.declared.answers.StageError.{StageError}
+use Rattle.fx_stage_types.specs.declared.answers.StageError.TheVariants.{Refused}
+use Rattle.fx_stage_types.specs.declared.refusals.Refusal.{Refusal}
+use Rattle.fx_stage_types.specs.declared.refusals.Refusal.TheVariants as word
+use Rattle.fx_stage_model.specs.Answers.{Taken, and_then, or_word, unless}
+use Rattle.fx_stage_model.specs.Looking.{find}
+use Rattle.fx_stage_model.specs.Properties.{changed, set}
+use Rattle.fx_stage_model.specs.Taking.{IsTaken}
+use Rattle.fx_stage_model.specs.World.{World}
+
+spells_none : (kind : Kind) (text : List ℕ) (o : Option Value) → o ≡ value_at kind text
+    → ((v : Value) → IsValue kind text v → ⊥) → None ≡ o
+spells_none kind text None is none = refl
+spells_none kind text (Some v) is none =
+    absurd (none v (value_found {E = ℕ} kind text (Ok (Some v)) is))
+
+pub value_read : {E : Type 0} (kind : Kind) (text : List ℕ) (r : Result (Option Value) E)
+    → IfOk r (λ o. IfSome o (IsValue kind text)) → IfOk r (λ o. IfNone o ((v : Value) → IsValue kind text v → ⊥))
+    → IfOk r (λ o. o ≡ value_at kind text)
+value_read kind text (Err e) found none = tt
+value_read kind text (Ok (Some v)) found none = sym (value_complete kind text v found)
+value_read kind text (Ok None) found none = spells_none kind text (value_at kind text) refl none
+
+-- a `set` of a property that is found and not read-only, by what the text spells
+module _ (path : List (List ℕ)) (text : List ℕ) (world : World) (name : Name) (here : find world path ≡ Ok name)
+    (free : read_only_in world.store.entries name.0 ≡ false) where
+  by_value : World → Name → Option Value → Result Taken Refusal
+  by_value w n o = and_then (or_word word.Value o) (λ (v : Value). changed (Set n v) w)
+
+  by_name : World → Name → Result Taken Refusal
+  by_name w n =
+      unless (read_only_in w.store.entries n.0) word.ReadOnly (by_value w n (value_at (kind_at w.store.entries n.0) text))
+
+  set_is : (o : Option Value) → o ≡ value_at (kind_at world.store.entries name.0) text → set path text world ≡ by_value world name o
+  unfolding set by_value by_name
+  set_is o is =
+      subst (λ (r : Result Name Refusal). and_then r (by_name world) ≡ by_value world name o) (sym here)
+      (subst (λ (b : Bool). unless b word.ReadOnly (by_value world name (value_at (kind_at world.store.entries name.0) text)) ≡ by_value world name o) (sym free)
+      (subst (λ (p : Option Value). by_value world name p ≡ by_value world name o) is refl))
+
+  pub set_none : None ≡ value_at (kind_at world.store.entries name.0) text
+      → IsTaken (set path text world) world world (Err (Refused word.Value))
+  unfolding by_value
+  set_none is =
+      subst (λ (r : Result Taken Refusal). IsTaken r world world (Err (Refused word.Value))) (sym (set_is None is)) (refl, inl refl)
+
+  pub set_some : (value : Value) (now : World) (result : Result Outcome StageError)
+      → Some value ≡ value_at (kind_at world.store.entries name.0) text
+      → IsTaken (changed (Set name value) world) world now result → IsTaken (set path text world) world now result
+  unfolding by_value
+  set_some value now result is taken =
+      subst (λ (r : Result Taken Refusal). IsTaken r world now result) (sym (set_is (Some value) is)) taken

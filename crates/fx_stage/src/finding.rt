@@ -1,0 +1,142 @@
+//! Nodes by their paths, and properties by their names.
+ghost use Rattle.std.specs.Prelude.{◌≡◌, ◌<◌, ◌≤◌, IfSome, Some};
+ghost use Rattle.fx_base.specs.Names.{name_of as name_numbered};
+ghost use Rattle.fx_stage_model.specs.Answers.{both, or_word, earlier};
+ghost use Rattle.fx_stage_types.specs.declared.refusals.Refusal.TheVariants as word;
+ghost use Rattle.std.specs.Option.{option_copied, option_map};
+ghost use Rattle.fx_stage_types.specs.Tables.{data_of, node_at};
+ghost use Rattle.fx_stage_model.specs.Looking as spec;
+
+use crate::stage::Stage;
+use fx_base::{Name, NodeKey, Text};
+use fx_kinds::{Class, property_named};
+use fx_stage_types::{NodeData, Refusal};
+
+/// The place of the property in the class's list.
+#[tactic(auto, unfolding(fx_stage_model::specs::Looking::place_of))]
+fn place_of(class: Class, property: &Text) -> Option<usize>
+    ensures place { result ≡ spec.place_of class property.now }
+    ensures small { IfSome result (λ place. place < 100) }
+{
+    property_named(class, property.as_str())
+}
+
+/// The number of the property of this name among those of a node.
+#[tactic(auto, unfolding(fx_stage_model::specs::Looking::property_in))]
+fn name_in(node: &NodeData, property: &Text) -> Option<Name>
+    requires low { node.now.first ≤ 4000000 }
+    ensures { option_map (λ name. name.0) result ≡ spec.property_in (Some node.now) property.now }
+{
+    match place_of(node.class, property) {
+        None => None,
+        Some(place) => Some(Name(node.first + place as u32)),
+    }
+}
+
+impl Stage {
+    /// The node of this path.
+    pub fn find(&self, path: &[Text]) -> Option<NodeKey>
+        ensures { result ≡ node_at self.now.graph.paths path.now }
+    {
+        self.graph.find(path)
+    }
+
+    /// The node's property of this name.
+    #[tactic(auto, unfolding(fx_stage_model::specs::Looking::property_in))]
+    pub fn name_of(&self, key: NodeKey, property: &Text) -> Option<Name>
+        ensures { option_map (λ name. name.0) result ≡ spec.property_in (data_of self.now.graph.table key) property.now }
+    {
+        match self.graph.node(key) {
+            None => None,
+            Some(node) => name_in(node, property),
+        }
+    }
+
+    /// The node of this path, or the word for why there is none.
+    #[tactic(auto, unfolding(fx_stage_model::specs::Looking::find_node))]
+    pub(crate) fn find_node(&self, path: &[Text]) -> Result<NodeKey, Refusal>
+        ensures { result ≡ spec.find_node self.now path.now }
+    {
+        match self.graph.find(path) {
+            Some(key) => Ok(key),
+            None => Err(Refusal::Unknown),
+        }
+    }
+
+    /// The property of this name of the node of this path, or the word for why there is none.
+    #[tactic(auto, unfolding(fx_stage_model::specs::Looking::find_of_node))]
+    fn find_of_node(&self, path: &[Text], property: &Text) -> Result<Name, Refusal>
+        ensures { result ≡ spec.find_of_node self.now path.now property.now }
+    {
+        match self.find_node(path) {
+            Ok(key) => or_property(self.name_of(key, property)),
+            Err(word) => Err(word),
+        }
+    }
+
+    /// The property of this path, or the word for why there is none.
+    #[tactic(auto, unfolding(fx_stage_model::specs::Looking::find))]
+    pub(crate) fn find_property(&self, path: &[Text]) -> Result<Name, Refusal>
+        ensures { result ≡ spec.find self.now path.now }
+    {
+        match path {
+            [] => Err(Refusal::Unknown),
+            [name] => or_unknown(self.free.get(name).copied()),
+            _ => {
+                let end = path.len() - 1;
+                self.find_of_node(&path[..end], &path[end])
+            }
+        }
+    }
+
+    /// Both properties, or the first word for why one isn't there.
+    pub(crate) fn find_two(&self, one: &[Text], other: &[Text]) -> Result<(Name, Name), Refusal>
+        ensures { result ≡ both (spec.find self.now one.now) (spec.find self.now other.now) }
+    {
+        both(self.find_property(one), self.find_property(other))
+    }
+}
+
+fn or_property(name: Option<Name>) -> Result<Name, Refusal>
+    ensures { result ≡ or_word word.Property (option_map name_numbered (option_map (λ n. n.0) name)) }
+{
+    match name {
+        Some(name) => Ok(name),
+        None => Err(Refusal::Property),
+    }
+}
+
+fn or_unknown(name: Option<Name>) -> Result<Name, Refusal>
+    ensures { result ≡ or_word word.Unknown name }
+{
+    match name {
+        Some(name) => Ok(name),
+        None => Err(Refusal::Unknown),
+    }
+}
+
+fn both(one: Result<Name, Refusal>, other: Result<Name, Refusal>) -> Result<(Name, Name), Refusal>
+    ensures { result ≡ both one other }
+{
+    match one {
+        Ok(one) => match other {
+            Ok(other) => Ok((one, other)),
+            Err(word) => Err(word),
+        },
+        Err(word) => match other {
+            Ok(_) => Err(word),
+            Err(other) => Err(earlier(word, other)),
+        },
+    }
+}
+
+/// The word that comes first in the order of words.
+fn earlier(one: Refusal, other: Refusal) -> Refusal
+    ensures { result ≡ earlier one other }
+{
+    if one.rank() <= other.rank() {
+        one
+    } else {
+        other
+    }
+}

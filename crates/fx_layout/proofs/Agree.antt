@@ -70,7 +70,7 @@ pub key_is : (k : NodeKey) → is_key k k ≡ true
 key_is k = and_from (eqb k.slot k.slot) (eqb k.birth k.birth) (eq-eqb k.slot k.slot refl) (eq-eqb k.birth k.birth refl)
 
 -- a node's own key stands at its place
-own_place : (olds : List BoxFacts) → AreDifferent (keys olds) → (d : ℕ) → d < length olds
+pub own_place : (olds : List BoxFacts) → AreDifferent (keys olds) → (d : ℕ) → d < length olds
     → old_place (keys olds) (node_at olds d).key ≡ d
 own_place olds differ d within =
     let key = (node_at olds d).key in

@@ -3,7 +3,9 @@ pub mod Sames
 pub mod Counts
 pub mod Shifts
 pub mod Agree
+pub mod Again
 pub mod One
+pub mod Readds
 pub mod Updating
 pub mod Fitting
 pub mod Over

@@ -20,7 +20,7 @@ use Rattle.fx_layout_parts.specs.declared.rules.Rule.{Rule}
 use Rattle.fx_layout_parts.specs.declared.rules.Rule.TheVariants as rule
 use Rattle.fx_layout_parts.specs.Children.{child_of}
 use Rattle.fx_layout_parts.specs.Rules.{AreSizesBy, IsHigh, IsWide, across_half, down_half}
-use Rattle.fx_layout_sweeps.specs.Nodes.{AreNodes, box_at, child_at, children_of, extent_at, is_place, node_at, nowhere, parent_at, parents, places_at, seen, span_at}
+use Rattle.fx_layout_sweeps.specs.Nodes.{AreNodes, box_at, child_at, children_lists, children_of, extent_at, is_place, node_at, nowhere, parent_at, parents, places_at, seen, span_at}
 use Rattle.fx_layout_sweeps.specs.Sweeps.{fitted, held_length, spans_along}
 use Rattle.fx_layout_sweeps.proofs.Asking.{children_below, lists_behind}
 use Rattle.fx_layout_sweeps.proofs.Below.{lists_at}
@@ -164,19 +164,25 @@ from_kept P test (x ∷ xs) (suc i) d all within e = from_kept P test xs i d (re
     rest true h = λ k f few. h (suc k) f (omega (arith, few))
     rest false h = h
 
-of_parent : (b : Both) → AreBoth b → (P : ℕ → Type 0) (q p : ℕ) → q < length b.nodes → p < length b.nodes
-    → parent_at (parents b.nodes) p ≡ Some q → All P (kids b q) → P p
-of_parent b g P q p q_within within up all =
-    let ups = parents b.nodes in
-    let long : length ups ≡ length b.nodes = length-map b.nodes (λ (n : BoxFacts). n.parent) in
+pub of_its_parent : (nodes : List BoxFacts) (children : List (List ℕ)) → children ≡ children_lists (parents nodes)
+    → (P : ℕ → Type 0) (q p : ℕ) → q < length nodes → p < length nodes → parent_at (parents nodes) p ≡ Some q
+    → All P (places_at children q) → P p
+of_its_parent nodes children hung P q p q_within within up all =
+    let ups = parents nodes in
+    let long : length ups ≡ length nodes = length-map nodes (λ (n : BoxFacts). n.parent) in
     let kept : All P (children_of ups q) =
     subst (λ (l : List ℕ). All P l)
-    (ap (λ (l : List (List ℕ)). places_at l q) g.first.children ∙ lists_at ups q (omega (arith, q_within, long))) all in
+    (ap (λ (l : List (List ℕ)). places_at l q) hung ∙ lists_at ups q (omega (arith, q_within, long))) all in
     let few : p < length (range_with_len 0 (length ups)) = omega (arith, length-range_with_len 0 (length ups), long, within) in
     let at : slice_index_or (range_with_len 0 (length ups)) p 0 ≡ p =
     get_or-range_with_len 0 (length ups) p 0 (omega (arith, long, within)) ∙ zero-add p in
     subst P at (from_kept P (λ j. is_place q (parent_at ups j)) (range_with_len 0 (length ups)) p 0 kept few
     (ap (λ j. is_place q (parent_at ups j)) at ∙ (ap (is_place q) up ∙ eq-eqb q q refl)))
+
+of_parent : (b : Both) → AreBoth b → (P : ℕ → Type 0) (q p : ℕ) → q < length b.nodes → p < length b.nodes
+    → parent_at (parents b.nodes) p ≡ Some q → All P (kids b q) → P p
+of_parent b g P q p q_within within up all =
+    of_its_parent b.nodes b.one.children g.first.children P q p q_within within up all
 
 same_spans : (b : Both) → AreBoth b → (axis : Axis) → (children : ℕ → List ChildSize) → (one other : List Span)
     → span_at one 0 ≡ span_at other 0

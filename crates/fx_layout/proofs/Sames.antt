@@ -6,7 +6,7 @@ use Rattle.fx_panes_parts.specs.declared.axes.Axis.{Axis}
 use Rattle.fx_panes_parts.specs.declared.axes.Extent.{Extent}
 use Rattle.fx_panes_parts.specs.declared.axes.Span.{Span}
 use Rattle.fx_layout_sweeps.specs.Nodes.{box_at, extent_at, places_at, span_at}
-use Rattle.fx_layout_sweeps.specs.Sweeps.{AreMeasured, ArePlaced, IsMeasured, fitted, seen_along, spans_for}
+use Rattle.fx_layout_sweeps.specs.Sweeps.{AreMeasured, ArePlaced, IsMeasured, fitted, is_worked, seen_along, spans_for}
 
 pub measured_as : (axis : Axis) (nodes : List BoxFacts) (looks : List Look) (children : List (List ℕ))
     (marked listed : ℕ → Bool) (widths : List Extent) (spans : List Span) (kept old : ℕ → Extent) (lengths : List Extent)
@@ -30,3 +30,19 @@ placed_as axis nodes looks children marked listed widths heights last kept spans
     subst (λ (b : Bool). map (span_at spans) (places_at children p) ≡ fitted (length (places_at children p))
     (spans_for axis nodes looks children widths heights kept p (b || not (nat_eq room (last p).length)) room))
     (marks p within) (are p within)
+
+-- also where other nodes are marked and what stood is told otherwise, if the same nodes are worked on
+pub placed_alike : (axis : Axis) (nodes : List BoxFacts) (looks : List Look) (children : List (List ℕ))
+    (marked listed : ℕ → Bool) (widths heights : List Extent) (last before : ℕ → Span) (kept held : ℕ → List Span)
+    (spans : List Span)
+    → ((p : ℕ) → p < length nodes → is_worked marked last spans p ≡ is_worked listed before spans p)
+    → ((p : ℕ) → p < length nodes → kept p ≡ held p)
+    → ArePlaced axis nodes looks children marked widths heights last kept spans
+    → ArePlaced axis nodes looks children listed widths heights before held spans
+placed_alike axis nodes looks children marked listed widths heights last before kept held spans works keeps are p within =
+    let room = (span_at spans p).length in
+    let count = length (places_at children p) in
+    subst (λ (l : List Span). map (span_at spans) (places_at children p) ≡ fitted count
+    (spans_for axis nodes looks children widths heights (λ q. l) p (is_worked listed before spans p) room)) (keeps p within)
+    (subst (λ (b : Bool). map (span_at spans) (places_at children p) ≡ fitted count
+    (spans_for axis nodes looks children widths heights kept p b room)) (works p within) (are p within))

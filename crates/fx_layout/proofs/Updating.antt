@@ -5,7 +5,8 @@ use Rattle.fx_kinds.specs.declared.facts.BoxFacts.{BoxFacts}
 use Rattle.fx_look.specs.declared.looks.Look.{Look}
 use Rattle.fx_panes_parts.specs.declared.axes.Axis.TheVariants.{Across, Down}
 use Rattle.fx_layout_sweeps.specs.Nodes.{children_lists, extent_at, keys, parents, span_at}
-use Rattle.fx_layout_sweeps.specs.Sweeps.{AreMeasured, ArePlaced, flag_in, is_worked, kept_in, last_in, tally}
+use Rattle.fx_layout_sweeps.specs.Marks.{flag_in}
+use Rattle.fx_layout_sweeps.specs.Sweeps.{AreMeasured, ArePlaced, is_worked, kept_in, last_in, tally}
 use Rattle.fx_layout_sweeps.proofs.Tallies.{tally_same}
 use Rattle.fx_layout.specs.Updates.{AreRects, IsUpdate, Kept, from_corner, is_listed, is_resized, is_wide_anew, laid_bound, lengths_in, old_places, resized, root_length, window_height, window_width}
 use Rattle.fx_layout.proofs.Counts.{few_listed, tally_or}

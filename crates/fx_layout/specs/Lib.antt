@@ -1,3 +1,4 @@
 pub mod Updates
+pub mod Keeping
 pub mod Layouts
 pub mod Fits

@@ -1,11 +1,12 @@
 //! Where the nodes of an update stood in the one before it, and which of them are listed.
 ghost use Rattle.std.specs.Prelude.{ℕ, ◌≡◌, ◌<◌, ◌≤◌, ◌==◌, ◌||◌, true, IfOk, length, slice_index_or};
 ghost use Rattle.fx_layout_sweeps.specs.Nodes.{keys};
-ghost use Rattle.fx_layout_sweeps.specs.Sweeps.{flag_in};
+ghost use Rattle.fx_layout_sweeps.specs.Marks.{flag_in};
 ghost use Rattle.fx_layout.specs.Updates.{AreDifferent, is_key, is_listed, old_place, old_places};
 
 use fx_base::NodeKey;
 use fx_kinds::BoxFacts;
+use fx_layout_sweeps::Marks;
 use std::alloc::{AllocError, Global};
 
 /// The keys of the nodes, in order.
@@ -74,29 +75,14 @@ pub(crate) fn is_key(one: NodeKey, other: NodeKey) -> bool
     one.slot == other.slot && one.birth == other.birth
 }
 
-/// A mark for each of so many places: it is set where the place is listed.
-pub(crate) fn marks_of(
-    alloc: Global,
-    listed: &[usize],
-    count: usize,
-) -> Result<Vec<bool>, AllocError>
-    ensures each { IfOk result (λ flags. length flags.items ≡ count) }
-    ensures marks { IfOk result (λ flags. (p : ℕ) → p < count
-        → flag_in flags.items p ≡ is_listed listed.now p) }
+/// So many places, of which the listed ones are marked.
+pub(crate) fn marks_of(alloc: Global, listed: &[usize], count: usize) -> Result<Marks, AllocError>
+    ensures each { IfOk result (λ marks. length marks ≡ count) }
+    ensures marks { IfOk result (λ marks. (p : ℕ) → p < count → flag_in marks p ≡ is_listed listed.now p) }
 {
-    let mut flags = vec![in alloc; false; count]?;
+    let mut marks = Marks::new(alloc, count)?;
     for place in listed {
-        mark(&mut flags, *place);
+        marks.mark_if(*place, true);
     }
-    Ok(flags)
-}
-
-fn mark(flags: &mut Vec<bool>, place: usize)
-    ensures each { length flags.new.items ≡ length flags.old.items }
-    ensures marks { (p : ℕ) → p < length flags.old.items
-        → flag_in flags.new.items p ≡ (flag_in flags.old.items p || (place == p)) }
-{
-    if place < flags.len() {
-        flags[place] = true;
-    }
+    Ok(marks)
 }

@@ -1,30 +1,23 @@
 //! The layout of a scene, kept from one update to the next.
 ghost use Rattle.std.specs.Prelude.{ℕ, ◌≡◌, ◌≤◌, ◌<◌, ◌+◌, [], IfOk, OnErr, OnOk, length};
-ghost use Rattle.fx_layout_sweeps.specs.Nodes.{AreNodes, children_lists, extent_at, keys, parents, span_at};
-ghost use Rattle.fx_layout_sweeps.specs.Sweeps.{AreMeasured, ArePlaced, flag_in, is_worked, kept_in, last_in, tally};
-ghost use Rattle.fx_layout.specs.Updates.{AreDifferent, IsUpdate, from_corner, heights_along, laid_bound, lengths_in, resized, root_length, root_size, widths_along, window_height, window_width};
+ghost use Rattle.fx_layout_sweeps.specs.Nodes.{AreNodes, children_lists, extent_at, keys, parents};
+ghost use Rattle.fx_panes_parts.specs.declared.axes.Axis.TheVariants.{Across, Down};
+ghost use Rattle.fx_layout.specs.Keeping.{IsWhole, kept_of};
+ghost use Rattle.fx_layout.specs.Updates.{AreDifferent, IsUpdate, laid_bound, resized, root_length, root_size, window_height, window_width};
 
+use crate::along::{Along, Moved, Scene, Sweep, lay_again, lay_moved};
 use crate::keys::{keys_of, marks_of, old_places};
-use crate::lengths::{
-    heights_along, kept_lengths, root_length, spans_from, widths_along, window_height, window_width,
-};
-use crate::rects::rects_of;
+use crate::lengths::{root_length, window_height, window_width};
+use crate::rects::{Halves, add_again, rects_of};
 use crate::trees::{Tree, fresh_tree, tree_in};
 use fx_base::{Ledgers, NodeKey, Rect, Work};
 use fx_kinds::BoxFacts;
-use fx_layout_sweeps::{Measuring, Places, Placing, extent_at, measure_nodes, place_nodes};
+use fx_layout_sweeps::extent_at;
 use fx_look::Look;
-use fx_panes_parts::{Axis, Extent, Span};
+use fx_panes_parts::Axis;
 use std::alloc::{AllocError, Global};
 use std::marker::Model;
 use std::mem;
-
-/// Lengths and places of the nodes along one axis.
-#[derive(Drop)]
-struct Along {
-    lengths: Vec<Extent>,
-    spans: Vec<Span>,
-}
 
 /// Where each node of the last update stands, and what the next one needs of it: the keys of the nodes, their children, and
 /// their lengths and places along both axes.
@@ -39,7 +32,9 @@ pub struct Layouts {
 
 impl Model for Layouts {
     ghost use Rattle.fx_layout_sweeps.specs.Nodes.{children_lists};
-    ghost use Rattle.fx_layout.specs.Updates.{AreDifferent, Kept};
+    ghost use Rattle.fx_panes_parts.specs.declared.axes.Axis.TheVariants.{Across, Down};
+    ghost use Rattle.fx_layout.specs.Keeping.{IsWhole};
+    ghost use Rattle.fx_layout.specs.Updates.{Kept};
 
     ghost Value = { Kept };
 
@@ -53,13 +48,20 @@ impl Model for Layouts {
       rects = l.rects.items;
     } };
 
-    ghost invariant = { λ l. AreDifferent l.keys.items };
+    ghost invariant = { λ l. IsWhole (record {
+      keys = l.keys.items;
+      children = children_lists l.tree;
+      widths = l.across.lengths.items;
+      heights = l.down.lengths.items;
+      across = l.across.spans.items;
+      down = l.down.spans.items;
+      rects = l.rects.items;
+    }) };
 }
 
-/// What an update makes anew, beside the tree.
+/// What an update makes anew, beside the keys and the tree.
 #[derive(Drop)]
 struct Laid {
-    keys: Vec<NodeKey>,
     across: Along,
     down: Along,
     rects: Vec<Rect>,
@@ -72,28 +74,6 @@ struct Input<'a> {
     looks: &'a [Look],
     window: Option<(u32, u32)>,
     remeasure: &'a [usize],
-}
-
-/// The nodes of an update with their looks and children, and where each stood before it.
-#[derive(Clone, Copy)]
-struct Scene<'a> {
-    nodes: &'a [BoxFacts],
-    looks: &'a [Look],
-    children: &'a [Places],
-    olds: &'a [usize],
-    old_children: &'a [Places],
-}
-
-/// The sweeps along one axis: what is kept along it, the root's length where it is given, and for heights the widths and the
-/// places across.
-#[derive(Clone, Copy)]
-struct Sweep<'a> {
-    axis: Axis,
-    old_lengths: &'a [Extent],
-    old_spans: &'a [Span],
-    root: Option<u32>,
-    widths: &'a [Extent],
-    spans: &'a [Span],
 }
 
 impl Layouts {
@@ -153,16 +133,157 @@ impl Layouts {
             window,
             remeasure,
         };
-        let fresh = fresh_tree(alloc, &self.tree, nodes)?;
-        let laid = self.laid(alloc, input, tree_in(&fresh, &self.tree), work)?;
-        let size = laid.size(window);
-        let Layouts { tree, .. } = mem::replace(self, Layouts::new(alloc));
-        *self = laid.over(fresh.unwrap_or(tree));
+        if self.tree.is_over(self.keys.as_slice(), nodes) {
+            self.update_again(alloc, input, work)
+        } else {
+            self.update_moved(alloc, input, work)
+        }
+    }
+
+    /// An update over the nodes of the last one, in their order.
+    fn update_again<L: Ledgers>(
+        &mut self,
+        alloc: Global,
+        input: Input<'_>,
+        work: &mut Work<L>,
+    ) -> Result<(u32, u32), AllocError>
+        requires some { 0 < length input.nodes.now }
+        requires nodes { AreNodes input.nodes.now }
+        requires keys { AreDifferent (keys input.nodes.now) }
+        requires looks { length input.looks.now ≡ length input.nodes.now }
+        requires same_keys { self.old.keys ≡ keys input.nodes.now }
+        requires same_children { self.old.children ≡ children_lists (parents input.nodes.now) }
+        ensures update { OnOk result (IsUpdate self.old input.entry.nodes.now input.entry.looks.now input.entry.window
+            input.entry.remeasure.now self.new) }
+        ensures size { IfOk result (λ size. size ≡ root_size self.new) }
+        ensures err { OnErr result (self.new ≡ self.old) }
+        ensures others { OnOk result (work.new ≡ record work.old { laid = work.new.laid }) }
+        ensures cost { OnOk result (work.new.laid ≤ work.old.laid
+            + laid_bound (length input.entry.remeasure.now) (resized self.old input.entry.nodes.now self.new)) }
+    {
+        let laid = self.laid_again(alloc, input, work)?;
+        let size = laid.size(input.window);
+        self.across = laid.across;
+        self.down = laid.down;
+        self.rects = laid.rects;
         Ok(size)
     }
 
+    /// An update over other nodes, or in another order.
+    fn update_moved<L: Ledgers>(
+        &mut self,
+        alloc: Global,
+        input: Input<'_>,
+        work: &mut Work<L>,
+    ) -> Result<(u32, u32), AllocError>
+        requires some { 0 < length input.nodes.now }
+        requires nodes { AreNodes input.nodes.now }
+        requires keys { AreDifferent (keys input.nodes.now) }
+        requires looks { length input.looks.now ≡ length input.nodes.now }
+        ensures update { OnOk result (IsUpdate self.old input.entry.nodes.now input.entry.looks.now input.entry.window
+            input.entry.remeasure.now self.new) }
+        ensures size { IfOk result (λ size. size ≡ root_size self.new) }
+        ensures err { OnErr result (self.new ≡ self.old) }
+        ensures others { OnOk result (work.new ≡ record work.old { laid = work.new.laid }) }
+        ensures cost { OnOk result (work.new.laid ≤ work.old.laid
+            + laid_bound (length input.entry.remeasure.now) (resized self.old input.entry.nodes.now self.new)) }
+    {
+        let fresh = fresh_tree(alloc, &self.tree, input.nodes)?;
+        let keys = keys_of(alloc, input.nodes)?;
+        let laid = self.laid_moved(alloc, input, tree_in(&fresh, &self.tree), work)?;
+        let size = laid.size(input.window);
+        let Layouts { tree, .. } = mem::replace(self, Layouts::new(alloc));
+        *self = laid.over(keys, fresh.unwrap_or(tree));
+        Ok(size)
+    }
+
+    /// What the sweeps across start from.
+    fn sweep_across(&self, window: Option<(u32, u32)>) -> Sweep<'_>
+        ensures axis { result.axis ≡ Across }
+        ensures old_lengths { result.old_lengths.now ≡ self.now.widths }
+        ensures old_spans { result.old_spans.now ≡ self.now.across }
+        ensures root { result.root ≡ window_width window }
+        ensures widths { result.widths.now ≡ [] }
+        ensures spans { result.spans.now ≡ [] }
+    {
+        Sweep {
+            axis: Axis::Across,
+            old_lengths: self.across.lengths.as_slice(),
+            old_spans: self.across.spans.as_slice(),
+            root: window_width(window),
+            widths: &[],
+            spans: &[],
+        }
+    }
+
+    /// What the sweeps down start from, over those across.
+    fn sweep_down<'a>(&'a self, window: Option<(u32, u32)>, across: &'a Along) -> Sweep<'a>
+        ensures axis { result.axis ≡ Down }
+        ensures old_lengths { result.old_lengths.now ≡ self.now.heights }
+        ensures old_spans { result.old_spans.now ≡ self.now.down }
+        ensures root { result.root ≡ window_height window }
+        ensures widths { result.widths.now ≡ across.now.lengths.items }
+        ensures spans { result.spans.now ≡ across.now.spans.items }
+    {
+        Sweep {
+            axis: Axis::Down,
+            old_lengths: self.down.lengths.as_slice(),
+            old_spans: self.down.spans.as_slice(),
+            root: window_height(window),
+            widths: across.lengths.as_slice(),
+            spans: across.spans.as_slice(),
+        }
+    }
+
+    /// What an update makes over the nodes of the last one.
+    fn laid_again<L: Ledgers>(
+        &self,
+        alloc: Global,
+        input: Input<'_>,
+        work: &mut Work<L>,
+    ) -> Result<Laid, AllocError>
+        requires some { 0 < length input.nodes.now }
+        requires nodes { AreNodes input.nodes.now }
+        requires keys { AreDifferent (keys input.nodes.now) }
+        requires looks { length input.looks.now ≡ length input.nodes.now }
+        requires same_keys { self.now.keys ≡ keys input.nodes.now }
+        requires same_children { self.now.children ≡ children_lists (parents input.nodes.now) }
+        ensures update { IfOk result (λ made. IsUpdate self.now input.entry.nodes.now input.entry.looks.now
+            input.entry.window input.entry.remeasure.now (kept_of input.entry.nodes.now made.across.lengths.items
+            made.down.lengths.items made.across.spans.items made.down.spans.items made.rects.items)) }
+        ensures whole { IfOk result (λ made. IsWhole (kept_of input.entry.nodes.now made.across.lengths.items
+            made.down.lengths.items made.across.spans.items made.down.spans.items made.rects.items)) }
+        ensures others { OnOk result (work.new ≡ record work.old { laid = work.new.laid }) }
+        ensures cost { IfOk result (λ made. work.new.laid ≤ work.old.laid
+            + laid_bound (length input.entry.remeasure.now) (resized self.now input.entry.nodes.now
+            (kept_of input.entry.nodes.now made.across.lengths.items made.down.lengths.items
+            made.across.spans.items made.down.spans.items made.rects.items))) }
+    {
+        let scene = Scene {
+            nodes: input.nodes,
+            looks: input.looks,
+            children: self.tree.children(),
+        };
+        let mut marks = marks_of(alloc, input.remeasure, input.nodes.len())?;
+        let wide = self.sweep_across(input.window);
+        let across = lay_again(alloc, scene, wide, &mut marks, work)?;
+        let high = self.sweep_down(input.window, &across);
+        let down = lay_again(alloc, scene, high, &mut marks, work)?;
+        let halves = Halves {
+            across: across.spans.as_slice(),
+            down: down.spans.as_slice(),
+        };
+        let mut rects = Vec::from_slice(alloc, self.rects.as_slice())?;
+        add_again(scene, halves, &mut marks, &mut rects);
+        Ok(Laid {
+            across,
+            down,
+            rects,
+        })
+    }
+
     /// What an update makes over the tree of its nodes.
-    fn laid<L: Ledgers>(
+    fn laid_moved<L: Ledgers>(
         &self,
         alloc: Global,
         input: Input<'_>,
@@ -175,68 +296,34 @@ impl Layouts {
         requires looks { length input.looks.now ≡ length input.nodes.now }
         requires tree { tree.now ≡ parents input.nodes.now }
         ensures update { IfOk result (λ made. IsUpdate self.now input.entry.nodes.now input.entry.looks.now
-            input.entry.window input.entry.remeasure.now (record {
-              keys = made.keys.items;
-              children = children_lists tree.now;
-              widths = made.across.lengths.items;
-              heights = made.down.lengths.items;
-              across = made.across.spans.items;
-              down = made.down.spans.items;
-              rects = made.rects.items;
-            })) }
+            input.entry.window input.entry.remeasure.now (kept_of input.entry.nodes.now made.across.lengths.items
+            made.down.lengths.items made.across.spans.items made.down.spans.items made.rects.items)) }
+        ensures whole { IfOk result (λ made. IsWhole (kept_of input.entry.nodes.now made.across.lengths.items
+            made.down.lengths.items made.across.spans.items made.down.spans.items made.rects.items)) }
         ensures others { OnOk result (work.new ≡ record work.old { laid = work.new.laid }) }
         ensures cost { IfOk result (λ made. work.new.laid ≤ work.old.laid
-            + laid_bound (length input.entry.remeasure.now) (resized self.now input.entry.nodes.now (record {
-              keys = made.keys.items;
-              children = children_lists tree.now;
-              widths = made.across.lengths.items;
-              heights = made.down.lengths.items;
-              across = made.across.spans.items;
-              down = made.down.spans.items;
-              rects = made.rects.items;
-            }))) }
+            + laid_bound (length input.entry.remeasure.now) (resized self.now input.entry.nodes.now
+            (kept_of input.entry.nodes.now made.across.lengths.items made.down.lengths.items
+            made.across.spans.items made.down.spans.items made.rects.items))) }
     {
         let nodes = input.nodes;
         let olds = old_places(alloc, self.keys.as_slice(), nodes)?;
-        let scene = Scene {
-            nodes,
-            looks: input.looks,
-            children: tree.children(),
+        let moved = Moved {
+            scene: Scene {
+                nodes,
+                looks: input.looks,
+                children: tree.children(),
+            },
             olds: olds.as_slice(),
             old_children: self.tree.children(),
         };
-        let mut flags = marks_of(alloc, input.remeasure, nodes.len())?;
-        let across = lay_along(
-            alloc,
-            scene,
-            Sweep {
-                axis: Axis::Across,
-                old_lengths: self.across.lengths.as_slice(),
-                old_spans: self.across.spans.as_slice(),
-                root: window_width(input.window),
-                widths: &[],
-                spans: &[],
-            },
-            &mut flags,
-            work,
-        )?;
-        let down = lay_along(
-            alloc,
-            scene,
-            Sweep {
-                axis: Axis::Down,
-                old_lengths: self.down.lengths.as_slice(),
-                old_spans: self.down.spans.as_slice(),
-                root: window_height(input.window),
-                widths: across.lengths.as_slice(),
-                spans: across.spans.as_slice(),
-            },
-            &mut flags,
-            work,
-        )?;
+        let mut marks = marks_of(alloc, input.remeasure, nodes.len())?;
+        let wide = self.sweep_across(input.window);
+        let across = lay_moved(alloc, moved, wide, &mut marks, work)?;
+        let high = self.sweep_down(input.window, &across);
+        let down = lay_moved(alloc, moved, high, &mut marks, work)?;
         let rects = rects_of(alloc, nodes, across.spans.as_slice(), down.spans.as_slice())?;
         Ok(Laid {
-            keys: keys_of(alloc, nodes)?,
             across,
             down,
             rects,
@@ -264,11 +351,19 @@ impl Laid {
         )
     }
 
-    /// What is kept then, with this tree.
-    fn over(self, tree: Tree) -> Layouts
-        requires { AreDifferent self.keys.items }
+    /// What is kept then, with these keys and this tree.
+    fn over(self, keys: Vec<NodeKey>, tree: Tree) -> Layouts
+        requires { IsWhole (record {
+          keys = keys.items;
+          children = children_lists tree;
+          widths = self.across.lengths.items;
+          heights = self.down.lengths.items;
+          across = self.across.spans.items;
+          down = self.down.spans.items;
+          rects = self.rects.items;
+        }) }
         ensures { result ≡ record {
-          keys = self.keys.items;
+          keys = keys.items;
           children = children_lists tree;
           widths = self.across.lengths.items;
           heights = self.down.lengths.items;
@@ -278,74 +373,11 @@ impl Laid {
         } }
     {
         Layouts {
-            keys: self.keys,
+            keys,
             tree,
             across: self.across,
             down: self.down,
             rects: self.rects,
         }
     }
-}
-
-/// Lengths and places along one axis: nodes that are marked are measured, and the marks are then of the nodes whose children
-/// were placed anew.
-fn lay_along<L: Ledgers>(
-    alloc: Global,
-    scene: Scene<'_>,
-    sweep: Sweep<'_>,
-    flags: &mut Vec<bool>,
-    work: &mut Work<L>,
-) -> Result<Along, AllocError>
-    requires some { 0 < length scene.nodes.now }
-    requires nodes { AreNodes scene.nodes.now }
-    requires looks { length scene.looks.now ≡ length scene.nodes.now }
-    requires children { scene.children.now ≡ children_lists (parents scene.nodes.now) }
-    requires olds { length scene.olds.now ≡ length scene.nodes.now }
-    requires flags { length flags.old.items ≡ length scene.nodes.now }
-    ensures lengths { IfOk result (λ along. AreMeasured sweep.entry.axis scene.entry.nodes.now scene.entry.looks.now
-        scene.entry.children.now (flag_in flags.old.items) sweep.entry.widths.now sweep.entry.spans.now
-        (lengths_in scene.entry.olds.now sweep.entry.old_lengths.now) along.lengths.items) }
-    ensures root { IfOk result (λ along. span_at along.spans.items 0
-        ≡ from_corner (root_length sweep.entry.root (extent_at along.lengths.items 0))) }
-    ensures placed { IfOk result (λ along. ArePlaced sweep.entry.axis scene.entry.nodes.now scene.entry.looks.now
-        scene.entry.children.now (flag_in flags.old.items)
-        (widths_along sweep.entry.axis sweep.entry.widths.now along.lengths.items)
-        (heights_along sweep.entry.axis along.lengths.items)
-        (last_in scene.entry.olds.now sweep.entry.old_spans.now)
-        (kept_in scene.entry.olds.now scene.entry.old_children.now sweep.entry.old_spans.now) along.spans.items) }
-    ensures each { OnOk result (length flags.new.items ≡ length scene.entry.nodes.now) }
-    ensures marks { IfOk result (λ along. (p : ℕ) → p < length scene.entry.nodes.now → flag_in flags.new.items p
-        ≡ is_worked (flag_in flags.old.items) (last_in scene.entry.olds.now sweep.entry.old_spans.now)
-        along.spans.items p) }
-    ensures work { OnOk result (work.new ≡ record work.old {
-      laid = work.old.laid + (tally (flag_in flags.old.items) (length scene.entry.nodes.now)
-          + tally (flag_in flags.new.items) (length scene.entry.nodes.now));
-    }) }
-{
-    let mut lengths = kept_lengths(alloc, scene.olds, sweep.old_lengths)?;
-    let measuring = Measuring {
-        axis: sweep.axis,
-        nodes: scene.nodes,
-        looks: scene.looks,
-        children: scene.children,
-        listed: flags.as_slice(),
-        widths: sweep.widths,
-        spans: sweep.spans,
-    };
-    measure_nodes(alloc, measuring, &mut lengths, work)?;
-    let room = root_length(sweep.root, extent_at(lengths.as_slice(), 0));
-    let mut spans = spans_from(alloc, u64::from(room), scene.nodes.len())?;
-    let placing = Placing {
-        axis: sweep.axis,
-        nodes: scene.nodes,
-        looks: scene.looks,
-        children: scene.children,
-        widths: widths_along(sweep.axis, sweep.widths, lengths.as_slice()),
-        heights: heights_along(sweep.axis, lengths.as_slice()),
-        olds: scene.olds,
-        old_children: scene.old_children,
-        old_spans: sweep.old_spans,
-    };
-    place_nodes(alloc, placing, flags, &mut spans, work)?;
-    Ok(Along { lengths, spans })
 }

@@ -2,6 +2,7 @@
 //! the nodes that are listed and on those whose length is another than the last.
 #![tactic(auto)]
 
+mod along;
 mod keys;
 mod laws;
 mod layouts;

@@ -1,11 +1,14 @@
 //! The places of the nodes in the window, added up from the root.
-ghost use Rattle.std.specs.Prelude.{◌≡◌, ◌≤ℤ◌, ◌+ℤ◌, negsuc, pos, ◌^◌, IfOk};
-ghost use Rattle.fx_layout_sweeps.specs.Nodes.{AreNodes, node_at};
+ghost use Rattle.std.specs.Prelude.{ℕ, ◌≡◌, ◌≢◌, ◌≤ℤ◌, ◌+ℤ◌, ◌<◌, negsuc, pos, ◌^◌, All, AllPairs, IfOk, false, length, slice_set, true};
+ghost use Rattle.fx_layout_sweeps.specs.Marks.{flag_in};
+ghost use Rattle.fx_layout_sweeps.specs.Nodes.{AreNodes, children_lists, node_at, parents, span_at};
+ghost use Rattle.fx_layout.specs.Keeping.{AreAdded, BeginAlike};
 ghost use Rattle.fx_layout.specs.Updates.{AreRects, around, reached, rect_at, shifted};
 
+use crate::along::Scene;
 use fx_base::Rect;
 use fx_kinds::BoxFacts;
-use fx_layout_sweeps::span_at;
+use fx_layout_sweeps::{Marks, children_in, span_at};
 use fx_panes_parts::{Span, pixels};
 use std::alloc::{AllocError, Global};
 
@@ -15,6 +18,13 @@ const CORNER: Rect = Rect {
     w: 0,
     h: 0,
 };
+
+/// Where each node stands in its parent, along both axes.
+#[derive(Clone, Copy)]
+pub(crate) struct Halves<'a> {
+    pub(crate) across: &'a [Span],
+    pub(crate) down: &'a [Span],
+}
 
 /// The rectangle of each node, by where each stands in its parent.
 pub(crate) fn rects_of(
@@ -32,6 +42,83 @@ pub(crate) fn rects_of(
         rects.push(shifted(outer, span_at(across, place), span_at(down, place)))?;
     }
     Ok(rects)
+}
+
+/// Adds up again where the nodes stand: the children of those that are marked, and of those that begin elsewhere then.
+pub(crate) fn add_again(
+    scene: Scene<'_>,
+    halves: Halves<'_>,
+    marks: &mut Marks,
+    rects: &mut Vec<Rect>,
+)
+    requires some { 0 < length scene.nodes.now }
+    requires nodes { AreNodes scene.nodes.now }
+    requires children { scene.children.now ≡ children_lists (parents scene.nodes.now) }
+    requires marks { length marks.old ≡ length scene.nodes.now }
+    requires rects { length rects.old.items ≡ length scene.nodes.now }
+    requires kept { (p : ℕ) → p < length scene.nodes.now → flag_in marks.old p ≡ false
+        → AreAdded scene.children.now halves.across.now halves.down.now rects.old.items (rect_at rects.old.items p) p }
+    ensures { AreRects scene.entry.nodes.now halves.entry.across.now halves.entry.down.now rects.new.items }
+{
+    let root = shifted(CORNER, span_at(halves.across, 0), span_at(halves.down, 0));
+    put_rect(0, root, marks, rects);
+    let mut from = 0;
+    while let Some(at) = marks.first_from(from) {
+        let outer = rect_at(rects.as_slice(), at);
+        let places = children_in(scene.nodes, scene.children, at);
+        add_children(outer, places, halves, marks, rects);
+        from = at + 1;
+    }
+}
+
+/// Puts the children that stand at these places into a rectangle, and marks those that begin elsewhere then.
+fn add_children(
+    outer: Rect,
+    places: &[usize],
+    halves: Halves<'_>,
+    marks: &mut Marks,
+    rects: &mut Vec<Rect>,
+)
+    requires within { All (λ j. j < length rects.old.items) places.now }
+    requires apart { AllPairs (λ i j. i ≢ j) places.now }
+    requires marks { length marks.old ≡ length rects.old.items }
+    ensures each { length rects.new.items ≡ length rects.old.items }
+    ensures added { All (λ j. rect_at rects.new.items j
+        ≡ shifted outer (span_at halves.entry.across.now j) (span_at halves.entry.down.now j)) places.now }
+    ensures others { (q : ℕ) → All (λ j. j ≢ q) places.now → rect_at rects.new.items q ≡ rect_at rects.old.items q }
+    ensures each_mark { length marks.new ≡ length marks.old }
+    ensures marks { (q : ℕ) → q < length marks.old → flag_in marks.new q ≡ false
+        → (flag_in marks.old q ≡ false) × BeginAlike (rect_at rects.new.items q) (rect_at rects.old.items q) }
+{
+    for k in 0..places.len() {
+        let place = places[k];
+        let rect = shifted(
+            outer,
+            span_at(halves.across, place),
+            span_at(halves.down, place),
+        );
+        put_rect(place, rect, marks, rects);
+    }
+}
+
+/// Puts a rectangle at a place, and marks the place if it begins elsewhere then.
+fn put_rect(place: usize, rect: Rect, marks: &mut Marks, rects: &mut Vec<Rect>)
+    requires within { place < length rects.old.items }
+    requires marks { length marks.old ≡ length rects.old.items }
+    ensures rects { rects.new.items ≡ slice_set rects.old.items place rect }
+    ensures each_mark { length marks.new ≡ length marks.old }
+    ensures marks { (q : ℕ) → q < length marks.old → flag_in marks.new q ≡ false
+        → (flag_in marks.old q ≡ false) × BeginAlike (rect_at rects.new.items q) (rect_at rects.old.items q) }
+{
+    let moves = !begin_alike(rect, rect_at(rects.as_slice(), place));
+    marks.mark_if(place, moves);
+    rects[place] = rect;
+}
+
+fn begin_alike(one: Rect, other: Rect) -> bool
+    ensures { result ≡ true → BeginAlike one other }
+{
+    one.x == other.x && one.y == other.y
 }
 
 pub(crate) fn parent_at(nodes: &[BoxFacts], place: usize) -> Option<usize>

@@ -1,7 +1,8 @@
 //! The tree of nodes, kept from one update to the next while it stays the same.
 ghost use Rattle.std.specs.Prelude.{◌≡◌, [], true, IfOk, length, unwrap_or};
-ghost use Rattle.fx_layout_sweeps.specs.Nodes.{children_lists, parents};
+ghost use Rattle.fx_layout_sweeps.specs.Nodes.{children_lists, keys, parents};
 
+use fx_base::NodeKey;
 use fx_kinds::BoxFacts;
 use fx_layout_sweeps::{Places, children_lists};
 use std::alloc::{AllocError, Global};
@@ -52,6 +53,16 @@ impl Tree {
         self.children.as_slice()
     }
 
+    /// Are this the tree and these the keys of the nodes?
+    pub(crate) fn is_over(&self, kept: &[NodeKey], nodes: &[BoxFacts]) -> bool
+        ensures tree { result ≡ true → self.now ≡ parents nodes.now }
+        ensures keys { result ≡ true → kept.now ≡ keys nodes.now }
+    {
+        self.parents.len() == nodes.len()
+            && kept.len() == nodes.len()
+            && are_heads(self.parents.as_slice(), kept, nodes)
+    }
+
     /// Is this the tree of these nodes?
     fn is_of(&self, nodes: &[BoxFacts]) -> bool
         ensures { result ≡ true → self.now ≡ parents nodes.now }
@@ -68,6 +79,22 @@ fn parents_of(alloc: Global, nodes: &[BoxFacts]) -> Result<Vec<Option<usize>>, A
         parents.push(node.parent)?;
     }
     Ok(parents)
+}
+
+/// Are these the parents and the keys of the nodes?
+fn are_heads(ups: &[Option<usize>], kept: &[NodeKey], nodes: &[BoxFacts]) -> bool
+    requires ups { length ups.now ≡ length nodes.now }
+    requires kept { length kept.now ≡ length nodes.now }
+    ensures parents { result ≡ true → ups.now ≡ parents nodes.now }
+    ensures keys { result ≡ true → kept.now ≡ keys nodes.now }
+{
+    for place in 0..nodes.len() {
+        let node = &nodes[place];
+        if kept[place] != node.key || ups[place] != node.parent {
+            return false;
+        }
+    }
+    true
 }
 
 /// Are these the parents of the first nodes?

@@ -83,7 +83,7 @@ lists_apart nodes children p same within =
     (sym (ap (λ (l : List (List ℕ)). places_at l p) same ∙ lists_at ups p (subst (λ n. p < n) (sym many) within)))
     (children_distinct ups p)
 
-child_in : (nodes : List BoxFacts) (children : List (List ℕ)) → AreNodes nodes → children ≡ children_lists (parents nodes)
+pub child_in : (nodes : List BoxFacts) (children : List (List ℕ)) → AreNodes nodes → children ≡ children_lists (parents nodes)
     → (p : ℕ) → p < length nodes → All (λ j. IsChild (parents nodes) p j) (places_at children p)
 child_in nodes children are same p within =
     let ups = parents nodes in

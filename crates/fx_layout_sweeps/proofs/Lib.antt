@@ -1,7 +1,9 @@
 pub mod Asking
 pub mod Below
 pub mod Children
+pub mod Marking
 pub mod Reading
+pub mod Respreads
 pub mod Spreads
 pub mod Tallies
 pub mod Turns

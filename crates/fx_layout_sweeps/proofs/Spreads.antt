@@ -16,7 +16,8 @@ use Rattle.fx_layout_parts.specs.declared.rules.NodeBox.{NodeBox}
 use Rattle.fx_layout_parts.specs.Rules.{across_span, down_span, rects_in}
 use Rattle.std.proofs.lemmas.List.FromFn.{get_or-map-range_with_len, length-map-range_with_len}
 use Rattle.fx_layout_sweeps.specs.Nodes.{nowhere, places_at, span_at}
-use Rattle.fx_layout_sweeps.specs.Sweeps.{IsPlacedAt, IsPut, fitted, flag_in, half, held_length, is_worked, spans_along, spans_for}
+use Rattle.fx_layout_sweeps.specs.Marks.{flag_in}
+use Rattle.fx_layout_sweeps.specs.Sweeps.{IsPlacedAt, IsPut, fitted, half, held_length, is_worked, spans_along, spans_for}
 use Rattle.fx_layout_sweeps.proofs.Turns.{map_same}
 
 pub half_read : (axis : Axis) (rects : List Rect) (k : ℕ) (rect : Rect) → k < length rects
@@ -135,7 +136,7 @@ spread_start axis nodes looks children listed widths heights last kept start eac
     }
 
 -- two lists of spans that agree at a node and at its children have it placed alike
-placed_still : (axis : Axis) (nodes : List BoxFacts) (looks : List Look) (children : List (List ℕ)) (listed : ℕ → Bool)
+pub placed_still : (axis : Axis) (nodes : List BoxFacts) (looks : List Look) (children : List (List ℕ)) (listed : ℕ → Bool)
     (widths heights : List Extent) (last : ℕ → Span) (kept : ℕ → List Span) (xs ys : List Span) (q : ℕ)
     → span_at xs q ≡ span_at ys q → All (λ j. span_at xs j ≡ span_at ys j) (places_at children q)
     → IsPlacedAt axis nodes looks children listed widths heights last kept xs q
@@ -147,7 +148,7 @@ placed_still axis nodes looks children listed widths heights last kept xs ys q h
     (listed q || not (nat_eq s.length (last q).length)) s.length)) here)
 
 -- spans that are put at the children of a node
-put_placed : (spans : List Span) (places : List ℕ) (found old : List Span) → IsPut places found old spans
+pub put_placed : (spans : List Span) (places : List ℕ) (found old : List Span) → IsPut places found old spans
     → map (span_at spans) places ≡ fitted (length places) found
 put_placed spans places found old is_put =
     let n = length places in

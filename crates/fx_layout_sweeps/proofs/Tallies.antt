@@ -1,5 +1,5 @@
 -- Counting places that pass a test.
-use Rattle.std.proofs.Common.{refl, sym, ap, ◌∙◌, ◌≡◌, ℕ, zero, suc, ◌+◌, ◌<◌, arith, Bool, cond, List, map, sum_by, zero-add}
+use Rattle.std.proofs.Common.{refl, sym, ap, ◌∙◌, ◌≡◌, ℕ, zero, suc, ◌+◌, ◌-◌, ◌<◌, ◌≤◌, arith, Bool, false, cond, List, map, sum_by, zero-add, add-zero}
 use Rattle.std.proofs.lemmas.List.{map-id}
 use Rattle.std.proofs.lemmas.List.FromFn.{sum_by-map-range_with_len_more}
 use Rattle.std.specs.List.{range_with_len}
@@ -21,3 +21,21 @@ tally_same test other (suc n) same =
   where
     tally_next : (f : ℕ → Bool) (m : ℕ) → tally f (suc m) ≡ tally f m + cond (f m) 1 0
     tally_next f m = let one : suc m ≡ m + 1 = omega arith in ap (tally f) one ∙ tally_more f m
+
+-- places that don't pass aren't counted
+pub tally_idle : (test : ℕ → Bool) (m k : ℕ) → ((q : ℕ) → m ≤ q → q < m + k → test q ≡ false) → tally test (m + k) ≡ tally test m
+tally_idle test m zero idle = ap (tally test) (add-zero m)
+tally_idle test m (suc k) idle =
+    let next : m + suc k ≡ m + k + 1 = omega arith in
+    let last : test (m + k) ≡ false = idle (m + k) (omega arith) (omega arith) in
+    ap (tally test) next
+    ∙ (tally_more test (m + k)
+    ∙ (ap (λ b. tally test (m + k) + cond b 1 0) last
+    ∙ (add-zero (tally test (m + k)) ∙ tally_idle test m k (λ q late early. idle q late (omega (arith, early))))))
+
+pub tally_between : (test : ℕ → Bool) (m n : ℕ) → m ≤ n → ((q : ℕ) → m ≤ q → q < n → test q ≡ false)
+    → tally test n ≡ tally test m
+tally_between test m n before idle =
+    let whole : m + (n - m) ≡ n = omega (arith, before) in
+    sym (ap (tally test) whole)
+    ∙ tally_idle test m (n - m) (λ q late early. idle q late (omega (arith, early, before)))

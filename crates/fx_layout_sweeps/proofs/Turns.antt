@@ -1,5 +1,5 @@
 -- One turn of measuring from the leaves.
-use Rattle.std.proofs.Common.{refl, sym, subst, ap, ◌∙◌, ◌≡◌, ◌≢◌, ◌==◌, ℕ, zero, suc, ◌+◌, ◌<◌, ◌≤◌, Bool, true, false, cond, All, List, [], ◌∷◌, MatchBool, length, map, slice_index_or, slice_set, arith}
+use Rattle.std.proofs.Common.{refl, sym, subst, ap, ◌∙◌, ◌≡◌, ◌≢◌, ◌==◌, ℕ, zero, suc, ◌+◌, ◌<◌, ◌≤◌, Bool, true, false, cond, All, List, [], ◌∷◌, MatchBool, length, map, slice_index_or, slice_set, inl, inr, arith}
 use Rattle.std.proofs.lemmas.List.{ext_get_or, get_or-map, get_or-set_same, get_or-set_other, length-map, length-set}
 use Rattle.fx_base.specs.declared.facts.ChildSize.{ChildSize}
 use Rattle.fx_kinds.specs.declared.facts.BoxFacts.{BoxFacts}
@@ -12,7 +12,7 @@ use Rattle.fx_layout_parts.specs.declared.rules.NodeBox.{NodeBox}
 use Rattle.fx_layout_parts.specs.declared.rules.Rule.{Rule}
 use Rattle.fx_layout_sweeps.specs.Nodes.{box_at, child_at, extent_at, node_at, places_at, seen, span_at, unknown}
 use Rattle.std.proofs.Math.Numerals.{lt_of_le_of_ne}
-use Rattle.std.proofs.lemmas.Bool.{eqb-true, eqb-false}
+use Rattle.std.proofs.lemmas.Bool.{cases_lt, eqb-true, eqb-false, true≢false}
 use Rattle.fx_layout_parts.specs.Children.{child_of}
 use Rattle.fx_layout_sweeps.specs.Sweeps.{IsMeasured, IsSettled, seen_along}
 
@@ -146,3 +146,40 @@ swept_more axis nodes looks children listed widths spans start lengths p m made 
         let past : p ≤ q = omega (arith, next, late) in
         settled_still axis nodes looks children widths spans (extent_at start) lengths after q d (listed q)
         (sym (other q (λ same. apart (sym same)))) (below q from few) (swept.back q past few)
+
+-- places that aren't listed are settled by what they keep
+pub swept_idle : (axis : Axis) (nodes : List BoxFacts) (looks : List Look) (children : List (List ℕ)) (listed : ℕ → Bool)
+    (widths : List Extent) (spans : List Span) (start lengths : List Extent) (p m : ℕ)
+    → ((q : ℕ) → m ≤ q → q < p → listed q ≡ false)
+    → IsSwept axis nodes looks children listed widths spans start lengths p → m ≤ p
+    → IsSwept axis nodes looks children listed widths spans start lengths m
+swept_idle axis nodes looks children listed widths spans start lengths p m idle swept before =
+    record {
+      each = swept.each;
+      front = λ q early. swept.front q (omega (arith, early, before));
+      back = λ q from within. elim (cases_lt q p) [
+        | inl early ↦ kept q (listed q) (idle q from early) (swept.front q early)
+        | inr late ↦ swept.back q late within
+      ];
+    }
+  where
+    kept : (q : ℕ) → (b : Bool) → b ≡ false → extent_at lengths q ≡ extent_at start q
+        → MatchBool b
+        (IsMeasured axis (box_at nodes looks q)
+        (seen_along axis (box_at nodes looks q).rule nodes widths lengths (places_at children q))
+        (span_at spans q).length (extent_at lengths q))
+        (extent_at lengths q ≡ extent_at start q)
+    kept q true free same = absurd (true≢false free)
+    kept q false free same = same
+
+-- what is measured of a listed place is made of it
+pub listed_made : (axis : Axis) (nodes : List BoxFacts) (looks : List Look) (children : List (List ℕ)) (listed : ℕ → Bool)
+    (widths : List Extent) (spans : List Span) (lengths : List Extent) (p : ℕ) (made : Extent) → listed p ≡ true
+    → IsMeasured axis (box_at nodes looks p)
+    (seen_along axis (box_at nodes looks p).rule nodes widths lengths (places_at children p)) (span_at spans p).length made
+    → IsMade axis nodes looks children listed widths spans lengths p made
+listed_made axis nodes looks children listed widths spans lengths p made is_listed measured =
+    subst (λ b. MatchBool b
+    (IsMeasured axis (box_at nodes looks p)
+    (seen_along axis (box_at nodes looks p).rule nodes widths lengths (places_at children p)) (span_at spans p).length made)
+    (made ≡ extent_at lengths p)) (sym is_listed) measured

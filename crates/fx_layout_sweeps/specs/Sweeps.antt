@@ -20,10 +20,6 @@ use Rattle.fx_layout_sweeps.specs.Nodes.{box_at, extent_at, nowhere, places_at, 
 abbrev pub held_length : ℕ → ℕ
 held_length n = length_of (pixels n)
 
--- the marks of places, of which those that aren't there are unset
-abbrev pub flag_in : List Bool → ℕ → Bool
-flag_in flags p = slice_index_or flags p false
-
 -- a node's lengths along an axis over its children; down they are those in its width
 abbrev pub IsMeasured : Axis → NodeBox → List ChildSize → ℕ → Extent → Type 0
 IsMeasured Across node children width lengths = IsWide node children lengths
@@ -94,6 +90,10 @@ last_in olds old_spans p = span_at old_spans (old_at olds p)
 
 abbrev pub kept_in : List ℕ → List (List ℕ) → List Span → ℕ → List Span
 kept_in olds old_children old_spans p = map (span_at old_spans) (places_at old_children (old_at olds p))
+
+-- where the children of a node are kept where nodes stand where they stood
+abbrev pub kept_here : List (List ℕ) → List Span → ℕ → List Span
+kept_here children spans p = map (span_at spans) (places_at children p)
 
 abbrev pub half : Axis → Rect → Span
 half Across rect = across_span rect

@@ -1,5 +1,5 @@
 //! Lengths and places by the place of their node.
-ghost use Rattle.std.specs.Prelude.{◌≡◌, slice_index_or, false};
+ghost use Rattle.std.specs.Prelude.{◌≡◌};
 ghost use Rattle.fx_layout_sweeps.specs.Nodes.{extent_at, span_at};
 
 use fx_panes_parts::{Extent, Span};
@@ -34,15 +34,5 @@ pub fn span_at(spans: &[Span], place: usize) -> Span
     match spans.get(place) {
         Some(span) => *span,
         None => NOWHERE,
-    }
-}
-
-/// Is the node at this place marked?
-pub fn flag_at(flags: &[bool], place: usize) -> bool
-    ensures { result ≡ slice_index_or flags.now place false }
-{
-    match flags.get(place) {
-        Some(flag) => *flag,
-        None => false,
     }
 }

@@ -4,12 +4,17 @@
 #![tactic(auto)]
 
 mod lengths;
+mod marks;
 mod measuring;
+mod moving;
 mod nodes;
 mod places;
 mod placing;
 
-pub use lengths::{NOWHERE, UNKNOWN, extent_at, flag_at, span_at};
+pub use lengths::{NOWHERE, UNKNOWN, extent_at, span_at};
+pub use marks::Marks;
 pub use measuring::{Measuring, measure_nodes};
+pub use moving::{Moving, place_nodes};
+pub use nodes::children_in;
 pub use places::{Places, children_lists};
-pub use placing::{Placing, place_nodes};
+pub use placing::{Placing, move_child, place_again};

@@ -1,10 +1,12 @@
 //! Measuring from the leaves, along one axis.
-ghost use Rattle.std.specs.Prelude.{◌≡◌, ◌+◌, ◌<◌, [], IfOk, OnOk, MatchBool, cond, length};
+ghost use Rattle.std.specs.Prelude.{◌≡◌, ◌+◌, ◌<◌, [], IfOk, OnOk, length};
 ghost use Rattle.fx_layout_sweeps.specs.Nodes.{AreNodes, box_at, children_lists, extent_at, parents, places_at, seen, span_at};
-ghost use Rattle.fx_layout_sweeps.specs.Sweeps.{AreMeasured, IsMeasured, flag_in, held_length, seen_along, tally};
+ghost use Rattle.fx_layout_sweeps.specs.Sweeps.{AreMeasured, IsMeasured, held_length, seen_along, tally};
+ghost use Rattle.fx_layout_sweeps.specs.Marks.{flag_in};
 ghost use Rattle.fx_layout_parts.specs.Rules.{IsHigh, IsWide};
 
-use crate::lengths::{extent_at, flag_at, span_at};
+use crate::lengths::span_at;
+use crate::marks::Marks;
 use crate::nodes::{box_in, children_in, seen};
 use crate::places::Places;
 use fx_base::{Ledgers, Work};
@@ -22,7 +24,7 @@ pub struct Measuring<'a> {
     pub nodes: &'a [BoxFacts],
     pub looks: &'a [Look],
     pub children: &'a [Places],
-    pub listed: &'a [bool],
+    pub listed: &'a Marks,
     pub widths: &'a [Extent],
     pub spans: &'a [Span],
 }
@@ -47,41 +49,15 @@ pub fn measure_nodes<L: Ledgers>(
       laid = work.old.laid + tally (flag_in sweep.entry.listed.now) (length sweep.entry.nodes.now);
     }) }
 {
-    for place in (0..sweep.nodes.len()).rev() {
-        lengths[place] = lengths_of(alloc, sweep, place, lengths.as_slice(), work)?;
+    let mut to = sweep.nodes.len();
+    while let Some(place) = sweep.listed.last_before(to) {
+        lengths[place] = measured(alloc, sweep, place, lengths.as_slice(), work)?;
+        to = place;
     }
     Ok(())
 }
 
-/// The lengths of the node at this place, over those of its children.
-fn lengths_of<L: Ledgers>(
-    alloc: Global,
-    sweep: Measuring<'_>,
-    place: usize,
-    lengths: &[Extent],
-    work: &mut Work<L>,
-) -> Result<Extent, AllocError>
-    requires looks { length sweep.looks.now ≡ length sweep.nodes.now }
-    requires nodes { AreNodes sweep.nodes.now }
-    requires children { sweep.children.now ≡ children_lists (parents sweep.nodes.now) }
-    requires place { place < length sweep.nodes.now }
-    ensures lengths { IfOk result (λ made. MatchBool (flag_in sweep.entry.listed.now place)
-        (IsMeasured sweep.entry.axis (box_at sweep.entry.nodes.now sweep.entry.looks.now place)
-        (seen_along sweep.entry.axis (box_at sweep.entry.nodes.now sweep.entry.looks.now place).rule
-        sweep.entry.nodes.now sweep.entry.widths.now lengths.now (places_at sweep.entry.children.now place))
-        (span_at sweep.entry.spans.now place).length made)
-        (made ≡ extent_at lengths.now place)) }
-    ensures work { OnOk result (work.new ≡ record work.old {
-      laid = work.old.laid + cond (flag_in sweep.entry.listed.now place) 1 0;
-    }) }
-{
-    if flag_at(sweep.listed, place) {
-        measured(alloc, sweep, place, lengths, work)
-    } else {
-        Ok(extent_at(lengths, place))
-    }
-}
-
+/// The lengths of the node at this place, by its pane over those of its children.
 fn measured<L: Ledgers>(
     alloc: Global,
     sweep: Measuring<'_>,

@@ -1,10 +1,12 @@
-//! Placing from the root, along one axis.
-ghost use Rattle.std.specs.Prelude.{ℕ, ◌≡◌, ◌≢◌, ◌+◌, ◌<◌, All, AllPairs, IfOk, OnOk, cond, length, map};
-ghost use Rattle.fx_layout_sweeps.specs.Nodes.{AreNodes, box_at, children_lists, nowhere, parents, places_at, seen, span_at};
+//! Placing from the root, along one axis, where nodes stand in the list where they stood.
+ghost use Rattle.std.specs.Prelude.{ℕ, ◌≡◌, ◌≢◌, ◌+◌, ◌<◌, All, AllPairs, IfOk, OnOk, length, map, slice_set};
+ghost use Rattle.fx_layout_sweeps.specs.Marks.{flag_in};
+ghost use Rattle.fx_layout_sweeps.specs.Nodes.{AreNodes, box_at, children_lists, parents, places_at, seen, span_at};
 ghost use Rattle.fx_layout_parts.specs.Rules.{rects_in};
-ghost use Rattle.fx_layout_sweeps.specs.Sweeps.{ArePlaced, IsPut, flag_in, half, held_length, is_worked, kept_in, last_in, old_at, spans_along, spans_for, tally};
+ghost use Rattle.fx_layout_sweeps.specs.Sweeps.{ArePlaced, IsPut, half, held_length, is_worked, kept_here, spans_along, tally};
 
-use crate::lengths::{NOWHERE, flag_at, span_at};
+use crate::lengths::{NOWHERE, span_at};
+use crate::marks::Marks;
 use crate::nodes::{box_in, children_in, seen};
 use crate::places::Places;
 use fx_base::{Ledgers, Rect, Work};
@@ -14,7 +16,7 @@ use fx_look::Look;
 use fx_panes_parts::{Axis, Extent, Span, pixels};
 use std::alloc::{AllocError, Global};
 
-/// What placing looks at: the nodes with their looks, children and lengths, and what is kept of the last update.
+/// What placing looks at: the nodes with their looks, children and lengths.
 #[derive(Clone, Copy)]
 pub struct Placing<'a> {
     pub axis: Axis,
@@ -23,19 +25,14 @@ pub struct Placing<'a> {
     pub children: &'a [Places],
     pub widths: &'a [Extent],
     pub heights: &'a [Extent],
-    /// Where each node stood.
-    pub olds: &'a [usize],
-    pub old_children: &'a [Places],
-    pub old_spans: &'a [Span],
 }
 
-/// Where each node stands in its parent. The children of a node that is marked, or is longer or shorter than it was, are
-/// placed by its pane; those of any other stay where they were kept. The marks are then of the nodes whose children were
-/// placed anew.
-pub fn place_nodes<L: Ledgers>(
+/// Where each node stands in its parent, by where it stood. The children of a node that is marked, or is longer or shorter
+/// than it was, are placed by its pane, and the node is marked; the others aren't touched.
+pub fn place_again<L: Ledgers>(
     alloc: Global,
     sweep: Placing<'_>,
-    flags: &mut Vec<bool>,
+    marks: &mut Marks,
     spans: &mut Vec<Span>,
     work: &mut Work<L>,
 ) -> Result<(), AllocError>
@@ -43,25 +40,26 @@ pub fn place_nodes<L: Ledgers>(
     requires nodes { AreNodes sweep.nodes.now }
     requires children { sweep.children.now ≡ children_lists (parents sweep.nodes.now) }
     requires spans { length spans.old.items ≡ length sweep.nodes.now }
-    requires flags { length flags.old.items ≡ length sweep.nodes.now }
+    requires marks { length marks.old ≡ length sweep.nodes.now }
     ensures each { OnOk result (length spans.new.items ≡ length sweep.entry.nodes.now) }
-    ensures each_flag { OnOk result (length flags.new.items ≡ length sweep.entry.nodes.now) }
+    ensures each_mark { OnOk result (length marks.new ≡ length sweep.entry.nodes.now) }
     ensures root { OnOk result (span_at spans.new.items 0 ≡ span_at spans.old.items 0) }
     ensures placed { OnOk result (ArePlaced sweep.entry.axis sweep.entry.nodes.now sweep.entry.looks.now
-        sweep.entry.children.now (flag_in flags.old.items) sweep.entry.widths.now sweep.entry.heights.now
-        (last_in sweep.entry.olds.now sweep.entry.old_spans.now)
-        (kept_in sweep.entry.olds.now sweep.entry.old_children.now sweep.entry.old_spans.now) spans.new.items) }
-    ensures marks { OnOk result ((p : ℕ) → p < length sweep.entry.nodes.now → flag_in flags.new.items p
-        ≡ is_worked (flag_in flags.old.items) (last_in sweep.entry.olds.now sweep.entry.old_spans.now)
-        spans.new.items p) }
+        sweep.entry.children.now (flag_in marks.old) sweep.entry.widths.now sweep.entry.heights.now
+        (span_at spans.old.items) (kept_here sweep.entry.children.now spans.old.items) spans.new.items) }
+    ensures marks { OnOk result ((p : ℕ) → p < length sweep.entry.nodes.now
+        → flag_in marks.new p ≡ is_worked (flag_in marks.old) (span_at spans.old.items) spans.new.items p) }
     ensures work { OnOk result (work.new ≡ record work.old {
-      laid = work.old.laid + tally (flag_in flags.new.items) (length sweep.entry.nodes.now);
+      laid = work.old.laid + tally (flag_in marks.new) (length sweep.entry.nodes.now);
     }) }
 {
-    for at in 0..sweep.nodes.len() {
-        let worked = is_worked(sweep, flags.as_slice(), spans.as_slice(), at);
-        flags[at] = worked;
-        place_children(alloc, sweep, at, worked, spans, work)?;
+    let mut from = 0;
+    while let Some(at) = marks.first_from(from) {
+        let room = span_at(spans.as_slice(), at).length;
+        let rects = rects_of(alloc, sweep, at, room, work)?;
+        let places = children_in(sweep.nodes, sweep.children, at);
+        move_children(sweep.axis, places, rects.as_slice(), marks, spans);
+        from = at + 1;
     }
     Ok(())
 }
@@ -128,7 +126,7 @@ fn rects_down<L: Ledgers>(
 }
 
 /// The rectangles of the children of a node that is so long along the axis.
-fn rects_of<L: Ledgers>(
+pub(crate) fn rects_of<L: Ledgers>(
     alloc: Global,
     sweep: Placing<'_>,
     at: usize,
@@ -172,19 +170,8 @@ fn half_at(axis: Axis, rects: &[Rect], k: usize) -> Span
     }
 }
 
-#[tactic(auto, using(crate::proofs::Spreads::kept_read, crate::proofs::Spreads::kept_missing))]
-fn kept_at(places: &[usize], spans: &[Span], k: usize) -> Span
-    ensures { result ≡ span_at (map (span_at spans.now) places.now) k }
-{
-    if k < places.len() {
-        span_at(spans, places[k])
-    } else {
-        NOWHERE
-    }
-}
-
 /// Puts the halves of these rectangles at the places.
-fn put_halves(axis: Axis, places: &[usize], rects: &[Rect], spans: &mut Vec<Span>)
+pub(crate) fn put_halves(axis: Axis, places: &[usize], rects: &[Rect], spans: &mut Vec<Span>)
     requires within { All (λ j. j < length spans.old.items) places.now }
     requires apart { AllPairs (λ i j. i ≢ j) places.now }
     ensures { IsPut places.now (map (half axis) rects.now) spans.old.items spans.new.items }
@@ -194,75 +181,36 @@ fn put_halves(axis: Axis, places: &[usize], rects: &[Rect], spans: &mut Vec<Span
     }
 }
 
-/// Puts what is kept for the old places at the places.
-fn put_kept(places: &[usize], old_places: &[usize], old: &[Span], spans: &mut Vec<Span>)
+/// Puts the halves of these rectangles at the places, and marks those at which the length is another one then.
+fn move_children(
+    axis: Axis,
+    places: &[usize],
+    rects: &[Rect],
+    marks: &mut Marks,
+    spans: &mut Vec<Span>,
+)
     requires within { All (λ j. j < length spans.old.items) places.now }
     requires apart { AllPairs (λ i j. i ≢ j) places.now }
-    ensures { IsPut places.now (map (span_at old.now) old_places.now) spans.old.items spans.new.items }
+    requires marks { length marks.old ≡ length spans.old.items }
+    ensures put { IsPut places.now (map (half axis) rects.now) spans.old.items spans.new.items }
+    ensures each_mark { length marks.new ≡ length marks.old }
+    ensures marks { (q : ℕ) → q < length marks.old
+        → flag_in marks.new q ≡ is_worked (flag_in marks.old) (span_at spans.old.items) spans.new.items q }
 {
     for k in 0..places.len() {
-        spans[places[k]] = kept_at(old_places, old, k);
+        move_child(places[k], half_at(axis, rects, k), marks, spans);
     }
 }
 
-/// The place that is kept for the node at this place.
-fn old_at(olds: &[usize], at: usize) -> usize
-    ensures { result ≡ old_at olds.now at }
+/// Puts a span at a place, and marks the place if its length is another one then.
+pub fn move_child(place: usize, span: Span, marks: &mut Marks, spans: &mut Vec<Span>)
+    requires { place < length spans.old.items }
+    ensures spans { spans.new.items ≡ slice_set spans.old.items place span }
+    ensures each_mark { length marks.new ≡ length marks.old }
+    ensures marks { (q : ℕ) → q < length marks.old
+        → flag_in marks.new q ≡ is_worked (flag_in marks.old) (span_at spans.old.items) spans.new.items q }
 {
-    match olds.get(at) {
-        Some(old) => *old,
-        None => 0,
-    }
-}
-
-/// The places of the children of a node that may not be there.
-fn old_places(children: &[Places], at: usize) -> &[usize]
-    ensures { result.now ≡ places_at children.now at }
-{
-    match children.get(at) {
-        Some(places) => places.as_slice(),
-        None => &[],
-    }
-}
-
-/// Are the children of the node at this place placed anew?
-fn is_worked(sweep: Placing<'_>, flags: &[bool], spans: &[Span], at: usize) -> bool
-    ensures { result ≡ is_worked (flag_in flags.now) (last_in sweep.entry.olds.now sweep.entry.old_spans.now) spans.now at }
-{
-    flag_at(flags, at)
-        || span_at(spans, at).length != span_at(sweep.old_spans, old_at(sweep.olds, at)).length
-}
-
-/// Places the children of one node.
-fn place_children<L: Ledgers>(
-    alloc: Global,
-    sweep: Placing<'_>,
-    at: usize,
-    worked: bool,
-    spans: &mut Vec<Span>,
-    work: &mut Work<L>,
-) -> Result<(), AllocError>
-    requires looks { length sweep.looks.now ≡ length sweep.nodes.now }
-    requires nodes { AreNodes sweep.nodes.now }
-    requires children { sweep.children.now ≡ children_lists (parents sweep.nodes.now) }
-    requires spans { length spans.old.items ≡ length sweep.nodes.now }
-    requires place { at < length sweep.nodes.now }
-    ensures put { OnOk result (IsPut (places_at sweep.entry.children.now at)
-        (spans_for sweep.entry.axis sweep.entry.nodes.now sweep.entry.looks.now sweep.entry.children.now
-        sweep.entry.widths.now sweep.entry.heights.now
-        (kept_in sweep.entry.olds.now sweep.entry.old_children.now sweep.entry.old_spans.now) at worked
-        (span_at spans.old.items at).length)
-        spans.old.items spans.new.items) }
-    ensures work { OnOk result (work.new ≡ record work.old { laid = work.old.laid + cond worked 1 0 }) }
-{
-    let places = children_in(sweep.nodes, sweep.children, at);
-    if worked {
-        let room = span_at(spans.as_slice(), at).length;
-        let rects = rects_of(alloc, sweep, at, room, work)?;
-        put_halves(sweep.axis, places, rects.as_slice(), spans);
-    } else {
-        let old = old_places(sweep.old_children, old_at(sweep.olds, at));
-        put_kept(places, old, sweep.old_spans, spans);
-    }
-    Ok(())
+    let before = span_at(spans.as_slice(), place).length;
+    marks.mark_if(place, span.length != before);
+    spans[place] = span;
 }

@@ -1,17 +1,13 @@
-use Rattle.std.proofs.Common.{sym, subst, ap, ◌∙◌, ◌≤◌, ◌+◌, length}
-use Rattle.fx_layout.specs.Updates.{Kept, laid_bound, resized}
-use Rattle.fx_layout.proofs.Over.{over_same}
+use Rattle.std.proofs.Common.{ap, refl, sym, ◌∙◌}
+use Rattle.fx_layout_sweeps.specs.Nodes.{children_lists}
+use Rattle.fx_layout.specs.Updates.{Kept}
 use Rattle.fx_layout.proofs.layouts.Layouts.update.Goals as goal
 
-pub returns-clause-update : goal.returns-clause-update
-returns-clause-update g c =
-    let same = over_same c.in_ok-fresh.fresh c.tree.inside.tree c.self.inside.tree
-    (ap (λ k. k.children) (c.tree.view_is ∙ (c.replace.ensures.value ∙ sym c.self.view_is))) in
-    rw (c.drop-2.view_is, c.over.ensures, c.unwrap_or.ensures, same)
-    (rw (c.tree_in.ensures) at c.in_ok-laid.ensures.update)
+pub update_again-requires-clause-same_keys : goal.update_again-requires-clause-same_keys
+update_again-requires-clause-same_keys g c =
+    let named = rw (c.as_slice.ensures.value) at c.if-is_over.ensures.keys refl in
+    sym (ap (λ (k : Kept). k.keys) c.self.view_is) ∙ named
 
-pub returns-clause-cost : goal.returns-clause-cost
-returns-clause-cost g c =
-    subst (λ (k : Kept). c.laid.new.work.laid ≤ c.args.work.now.laid
-    + laid_bound (length c.args.remeasure.now) (resized c.args.self.now c.args.nodes.now k))
-    (sym (c.drop-2.view_is ∙ c.over.ensures)) c.in_ok-laid.ensures.cost
+pub update_again-requires-clause-same_children : goal.update_again-requires-clause-same_children
+update_again-requires-clause-same_children g c =
+    sym (ap (λ (k : Kept). k.children) c.self.view_is) ∙ ap children_lists (c.if-is_over.ensures.tree refl)

@@ -1,17 +1,18 @@
 use Rattle.std.proofs.Common.{refl, sym, ap, ◌∙◌, ◌≡◌, ◌<◌, ℕ, ◌+◌, List, Bool, false, cond, add-zero, length, slice_set, arith}
 use Rattle.std.proofs.lemmas.List.{get_or-set_same, get_or-set_other}
-use Rattle.fx_layout_sweeps.specs.Sweeps.{flag_in, kept_in, last_in, tally}
+use Rattle.fx_layout_sweeps.specs.Marks.{flag_in}
+use Rattle.fx_layout_sweeps.specs.Sweeps.{kept_in, last_in, tally}
 use Rattle.fx_layout_sweeps.proofs.Asking.{are_known}
 use Rattle.fx_layout_sweeps.proofs.Tallies.{tally_more, tally_same}
 use Rattle.fx_layout_sweeps.proofs.Spreads.{spread_more, spread_start}
-use Rattle.fx_layout_sweeps.proofs.placing.place_nodes.Goals as goal
+use Rattle.fx_layout_sweeps.proofs.moving.place_nodes.Goals as goal
 
 pub loop-at-init : goal.loop-at-init
 loop-at-init g c =
     let sweep = c.args.sweep in (
-      spread_start sweep.axis sweep.nodes.now sweep.looks.now sweep.children.now c.args.flags.now.items sweep.widths.now
-          sweep.heights.now (last_in sweep.olds.now sweep.old_spans.now)
-          (kept_in sweep.olds.now sweep.old_children.now sweep.old_spans.now) c.args.spans.now.items c.requires.spans c.requires.flags,
+      spread_start sweep.placing.axis sweep.placing.nodes.now sweep.placing.looks.now sweep.placing.children.now c.args.marks.now sweep.placing.widths.now
+          sweep.placing.heights.now (last_in sweep.olds.now sweep.old_spans.now)
+          (kept_in sweep.olds.now sweep.old_children.now sweep.old_spans.now) c.args.spans.now.items c.requires.spans c.requires.marks,
       rw (add-zero c.args.work.now.laid) refl,
     )
 
@@ -20,9 +21,9 @@ loop-at-preserved g c =
     let sweep = c.args.sweep in
     let p = c.loop-at.at in
     let worked = c.is_worked-worked.result in
-    let flags : List Bool = c.loop-at.flags.items in
+    let flags : List Bool = c.loop-at.marks in
     let after : List Bool = slice_set flags p worked in
-    let told = rw (c.as_slice.ensures.value, c.as_slice-in-loop-at.ensures.value) at c.is_worked-worked.ensures in
+    let told = rw (c.as_slice.ensures.value) at c.is_worked-worked.ensures in
     let step = c.in_ok-place_children.ensures.work in
     let same = c.loop-at.invariant.1 in
     let unchanged : tally (flag_in flags) p ≡ tally (flag_in after) p =
@@ -33,12 +34,13 @@ loop-at-preserved g c =
     let ticked : ℕ = cond worked 1 0 in
     let here : marked ≡ ticked = ap {B = ℕ} (λ (b : Bool). cond b 1 0) (get_or-set_same flags p worked false few) in
     let total : c.loop-at.work.laid + cond worked 1 0 ≡ c.args.work.now.laid + tally (flag_in after) (p + 1) =
-    omega (arith, ap (λ w. w.laid) same, unchanged, tally_more (flag_in after) p, here) in (
-      spread_more sweep.axis sweep.nodes.now sweep.looks.now sweep.children.now c.args.flags.now.items sweep.widths.now
-          sweep.heights.now (last_in sweep.olds.now sweep.old_spans.now)
+    omega (arith, ap (λ w. w.laid) same, unchanged, tally_more (flag_in after) p, here) in
+    rw (c.put.ensures) (
+      spread_more sweep.placing.axis sweep.placing.nodes.now sweep.placing.looks.now sweep.placing.children.now c.args.marks.now sweep.placing.widths.now
+          sweep.placing.heights.now (last_in sweep.olds.now sweep.old_spans.now)
           (kept_in sweep.olds.now sweep.old_children.now sweep.old_spans.now) c.args.spans.now.items flags c.loop-at.spans.items
           c.place_children.new.spans.items p worked
-          (are_known sweep.nodes.now sweep.children.now c.requires.nodes c.requires.children) c.loop-at-test.true
+          (are_known sweep.placing.nodes.now sweep.placing.children.now c.requires.nodes c.requires.children) c.loop-at-test.true
           c.loop-at.invariant.0 told c.in_ok-place_children.ensures.put,
       rw (step, ap (λ w. w.evaluated) same, ap (λ w. w.styled) same, ap (λ w. w.painted) same, total) refl,
     )
@@ -53,5 +55,5 @@ returns-clause-marks g c = λ p within.
 
 pub returns-clause-work : goal.returns-clause-work
 returns-clause-work g c =
-    let all : c.loop-at.at ≡ length c.args.sweep.nodes.now = omega (arith, c.loop-at-test.false, c.loop-at.auto.at-end) in
+    let all : c.loop-at.at ≡ length c.args.sweep.placing.nodes.now = omega (arith, c.loop-at-test.false, c.loop-at.auto.at-end) in
     rw (sym all) c.loop-at.invariant.1

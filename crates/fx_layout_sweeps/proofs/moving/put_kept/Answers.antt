@@ -1,7 +1,7 @@
 use Rattle.std.proofs.Common.{map}
 use Rattle.fx_layout_sweeps.specs.Nodes.{span_at}
 use Rattle.fx_layout_sweeps.proofs.Spreads.{put_start, put_more, put_all}
-use Rattle.fx_layout_sweeps.proofs.placing.put_kept.Goals as goal
+use Rattle.fx_layout_sweeps.proofs.moving.put_kept.Goals as goal
 
 pub loop-k-init : goal.loop-k-init
 loop-k-init c = put_start c.args.places.now (map (span_at c.args.old.now) c.args.old_places.now) c.args.spans.now.items

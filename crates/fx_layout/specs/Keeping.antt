@@ -1,0 +1,42 @@
+-- How what is kept of a scene fits together, and rectangles that are added up again.
+-- Cited by the invariant of `Layouts` and by src/rects.rt.
+use Rattle.std.specs.Prelude.{◌≡◌, ℕ, ◌<◌, List, All, length}
+use Rattle.fx_base.specs.declared.geometry.Rect.{Rect}
+use Rattle.fx_kinds.specs.declared.facts.BoxFacts.{BoxFacts}
+use Rattle.fx_panes_parts.specs.declared.axes.Extent.{Extent}
+use Rattle.fx_panes_parts.specs.declared.axes.Span.{Span}
+use Rattle.fx_layout_sweeps.specs.Nodes.{children_lists, keys, parents, places_at, span_at}
+use Rattle.fx_layout.specs.Updates.{AreDifferent, Kept, rect_at, shifted}
+
+-- the children of a place stand in this rectangle where their spans say
+abbrev pub AreAdded : List (List ℕ) → List Span → List Span → List Rect → Rect → ℕ → Type 0
+AreAdded children across down rects outer p =
+    All (λ j. rect_at rects j ≡ shifted outer (span_at across j) (span_at down j)) (places_at children p)
+
+-- What is kept of nodes fits together: no two have one key, there is something of each of them, and the rectangles of the
+-- children of each stand in its own where their spans say.
+pub record IsWhole (kept : Kept) : Type 0 where
+  pub keys : AreDifferent kept.keys
+  pub widths : length kept.widths ≡ length kept.children
+  pub heights : length kept.heights ≡ length kept.children
+  pub across : length kept.across ≡ length kept.children
+  pub down : length kept.down ≡ length kept.children
+  pub rects : length kept.rects ≡ length kept.children
+  pub added : (p : ℕ) → p < length kept.children
+      → AreAdded kept.children kept.across kept.down kept.rects (rect_at kept.rects p) p
+
+-- what is kept of nodes, of what was made of them
+abbrev pub kept_of : List BoxFacts → List Extent → List Extent → List Span → List Span → List Rect → Kept
+kept_of nodes widths heights across down rects = record {
+  keys = keys nodes;
+  children = children_lists (parents nodes);
+  widths = widths;
+  heights = heights;
+  across = across;
+  down = down;
+  rects = rects;
+}
+
+-- two rectangles begin at one place
+abbrev pub BeginAlike : Rect → Rect → Type 0
+BeginAlike one other = (one.x ≡ other.x) × (one.y ≡ other.y)

@@ -6,4 +6,6 @@ mod answers;
 #[cfg(test)]
 mod node_data;
 #[cfg(test)]
+mod rows;
+#[cfg(test)]
 mod tables;

@@ -4,6 +4,8 @@
 #[cfg(test)]
 mod answers;
 #[cfg(test)]
+mod graphs;
+#[cfg(test)]
 mod node_data;
 #[cfg(test)]
 mod rows;

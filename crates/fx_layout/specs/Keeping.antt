@@ -13,8 +13,8 @@ abbrev pub AreAdded : List (List ℕ) → List Span → List Span → List Rect 
 AreAdded children across down rects outer p =
     All (λ j. rect_at rects j ≡ shifted outer (span_at across j) (span_at down j)) (places_at children p)
 
--- What is kept of nodes fits together: no two have one key, there is something of each of them, and the rectangles of the
--- children of each stand in its own where their spans say.
+-- What is kept of nodes fits together: no two have one key, there is something of each of them, and the rectangles of
+-- the children of each stand in its own where their spans say.
 pub record IsWhole (kept : Kept) : Type 0 where
   pub keys : AreDifferent kept.keys
   pub widths : length kept.widths ≡ length kept.children

@@ -8,10 +8,11 @@ use Rattle.fx_layout_sweeps.specs.Nodes.{box_at, children_lists, children_of, ex
 use Rattle.fx_layout_sweeps.specs.Sweeps.{IsMeasured, fitted, spans_along}
 use Rattle.fx_layout.specs.Updates.{AreRects, Kept, from_corner, is_listed, old_place, root_length, window_height, window_width}
 
--- The layout of a scene: the lengths of each node are those that its pane measures over the lengths of its children, its
--- heights in the width that it has; the root has the window's size, or its own; and the children of each node stand where
--- its pane puts them in its size.
-pub record IsLayout (nodes : List BoxFacts) (looks : List Look) (window : Option (ℕ × ℕ)) (all : Kept) : Type 0 where
+-- The layout of a scene: the lengths of each node are those that its pane measures over the lengths of its children,
+-- its heights in the width that it has; the root has the window's size, or its own; and the children of each node
+-- stand where its pane puts them in its size.
+pub record IsLayout (nodes : List BoxFacts) (looks : List Look) (window : Option (ℕ × ℕ)) (all : Kept)
+    : Type 0 where
   pub keys : all.keys ≡ keys nodes
   pub children : all.children ≡ children_lists (parents nodes)
   pub widths : (p : ℕ) → p < length nodes → IsMeasured Across (box_at nodes looks p)
@@ -34,8 +35,8 @@ pub record IsLayout (nodes : List BoxFacts) (looks : List Look) (window : Option
 abbrev pub apart : BoxFacts → BoxFacts
 apart node = record node { parent = None }
 
--- A node is as it was: nothing of it changed but where its parent stands in the list, it has the same children, and none of
--- these is listed.
+-- A node is as it was: nothing of it changed but where its parent stands in the list, it has the same children, and
+-- none of these is listed.
 pub record IsSame (olds : List BoxFacts) (old_looks : List Look) (nodes : List BoxFacts) (looks : List Look)
     (listed : List ℕ) (p q : ℕ) : Type 0 where
   pub there : q < length olds
@@ -43,7 +44,8 @@ pub record IsSame (olds : List BoxFacts) (old_looks : List Look) (nodes : List B
   pub box : box_at nodes looks p ≡ box_at olds old_looks q
   pub children : map (λ (j : ℕ). (node_at nodes j).key) (children_of (parents nodes) p)
       ≡ map (λ (j : ℕ). (node_at olds j).key) (children_of (parents olds) q)
-  pub below : (j : ℕ) → j < length nodes → (node_at nodes j).parent ≡ Option.Some p → is_listed listed j ≡ false
+  pub below : (j : ℕ) → j < length nodes → (node_at nodes j).parent ≡ Option.Some p
+      → is_listed listed j ≡ false
 
 -- each node that isn't listed is as it was where its key stood
 abbrev pub AreSame : List BoxFacts → List Look → List BoxFacts → List Look → List ℕ → Type 0

@@ -63,8 +63,8 @@ window_height window = option_map (λ (size : ℕ × ℕ). size.1) window
 abbrev pub from_corner : ℕ → Span
 from_corner length = record { start = pos 0; length = length }
 
--- the widths and heights that placing along an axis looks at, of the widths and of the lengths along it: across no heights
--- are known
+-- the widths and heights that placing along an axis looks at, of the widths and of the lengths along it: across no
+-- heights are known
 abbrev pub widths_along : Axis → List Extent → List Extent → List Extent
 widths_along Across widths lengths = lengths
 widths_along Down widths lengths = widths
@@ -113,8 +113,8 @@ is_wide_anew listed olds old_across across p = is_worked (is_listed listed) (las
 -- from the leaves, places across from the root, heights at the new widths from the leaves, and places down from the
 -- root. Each works on the listed nodes, and all but the first on those whose length is another than the last; every
 -- other node keeps what is kept.
-pub record IsUpdate (old : Kept) (nodes : List BoxFacts) (looks : List Look) (window : Option (ℕ × ℕ)) (listed : List ℕ)
-    (new : Kept) : Type 0 where
+pub record IsUpdate (old : Kept) (nodes : List BoxFacts) (looks : List Look) (window : Option (ℕ × ℕ))
+    (listed : List ℕ) (new : Kept) : Type 0 where
   pub keys : new.keys ≡ keys nodes
   pub children : new.children ≡ children_lists (parents nodes)
   pub widths : AreMeasured Across nodes looks new.children (is_listed listed) [] []

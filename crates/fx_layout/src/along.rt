@@ -39,8 +39,8 @@ pub(crate) struct Moved<'a> {
     pub(crate) old_children: &'a [Places],
 }
 
-/// The sweeps along one axis: what is kept along it, the root's length where it is given, and for heights the widths and the
-/// places across.
+/// The sweeps along one axis: what is kept along it, the root's length where it is given, and for heights the widths
+/// and the places across.
 #[derive(Clone, Copy)]
 pub(crate) struct Sweep<'a> {
     pub(crate) axis: Axis,
@@ -51,8 +51,8 @@ pub(crate) struct Sweep<'a> {
     pub(crate) spans: &'a [Span],
 }
 
-/// Lengths and places along one axis of nodes that may have stood elsewhere: nodes that are marked are measured, and the
-/// marks are then of the nodes whose children were placed anew.
+/// Lengths and places along one axis of nodes that may have stood elsewhere: nodes that are marked are measured, and
+/// the marks are then of the nodes whose children were placed anew.
 pub(crate) fn lay_moved<L: Ledgers>(
     alloc: Global,
     moved: Moved<'_>,
@@ -66,15 +66,16 @@ pub(crate) fn lay_moved<L: Ledgers>(
     requires children { moved.scene.children.now ≡ children_lists (parents moved.scene.nodes.now) }
     requires olds { length moved.olds.now ≡ length moved.scene.nodes.now }
     requires marks { length marks.old ≡ length moved.scene.nodes.now }
-    ensures lengths { IfOk result (λ along. AreMeasured sweep.entry.axis moved.entry.scene.nodes.now moved.entry.scene.looks.now
-        moved.entry.scene.children.now (flag_in marks.old) sweep.entry.widths.now sweep.entry.spans.now
+    ensures lengths { IfOk result (λ along. AreMeasured sweep.entry.axis moved.entry.scene.nodes.now
+        moved.entry.scene.looks.now moved.entry.scene.children.now (flag_in marks.old)
+        sweep.entry.widths.now sweep.entry.spans.now
         (lengths_in moved.entry.olds.now sweep.entry.old_lengths.now) along.lengths.items) }
     ensures each { IfOk result (λ along. length along.lengths.items ≡ length moved.entry.scene.nodes.now) }
     ensures each_span { IfOk result (λ along. length along.spans.items ≡ length moved.entry.scene.nodes.now) }
     ensures root { IfOk result (λ along. span_at along.spans.items 0
         ≡ from_corner (root_length sweep.entry.root (extent_at along.lengths.items 0))) }
-    ensures placed { IfOk result (λ along. ArePlaced sweep.entry.axis moved.entry.scene.nodes.now moved.entry.scene.looks.now
-        moved.entry.scene.children.now (flag_in marks.old)
+    ensures placed { IfOk result (λ along. ArePlaced sweep.entry.axis moved.entry.scene.nodes.now
+        moved.entry.scene.looks.now moved.entry.scene.children.now (flag_in marks.old)
         (widths_along sweep.entry.axis sweep.entry.widths.now along.lengths.items)
         (heights_along sweep.entry.axis along.lengths.items)
         (last_in moved.entry.olds.now sweep.entry.old_spans.now)

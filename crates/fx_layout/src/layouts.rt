@@ -19,8 +19,8 @@ use std::alloc::{AllocError, Global};
 use std::marker::Model;
 use std::mem;
 
-/// Where each node of the last update stands, and what the next one needs of it: the keys of the nodes, their children, and
-/// their lengths and places along both axes.
+/// Where each node of the last update stands, and what the next one needs of it: the keys of the nodes, their
+/// children, and their lengths and places along both axes.
 #[derive(Drop)]
 pub struct Layouts {
     keys: Vec<NodeKey>,
@@ -79,7 +79,15 @@ struct Input<'a> {
 impl Layouts {
     /// Nothing is kept.
     pub fn new(alloc: Global) -> Layouts
-        ensures { result ≡ record { keys = []; children = []; widths = []; heights = []; across = []; down = []; rects = [] } }
+        ensures { result ≡ record {
+          keys = [];
+          children = [];
+          widths = [];
+          heights = [];
+          across = [];
+          down = [];
+          rects = [];
+        } }
     {
         Layouts {
             keys: Vec::new(alloc),
@@ -103,10 +111,10 @@ impl Layouts {
         self.rects.as_slice()
     }
 
-    /// Lays the nodes out and answers the size of the root. The nodes of `remeasure` are measured and their children placed
-    /// anew; every other node keeps what is kept under its key, whatever its facts and look say now, but that its children
-    /// are placed anew, and its heights measured, where its size is another than the last. `window` is the size of the
-    /// window; without one the root has its preferred size. Each call of a pane counts one laid node.
+    /// Lays the nodes out and answers the size of the root. The nodes of `remeasure` are measured and their children
+    /// placed anew; every other node keeps what is kept under its key, whatever its facts and look say now, but that
+    /// its children are placed anew, and its heights measured, where its size is another than the last. `window` is
+    /// the size of the window; without one the root has its preferred size. Each call of a pane counts one laid node.
     pub fn update<L: Ledgers>(
         &mut self,
         alloc: Global,

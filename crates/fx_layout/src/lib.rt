@@ -1,5 +1,5 @@
-//! The layout of a whole scene, kept from one update to the next: four sweeps over the tree of nodes, of which each works on
-//! the nodes that are listed and on those whose length is another than the last.
+//! The layout of a whole scene, kept from one update to the next: four sweeps over the tree of nodes, of which each
+//! works on the nodes that are listed and on those whose length is another than the last.
 #![tactic(auto)]
 
 mod along;

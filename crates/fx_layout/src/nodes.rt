@@ -10,8 +10,8 @@ use crate::rects::parent_at;
 use fx_base::NodeKey;
 use fx_kinds::BoxFacts;
 
-/// Can these nodes be laid out? There is a node, and there are at most 4,096; the first has no parent, and each other one
-/// has a parent that stands before it; each has at most 256 columns and 256 rows; and no two have one key.
+/// Can these nodes be laid out? There is a node, and there are at most 4,096; the first has no parent, and each other
+/// one has a parent that stands before it; each has at most 256 columns and 256 rows; and no two have one key.
 pub fn can_be_laid(nodes: &[BoxFacts]) -> bool
     ensures some { result ≡ true → 0 < length nodes.now }
     ensures nodes { result ≡ true → AreNodes nodes.now }

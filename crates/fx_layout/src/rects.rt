@@ -57,7 +57,8 @@ pub(crate) fn add_again(
     requires marks { length marks.old ≡ length scene.nodes.now }
     requires rects { length rects.old.items ≡ length scene.nodes.now }
     requires kept { (p : ℕ) → p < length scene.nodes.now → flag_in marks.old p ≡ false
-        → AreAdded scene.children.now halves.across.now halves.down.now rects.old.items (rect_at rects.old.items p) p }
+        → AreAdded scene.children.now halves.across.now halves.down.now rects.old.items
+        (rect_at rects.old.items p) p }
     ensures { AreRects scene.entry.nodes.now halves.entry.across.now halves.entry.down.now rects.new.items }
 {
     let root = shifted(CORNER, span_at(halves.across, 0), span_at(halves.down, 0));
@@ -85,7 +86,8 @@ fn add_children(
     ensures each { length rects.new.items ≡ length rects.old.items }
     ensures added { All (λ j. rect_at rects.new.items j
         ≡ shifted outer (span_at halves.entry.across.now j) (span_at halves.entry.down.now j)) places.now }
-    ensures others { (q : ℕ) → All (λ j. j ≢ q) places.now → rect_at rects.new.items q ≡ rect_at rects.old.items q }
+    ensures others { (q : ℕ) → All (λ j. j ≢ q) places.now
+        → rect_at rects.new.items q ≡ rect_at rects.old.items q }
     ensures each_mark { length marks.new ≡ length marks.old }
     ensures marks { (q : ℕ) → q < length marks.old → flag_in marks.new q ≡ false
         → (flag_in marks.old q ≡ false) × BeginAlike (rect_at rects.new.items q) (rect_at rects.old.items q) }

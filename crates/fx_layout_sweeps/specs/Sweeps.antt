@@ -1,5 +1,5 @@
--- Measuring from the leaves and placing from the root, along one axis. Only some of the nodes are worked out; the others
--- keep what was kept. Cited by src/measuring.rt, src/placing.rt and by `Layouts`.
+-- Measuring from the leaves and placing from the root, along one axis. Only some of the nodes are worked out; the
+-- others keep what was kept. Cited by src/measuring.rt, src/placing.rt and by `Layouts`.
 use Rattle.std.specs.Prelude.{◌≡◌, ◌≢◌, ℕ, ◌+◌, ◌<◌, Bool, true, false, ◌||◌, not, nat_eq, MatchBool, if◌then◌else◌, List, [], ◌∷◌, count_by, length, map, slice_index_or}
 use Rattle.std.specs.List.{range_with_len}
 use Rattle.fx_base.specs.declared.facts.ChildSize.{ChildSize}
@@ -32,8 +32,8 @@ seen_along Down pane nodes widths lengths places = seen pane nodes widths length
 
 -- Where a node is listed its lengths are those that its pane measures over the lengths of its children, and else those
 -- that were kept.
-abbrev pub IsSettled : Axis → List BoxFacts → List Look → List (List ℕ) → (ℕ → Bool) → List Extent → List Span
-    → (ℕ → Extent) → List Extent → ℕ → Type 0
+abbrev pub IsSettled : Axis → List BoxFacts → List Look → List (List ℕ) → (ℕ → Bool) → List Extent
+    → List Span → (ℕ → Extent) → List Extent → ℕ → Type 0
 IsSettled axis nodes looks children listed widths spans kept lengths p = MatchBool (listed p)
     (IsMeasured axis (box_at nodes looks p)
     (seen_along axis (box_at nodes looks p).rule nodes widths lengths (places_at children p))
@@ -41,8 +41,8 @@ IsSettled axis nodes looks children listed widths spans kept lengths p = MatchBo
     (extent_at lengths p ≡ kept p)
 
 -- nodes measured from the leaves
-abbrev pub AreMeasured : Axis → List BoxFacts → List Look → List (List ℕ) → (ℕ → Bool) → List Extent → List Span
-    → (ℕ → Extent) → List Extent → Type 0
+abbrev pub AreMeasured : Axis → List BoxFacts → List Look → List (List ℕ) → (ℕ → Bool) → List Extent
+    → List Span → (ℕ → Extent) → List Extent → Type 0
 AreMeasured axis nodes looks children listed widths spans kept lengths =
     (p : ℕ) → p < length nodes → IsSettled axis nodes looks children listed widths spans kept lengths p
 
@@ -68,16 +68,16 @@ spans_for axis nodes looks children widths heights kept p worked length =
     (seen (box_at nodes looks p).rule nodes widths heights (places_at children p)) length
     else kept p
 
-abbrev pub IsPlacedAt : Axis → List BoxFacts → List Look → List (List ℕ) → (ℕ → Bool) → List Extent → List Extent
-    → (ℕ → Span) → (ℕ → List Span) → List Span → ℕ → Type 0
+abbrev pub IsPlacedAt : Axis → List BoxFacts → List Look → List (List ℕ) → (ℕ → Bool) → List Extent
+    → List Extent → (ℕ → Span) → (ℕ → List Span) → List Span → ℕ → Type 0
 IsPlacedAt axis nodes looks children listed widths heights last kept spans p =
     map (span_at spans) (places_at children p)
     ≡ fitted (length (places_at children p))
     (spans_for axis nodes looks children widths heights kept p (is_worked listed last spans p) (span_at spans p).length)
 
 -- children placed from the root
-abbrev pub ArePlaced : Axis → List BoxFacts → List Look → List (List ℕ) → (ℕ → Bool) → List Extent → List Extent
-    → (ℕ → Span) → (ℕ → List Span) → List Span → Type 0
+abbrev pub ArePlaced : Axis → List BoxFacts → List Look → List (List ℕ) → (ℕ → Bool) → List Extent
+    → List Extent → (ℕ → Span) → (ℕ → List Span) → List Span → Type 0
 ArePlaced axis nodes looks children listed widths heights last kept spans =
     (p : ℕ) → p < length nodes → IsPlacedAt axis nodes looks children listed widths heights last kept spans p
 
@@ -103,7 +103,8 @@ half Down rect = down_span rect
 pub record IsPut (places : List ℕ) (found old new : List Span) : Type 0 where
   pub each : length new ≡ length old
   pub put : (k d : ℕ) → k < length places → span_at new (slice_index_or places k d) ≡ span_at found k
-  pub other : (q : ℕ) → ((k d : ℕ) → k < length places → slice_index_or places k d ≢ q) → span_at new q ≡ span_at old q
+  pub other : (q : ℕ) → ((k d : ℕ) → k < length places → slice_index_or places k d ≢ q)
+      → span_at new q ≡ span_at old q
 
 -- how many of so many places pass a test
 abbrev pub tally : (ℕ → Bool) → ℕ → ℕ

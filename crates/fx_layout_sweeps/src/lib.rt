@@ -1,6 +1,6 @@
-//! The sweeps by which a tree of nodes is laid out along one axis: measuring from the leaves, and placing from the root.
-//! Both work on some of the nodes alone, and leave what is kept of the others. They stand on the rules of the panes, below
-//! the layout of a whole scene.
+//! The sweeps by which a tree of nodes is laid out along one axis: measuring from the leaves, and placing from the
+//! root. Both work on some of the nodes alone, and leave what is kept of the others. They stand on the rules of the
+//! panes, below the layout of a whole scene.
 #![tactic(auto)]
 
 mod lengths;

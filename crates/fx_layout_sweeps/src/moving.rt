@@ -23,9 +23,9 @@ pub struct Moving<'a> {
     pub old_spans: &'a [Span],
 }
 
-/// Where each node stands in its parent. The children of a node that is marked, or is longer or shorter than it was, are
-/// placed by its pane; those of any other stay where they were kept. The marks are then of the nodes whose children were
-/// placed anew.
+/// Where each node stands in its parent. The children of a node that is marked, or is longer or shorter than it was,
+/// are placed by its pane; those of any other stay where they were kept. The marks are then of the nodes whose
+/// children were placed anew.
 pub fn place_nodes<L: Ledgers>(
     alloc: Global,
     sweep: Moving<'_>,
@@ -41,8 +41,9 @@ pub fn place_nodes<L: Ledgers>(
     ensures each { OnOk result (length spans.new.items ≡ length sweep.entry.placing.nodes.now) }
     ensures each_mark { OnOk result (length marks.new ≡ length sweep.entry.placing.nodes.now) }
     ensures root { OnOk result (span_at spans.new.items 0 ≡ span_at spans.old.items 0) }
-    ensures placed { OnOk result (ArePlaced sweep.entry.placing.axis sweep.entry.placing.nodes.now sweep.entry.placing.looks.now
-        sweep.entry.placing.children.now (flag_in marks.old) sweep.entry.placing.widths.now sweep.entry.placing.heights.now
+    ensures placed { OnOk result (ArePlaced sweep.entry.placing.axis sweep.entry.placing.nodes.now
+        sweep.entry.placing.looks.now sweep.entry.placing.children.now (flag_in marks.old)
+        sweep.entry.placing.widths.now sweep.entry.placing.heights.now
         (last_in sweep.entry.olds.now sweep.entry.old_spans.now)
         (kept_in sweep.entry.olds.now sweep.entry.old_children.now sweep.entry.old_spans.now) spans.new.items) }
     ensures marks { OnOk result ((p : ℕ) → p < length sweep.entry.placing.nodes.now → flag_in marks.new p
@@ -104,7 +105,8 @@ fn old_places(children: &[Places], at: usize) -> &[usize]
 
 /// Are the children of the node at this place placed anew?
 fn is_worked(sweep: Moving<'_>, marks: &Marks, spans: &[Span], at: usize) -> bool
-    ensures { result ≡ is_worked (flag_in marks.now) (last_in sweep.entry.olds.now sweep.entry.old_spans.now) spans.now at }
+    ensures { result ≡ is_worked (flag_in marks.now) (last_in sweep.entry.olds.now sweep.entry.old_spans.now)
+        spans.now at }
 {
     marks.is_marked(at)
         || span_at(spans, at).length != span_at(sweep.old_spans, old_at(sweep.olds, at)).length
@@ -125,8 +127,8 @@ fn place_children<L: Ledgers>(
     requires spans { length spans.old.items ≡ length sweep.placing.nodes.now }
     requires place { at < length sweep.placing.nodes.now }
     ensures put { OnOk result (IsPut (places_at sweep.entry.placing.children.now at)
-        (spans_for sweep.entry.placing.axis sweep.entry.placing.nodes.now sweep.entry.placing.looks.now sweep.entry.placing.children.now
-        sweep.entry.placing.widths.now sweep.entry.placing.heights.now
+        (spans_for sweep.entry.placing.axis sweep.entry.placing.nodes.now sweep.entry.placing.looks.now
+        sweep.entry.placing.children.now sweep.entry.placing.widths.now sweep.entry.placing.heights.now
         (kept_in sweep.entry.olds.now sweep.entry.old_children.now sweep.entry.old_spans.now) at worked
         (span_at spans.old.items at).length)
         spans.old.items spans.new.items) }

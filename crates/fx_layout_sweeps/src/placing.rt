@@ -27,8 +27,8 @@ pub struct Placing<'a> {
     pub heights: &'a [Extent],
 }
 
-/// Where each node stands in its parent, by where it stood. The children of a node that is marked, or is longer or shorter
-/// than it was, are placed by its pane, and the node is marked; the others aren't touched.
+/// Where each node stands in its parent, by where it stood. The children of a node that is marked, or is longer or
+/// shorter than it was, are placed by its pane, and the node is marked; the others aren't touched.
 pub fn place_again<L: Ledgers>(
     alloc: Global,
     sweep: Placing<'_>,
@@ -77,9 +77,10 @@ fn rects_across<L: Ledgers>(
     requires nodes { AreNodes sweep.nodes.now }
     requires children { sweep.children.now ≡ children_lists (parents sweep.nodes.now) }
     requires place { at < length sweep.nodes.now }
-    ensures rects { IfOk result (λ rects. rects.items ≡ rects_in (box_at sweep.entry.nodes.now sweep.entry.looks.now at)
-        (seen (box_at sweep.entry.nodes.now sweep.entry.looks.now at).rule sweep.entry.nodes.now sweep.entry.widths.now
-        sweep.entry.heights.now (places_at sweep.entry.children.now at)) (held_length width) 0) }
+    ensures rects { IfOk result (λ rects. rects.items
+        ≡ rects_in (box_at sweep.entry.nodes.now sweep.entry.looks.now at)
+        (seen (box_at sweep.entry.nodes.now sweep.entry.looks.now at).rule sweep.entry.nodes.now
+        sweep.entry.widths.now sweep.entry.heights.now (places_at sweep.entry.children.now at)) (held_length width) 0) }
     ensures work { OnOk result (work.new ≡ record work.old { laid = work.old.laid + 1 }) }
 {
     let node = box_in(alloc, sweep.nodes, sweep.looks, at)?;
@@ -107,9 +108,11 @@ fn rects_down<L: Ledgers>(
     requires nodes { AreNodes sweep.nodes.now }
     requires children { sweep.children.now ≡ children_lists (parents sweep.nodes.now) }
     requires place { at < length sweep.nodes.now }
-    ensures rects { IfOk result (λ rects. rects.items ≡ rects_in (box_at sweep.entry.nodes.now sweep.entry.looks.now at)
-        (seen (box_at sweep.entry.nodes.now sweep.entry.looks.now at).rule sweep.entry.nodes.now sweep.entry.widths.now
-        sweep.entry.heights.now (places_at sweep.entry.children.now at)) 0 (held_length height)) }
+    ensures rects { IfOk result (λ rects. rects.items
+        ≡ rects_in (box_at sweep.entry.nodes.now sweep.entry.looks.now at)
+        (seen (box_at sweep.entry.nodes.now sweep.entry.looks.now at).rule sweep.entry.nodes.now
+        sweep.entry.widths.now sweep.entry.heights.now (places_at sweep.entry.children.now at))
+        0 (held_length height)) }
     ensures work { OnOk result (work.new ≡ record work.old { laid = work.old.laid + 1 }) }
 {
     let node = box_in(alloc, sweep.nodes, sweep.looks, at)?;

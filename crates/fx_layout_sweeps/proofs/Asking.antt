@@ -1,5 +1,5 @@
 -- The panes of nodes that can be laid out can be asked.
-use Rattle.std.proofs.Common.{sym, subst, ap, ◌∙◌, ◌≡◌, ℕ, ◌<◌, ◌≤◌, ◌≢◌, All, AllPairs, List, length, map, slice_index_or, arith}
+use Rattle.std.proofs.Common.{sym, subst, ap, ◌∙◌, ◌≡◌, ℕ, ◌<◌, ◌≤◌, ◌≢◌, All, AllPairs, List, length, slice_index_or, arith}
 use Rattle.std.proofs.lemmas.List.{length-map}
 use Rattle.std.proofs.lemmas.List.Elements.{All-get_or, All-weaker}
 use Rattle.std.proofs.lemmas.List.FromFn.{length-map-range_with_len, length-range_with_len}

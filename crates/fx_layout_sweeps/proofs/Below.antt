@@ -1,13 +1,11 @@
 -- The children of a place stand behind it, have it as their parent, and are told apart by their places.
-use Rattle.std.proofs.Common.{refl, sym, subst, ap, ◌∙◌, ◌≡◌, ◌≢◌, ℕ, zero, suc, ◌+◌, ◌<◌, ◌≤◌, Bool, true, false, nat_eq, cond, All, AllPairs, List, [], ◌∷◌, Option, None, Some, filter, length, map, unwrap_or, is_some, slice_index_or, arith}
+use Rattle.std.proofs.Common.{refl, sym, subst, ap, ◌∙◌, ◌≡◌, ◌≢◌, ℕ, zero, suc, ◌+◌, ◌<◌, ◌≤◌, Bool, true, false, cond, All, AllPairs, List, [], ◌∷◌, Option, None, Some, filter, length, unwrap_or, is_some, arith}
 use Rattle.std.proofs.lemmas.Bool.{eqb-true, true≢false}
-use Rattle.std.proofs.lemmas.List.{get_or-map}
 use Rattle.std.proofs.lemmas.List.Elements.{All-cons, All-nil}
 use Rattle.std.proofs.lemmas.List.FromFn.{get_or-range_with_len, length-range_with_len, get_or-map-range_with_len}
 use Rattle.std.proofs.lemmas.List.Kept.{AllPairs-filter}
 use Rattle.std.specs.List.{range_with_len}
-use Rattle.fx_kinds.specs.declared.facts.BoxFacts.{BoxFacts}
-use Rattle.fx_layout_sweeps.specs.Nodes.{IsTree, Parents, children_lists, children_of, is_place, parent_at, parents, places_at}
+use Rattle.fx_layout_sweeps.specs.Nodes.{IsTree, Parents, children_lists, children_of, is_place, parent_at, places_at}
 
 pub record IsChild (ups : Parents) (p j : ℕ) : Type 0 where
   pub behind : p < j

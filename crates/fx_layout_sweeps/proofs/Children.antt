@@ -1,11 +1,11 @@
 -- The children of a place, one node more.
-use Rattle.std.proofs.Common.{refl, subst, slice_index_or, sym, ap, ◌∙◌, ◌≡◌, ℕ, ◌+◌, ◌<◌, Bool, true, false, List, [], ◌∷◌, ◌++◌, Option, None, filter, length, map, replicate, arith, if◌then◌else◌}
+use Rattle.std.proofs.Common.{refl, subst, slice_index_or, sym, ap, ◌∙◌, ◌≡◌, ℕ, ◌+◌, ◌<◌, Bool, true, false, List, [], ◌∷◌, ◌++◌, Option, None, filter, length, replicate, arith, if◌then◌else◌}
 use Rattle.std.proofs.lemmas.List.{append-nil, ext_get_or, get_or-map, get_or-replicate, length-replicate, map-id}
 use Rattle.std.proofs.lemmas.List.Elements.{filter-append}
-use Rattle.std.proofs.lemmas.List.FromFn.{map-range_with_len_more, length-range_with_len, length-map-range_with_len, get_or-map-range_with_len}
+use Rattle.std.proofs.lemmas.List.FromFn.{map-range_with_len_more, length-map-range_with_len, get_or-map-range_with_len}
 use Rattle.std.specs.List.{range_with_len}
 use Rattle.fx_kinds.specs.declared.facts.BoxFacts.{BoxFacts}
-use Rattle.fx_layout_sweeps.specs.Nodes.{Parents, children_lists, children_of, hung_at, is_place, no_node, parent_at, parents, places_at}
+use Rattle.fx_layout_sweeps.specs.Nodes.{Parents, children_lists, children_of, hung_at, is_place, parent_at, parents, places_at}
 
 -- the children of a place among the first nodes
 abbrev pub children_among : Parents → ℕ → ℕ → List ℕ

@@ -4,7 +4,7 @@ use Rattle.std.proofs.lemmas.Bool.{cases_lt, eqb-true, eqb-false}
 use Rattle.std.proofs.lemmas.List.{get_or-map, get_or-set_same, get_or-set_other, length-drop, length-map, map-set}
 use Rattle.std.proofs.Math.ListN.{get_or-eq_default}
 use Rattle.memchr.specs.Find.{IsFirstByte, IsLastByte, is_byte}
-use Rattle.fx_layout_sweeps.specs.Marks.{AreUnmarked, IsFirstMark, IsLastMark, flag_in, is_set}
+use Rattle.fx_layout_sweeps.specs.Marks.{IsFirstMark, IsLastMark, flag_in, is_set}
 
 not_true : (b : Bool) → (b ≡ true → ⊥) → b ≡ false
 not_true true h = absurd (h refl)

@@ -1,12 +1,10 @@
 -- What is read at a place is there at any default.
 use Rattle.std.proofs.Common.{subst, sym, ap, ◌∙◌, ◌≡◌, ℕ, ◌<◌, List, length, slice_index_or}
 use Rattle.std.proofs.lemmas.List.{get_or_default}
-use Rattle.fx_base.specs.declared.facts.ChildSize.{ChildSize}
 use Rattle.fx_kinds.specs.declared.facts.BoxFacts.{BoxFacts}
 use Rattle.fx_look.specs.declared.looks.Look.{Look}
 use Rattle.fx_look.specs.Looks.{initial_look}
 use Rattle.fx_panes_parts.specs.declared.axes.Extent.{Extent}
-use Rattle.fx_layout_parts.specs.declared.rules.NodeBox.{NodeBox}
 use Rattle.fx_layout_parts.specs.declared.rules.Rule.{Rule}
 use Rattle.fx_layout_parts.specs.Boxes.{box_of}
 use Rattle.fx_layout_parts.specs.Children.{child_of}

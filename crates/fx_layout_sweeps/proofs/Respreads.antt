@@ -13,7 +13,7 @@ use Rattle.fx_layout_sweeps.specs.Marks.{AreUnmarked, flag_in}
 use Rattle.fx_layout_sweeps.specs.Nodes.{box_at, nowhere, places_at, seen, span_at}
 use Rattle.fx_layout_sweeps.specs.Sweeps.{IsPlacedAt, IsPut, fitted, is_worked, kept_here, spans_along, spans_for, tally}
 use Rattle.fx_layout_sweeps.proofs.Spreads.{AreKnown, IsPutTo, placed_still, put_placed}
-use Rattle.fx_layout_sweeps.proofs.Tallies.{tally_between, tally_more, tally_same}
+use Rattle.fx_layout_sweeps.proofs.Tallies.{tally_more, tally_same}
 use Rattle.fx_layout_sweeps.proofs.Turns.{map_same}
 
 -- what is placed, and where the nodes stood

@@ -1,6 +1,6 @@
 -- The nodes of a scene as one list in pre-order, in which each node but the first has its parent before it.
 -- Cited by the sweeps and by `Layouts`.
-use Rattle.std.specs.Prelude.{◌≡◌, ℕ, ℤ, pos, ◌<◌, ◌≤◌, Bool, true, false, nat_eq, if◌then◌else◌, ◌++◌, All, AllPairs, ◌≢◌, List, [], ◌∷◌, filter, length, map, slice_index_or, Option, Some, None}
+use Rattle.std.specs.Prelude.{◌≡◌, ℕ, pos, ◌<◌, ◌≤◌, Bool, false, nat_eq, if◌then◌else◌, ◌++◌, All, List, [], ◌∷◌, filter, length, map, slice_index_or, Option, Some, None}
 use Rattle.std.specs.List.{range_with_len}
 use Rattle.fx_base.specs.declared.keys.NodeKey.{NodeKey}
 use Rattle.fx_base.specs.declared.facts.ChildSize.{ChildSize}

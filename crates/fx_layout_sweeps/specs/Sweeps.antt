@@ -1,6 +1,6 @@
 -- Measuring from the leaves and placing from the root, along one axis. Only some of the nodes are worked out; the
 -- others keep what was kept. Cited by src/measuring.rt, src/placing.rt and by `Layouts`.
-use Rattle.std.specs.Prelude.{◌≡◌, ◌≢◌, ℕ, ◌+◌, ◌<◌, Bool, true, false, ◌||◌, not, nat_eq, MatchBool, if◌then◌else◌, List, [], ◌∷◌, count_by, length, map, slice_index_or}
+use Rattle.std.specs.Prelude.{◌≡◌, ◌≢◌, ℕ, ◌<◌, Bool, ◌||◌, not, nat_eq, MatchBool, if◌then◌else◌, List, [], count_by, length, map, slice_index_or}
 use Rattle.std.specs.List.{range_with_len}
 use Rattle.fx_base.specs.declared.facts.ChildSize.{ChildSize}
 use Rattle.fx_base.specs.declared.geometry.Rect.{Rect}
@@ -14,7 +14,7 @@ use Rattle.fx_layout_parts.specs.declared.rules.NodeBox.{NodeBox}
 use Rattle.fx_layout_parts.specs.declared.rules.Rule.{Rule}
 use Rattle.fx_panes_parts.specs.Lengths.{length_of, pixels}
 use Rattle.fx_layout_parts.specs.Rules.{IsHigh, IsWide, across_in, across_span, down_in, down_span}
-use Rattle.fx_layout_sweeps.specs.Nodes.{box_at, extent_at, nowhere, places_at, seen, span_at}
+use Rattle.fx_layout_sweeps.specs.Nodes.{box_at, extent_at, places_at, seen, span_at}
 
 -- a length, of which none is greater than the longest
 abbrev pub held_length : ℕ → ℕ

@@ -1,12 +1,11 @@
-use Rattle.std.proofs.Common.{refl, sym, subst, List, ap, ◌∙◌, ◌≡◌, ◌≤◌, ◌<◌, ℕ, ◌+◌, [], cond, length, arith}
-use Rattle.fx_panes_parts.specs.declared.axes.Extent.{Extent}
+use Rattle.std.proofs.Common.{refl, sym, ap, ◌≡◌, ◌<◌, ℕ, ◌+◌, [], cond, length, arith}
 use Rattle.fx_layout_sweeps.specs.Marks.{flag_in}
 use Rattle.fx_layout_sweeps.specs.Nodes.{child_at}
 use Rattle.fx_layout_sweeps.specs.Sweeps.{tally}
 use Rattle.fx_layout_parts.specs.declared.rules.Rule.TheVariants as rule
 use Rattle.fx_layout_sweeps.proofs.Asking.{lists_behind}
 use Rattle.fx_layout_sweeps.proofs.Tallies.{tally_between, tally_more}
-use Rattle.fx_layout_sweeps.proofs.Turns.{IsMade, listed_made, swept_idle, swept_more, swept_start}
+use Rattle.fx_layout_sweeps.proofs.Turns.{listed_made, swept_idle, swept_more, swept_start}
 use Rattle.fx_layout_sweeps.proofs.measuring.measure_nodes.Goals as goal
 
 pub loop-place-init : goal.loop-place-init

@@ -1,4 +1,4 @@
-use Rattle.std.proofs.Common.{refl, sym, ap, ◌∙◌, ◌≡◌, ◌<◌, ℕ, ◌+◌, List, Bool, false, cond, add-zero, length, slice_set, arith}
+use Rattle.std.proofs.Common.{refl, sym, ap, ◌≡◌, ◌<◌, ℕ, ◌+◌, List, Bool, false, cond, add-zero, length, slice_set, arith}
 use Rattle.std.proofs.lemmas.List.{get_or-set_same, get_or-set_other}
 use Rattle.fx_layout_sweeps.specs.Marks.{flag_in}
 use Rattle.fx_layout_sweeps.specs.Sweeps.{kept_in, last_in, tally}

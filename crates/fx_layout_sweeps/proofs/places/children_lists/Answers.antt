@@ -1,5 +1,5 @@
-use Rattle.std.proofs.Common.{ℕ, ◌∙◌, ◌≡◌, sym, subst, ap, length, [], List, arith}
-use Rattle.fx_layout_sweeps.specs.Nodes.{children_lists, parents}
+use Rattle.std.proofs.Common.{ℕ, ◌≡◌, sym, subst, length, List, arith}
+use Rattle.fx_layout_sweeps.specs.Nodes.{parents}
 use Rattle.fx_layout_sweeps.proofs.Children.{AreHung, hung_start, hung_more, hung_all, parent_read}
 use Rattle.std.proofs.lemmas.List.{length-map}
 use Rattle.fx_layout_sweeps.proofs.places.children_lists.Goals as goal

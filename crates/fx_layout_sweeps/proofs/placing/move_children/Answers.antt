@@ -1,4 +1,4 @@
-use Rattle.std.proofs.Common.{refl, ap, ◌∙◌, length, map, arith}
+use Rattle.std.proofs.Common.{refl, ◌∙◌, length, map, arith}
 use Rattle.fx_layout_sweeps.specs.Sweeps.{half}
 use Rattle.fx_layout_sweeps.proofs.Respreads.{moved_more, not_worked}
 use Rattle.fx_layout_sweeps.proofs.Spreads.{put_all, put_more, put_start}

@@ -1,4 +1,4 @@
-use Rattle.std.proofs.Common.{refl, sym, subst, ap, ◌∙◌, ◌≡◌, ◌≤◌, ◌<◌, ℕ, ◌+◌, add-zero, length, arith}
+use Rattle.std.proofs.Common.{refl, ap, ◌≡◌, ◌<◌, ◌+◌, add-zero, length, arith}
 use Rattle.fx_layout_sweeps.specs.Marks.{flag_in}
 use Rattle.fx_layout_sweeps.specs.Sweeps.{tally}
 use Rattle.fx_layout_sweeps.proofs.Asking.{are_known}

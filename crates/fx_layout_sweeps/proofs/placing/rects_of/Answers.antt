@@ -1,5 +1,4 @@
 use Rattle.std.proofs.lemmas.Result.{IfOk-weaker}
-use Rattle.fx_layout_sweeps.specs.Nodes.{box_at, places_at, seen}
 use Rattle.fx_layout_sweeps.proofs.Spreads.{halves_across, halves_down}
 use Rattle.fx_layout_sweeps.proofs.placing.rects_of.Goals as goal
 

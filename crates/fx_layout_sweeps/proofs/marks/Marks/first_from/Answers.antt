@@ -1,4 +1,4 @@
-use Rattle.std.proofs.Common.{Bool, List, None, Some, subst, arith, ◌+◌, ◌≤◌, length}
+use Rattle.std.proofs.Common.{Bool, List, None, Some, subst, arith, ◌+◌}
 use Rattle.fx_layout_sweeps.specs.Marks.{IsFirstMark}
 use Rattle.fx_layout_sweeps.proofs.Marking.{first_found, first_missed}
 use Rattle.fx_layout_sweeps.proofs.marks.Marks.first_from.Goals as goal

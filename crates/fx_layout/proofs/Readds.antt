@@ -5,15 +5,17 @@ use Rattle.std.proofs.lemmas.List.{get_or_default, get_or-map, get_or-set_same, 
 use Rattle.std.proofs.Math.Numerals.{lt_of_le_of_ne}
 use Rattle.fx_base.specs.declared.geometry.Rect.{Rect}
 use Rattle.fx_kinds.specs.declared.facts.BoxFacts.{BoxFacts}
+use Rattle.fx_look.specs.declared.looks.Look.{Look}
+use Rattle.fx_panes_parts.specs.declared.axes.Extent.{Extent}
 use Rattle.fx_panes_parts.specs.declared.axes.Span.{Span}
 use Rattle.fx_panes_parts.specs.Lengths.{pixels}
 use Rattle.fx_layout_sweeps.specs.Marks.{AreUnmarked, flag_in}
-use Rattle.fx_layout_sweeps.specs.Nodes.{AreNodes, children_lists, no_node, node_at, parent_at, parents, places_at, span_at}
-use Rattle.fx_layout_sweeps.proofs.Asking.{child_in}
+use Rattle.fx_layout_sweeps.specs.Nodes.{AreNodes, children_lists, keys, no_node, node_at, parent_at, parents, places_at, span_at}
+use Rattle.fx_layout_sweeps.proofs.Asking.{child_in, lists_long}
 use Rattle.fx_layout_sweeps.proofs.Below.{IsChild}
 use Rattle.fx_layout_sweeps.proofs.Spreads.{AreKnown}
-use Rattle.fx_layout.specs.Keeping.{AreAdded, BeginAlike}
-use Rattle.fx_layout.specs.Updates.{AreRects, around, corner, reached, rect_at, shifted}
+use Rattle.fx_layout.specs.Keeping.{AreAdded, AreSwept, BeginAlike, IsWhole, kept_of}
+use Rattle.fx_layout.specs.Updates.{AreDifferent, AreRects, Kept, around, corner, reached, rect_at, shifted}
 use Rattle.fx_layout.proofs.One.{of_its_parent}
 
 or_parts : (a b : Bool) → (a || b) ≡ false → (a ≡ false) × (b ≡ false)
@@ -274,3 +276,23 @@ added_in nodes children across down rects are hung placed p within i d few =
     placed.placed j there
     ∙ ap (λ (o : Option ℕ). shifted (around rects o) (span_at across j) (span_at down j))
     (sym (get_or-map (λ (n : BoxFacts). n.parent) nodes j no_node None there) ∙ child.up)
+
+-- what was swept fits together with rectangles that are added up of it
+pub whole_of : (old : Kept) (nodes : List BoxFacts) (looks : List Look) (window : Option (ℕ × ℕ)) (listed : List ℕ)
+    (widths heights : List Extent) (across down : List Span) (marks : List Bool) (rects : List Rect) → AreNodes nodes
+    → AreDifferent (keys nodes) → AreSwept old nodes looks window listed widths heights across down marks
+    → AreRects nodes across down rects → IsWhole (kept_of nodes widths heights across down rects)
+whole_of old nodes looks window listed widths heights across down marks rects are different swept added =
+    record {
+      keys = different;
+      widths = swept.each_width ∙ long;
+      heights = swept.each_height ∙ long;
+      across = swept.each_across ∙ long;
+      down = swept.each_down ∙ long;
+      rects = added.each ∙ long;
+      added = λ p within. added_in nodes (children_lists (parents nodes)) across down rects are refl added p
+          (omega (arith, within, long));
+    }
+  where
+    long : length nodes ≡ length (children_lists (parents nodes))
+    long = sym (lists_long nodes (children_lists (parents nodes)) refl)

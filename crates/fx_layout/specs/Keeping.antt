@@ -1,12 +1,14 @@
 -- How what is kept of a scene fits together, and rectangles that are added up again.
 -- Cited by the invariant of `Layouts` and by src/rects.rt.
-use Rattle.std.specs.Prelude.{◌≡◌, ℕ, ◌<◌, List, All, length}
+use Rattle.std.specs.Prelude.{◌≡◌, ℕ, ◌<◌, Bool, false, List, All, length, Option}
 use Rattle.fx_base.specs.declared.geometry.Rect.{Rect}
 use Rattle.fx_kinds.specs.declared.facts.BoxFacts.{BoxFacts}
+use Rattle.fx_look.specs.declared.looks.Look.{Look}
 use Rattle.fx_panes_parts.specs.declared.axes.Extent.{Extent}
 use Rattle.fx_panes_parts.specs.declared.axes.Span.{Span}
+use Rattle.fx_layout_sweeps.specs.Marks.{flag_in}
 use Rattle.fx_layout_sweeps.specs.Nodes.{children_lists, keys, parents, places_at, span_at}
-use Rattle.fx_layout.specs.Updates.{AreDifferent, Kept, rect_at, shifted}
+use Rattle.fx_layout.specs.Updates.{AreDifferent, AreRects, IsUpdate, Kept, rect_at, shifted}
 
 -- the children of a place stand in this rectangle where their spans say
 abbrev pub AreAdded : List (List ℕ) → List Span → List Span → List Rect → Rect → ℕ → Type 0
@@ -40,3 +42,17 @@ kept_of nodes widths heights across down rects = record {
 -- two rectangles begin at one place
 abbrev pub BeginAlike : Rect → Rect → Type 0
 BeginAlike one other = (one.x ≡ other.x) × (one.y ≡ other.y)
+
+-- What the sweeps of an update made of the nodes of the last one: it is an update with any rectangles that are added up
+-- of it, and the children of each node that isn't marked stand in the last rectangles where their spans say.
+pub record AreSwept (old : Kept) (nodes : List BoxFacts) (looks : List Look) (window : Option (ℕ × ℕ))
+    (listed : List ℕ) (widths heights : List Extent) (across down : List Span) (marks : List Bool) : Type 0 where
+  pub each_width : length widths ≡ length nodes
+  pub each_height : length heights ≡ length nodes
+  pub each_across : length across ≡ length nodes
+  pub each_down : length down ≡ length nodes
+  pub each_mark : length marks ≡ length nodes
+  pub update : (rects : List Rect) → AreRects nodes across down rects
+      → IsUpdate old nodes looks window listed (kept_of nodes widths heights across down rects)
+  pub quiet : (p : ℕ) → p < length nodes → flag_in marks p ≡ false
+      → AreAdded (children_lists (parents nodes)) across down old.rects (rect_at old.rects p) p

@@ -5,6 +5,7 @@ ghost use Rattle.fx_layout_sweeps.specs.Nodes.{AreNodes, children_lists, extent_
 ghost use Rattle.fx_layout_sweeps.specs.Sweeps.{AreMeasured, ArePlaced, is_worked, kept_here, kept_in, last_in, tally};
 ghost use Rattle.fx_layout.specs.Updates.{from_corner, heights_along, lengths_in, root_length, widths_along};
 
+use crate::copies::copied;
 use crate::lengths::{heights_along, kept_lengths, root_length, spans_from, widths_along};
 use fx_base::{Ledgers, Work};
 use fx_kinds::BoxFacts;
@@ -157,7 +158,7 @@ pub(crate) fn lay_again<L: Ledgers>(
           + tally (flag_in marks.new) (length scene.entry.nodes.now));
     }) }
 {
-    let mut lengths = Vec::from_slice(alloc, sweep.old_lengths)?;
+    let mut lengths = copied(alloc, sweep.old_lengths)?;
     let measuring = Measuring {
         axis: sweep.axis,
         nodes: scene.nodes,
@@ -169,7 +170,7 @@ pub(crate) fn lay_again<L: Ledgers>(
     };
     measure_nodes(alloc, measuring, &mut lengths, work)?;
     let room = root_length(sweep.root, extent_at(lengths.as_slice(), 0));
-    let mut spans = Vec::from_slice(alloc, sweep.old_spans)?;
+    let mut spans = copied(alloc, sweep.old_spans)?;
     let root = Span {
         start: 0,
         length: u64::from(room),

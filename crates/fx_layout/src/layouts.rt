@@ -2,7 +2,7 @@
 ghost use Rattle.std.specs.Prelude.{ℕ, ◌≡◌, ◌≤◌, ◌<◌, ◌+◌, [], IfOk, OnErr, OnOk, length};
 ghost use Rattle.fx_layout_sweeps.specs.Nodes.{AreNodes, children_lists, extent_at, keys, parents};
 ghost use Rattle.fx_panes_parts.specs.declared.axes.Axis.TheVariants.{Across, Down};
-ghost use Rattle.fx_layout.specs.Keeping.{IsWhole, kept_of};
+ghost use Rattle.fx_layout.specs.Keeping.{AreSwept, IsWhole, kept_of};
 ghost use Rattle.fx_layout.specs.Updates.{AreDifferent, IsUpdate, laid_bound, resized, root_length, root_size, window_height, window_width};
 
 use crate::along::{Along, Moved, Scene, Sweep, lay_again, lay_moved};
@@ -12,7 +12,7 @@ use crate::rects::{Halves, add_again, rects_of};
 use crate::trees::{Tree, fresh_tree, tree_in};
 use fx_base::{Ledgers, NodeKey, Rect, Work};
 use fx_kinds::BoxFacts;
-use fx_layout_sweeps::extent_at;
+use fx_layout_sweeps::{Marks, extent_at};
 use fx_look::Look;
 use fx_panes_parts::Axis;
 use std::alloc::{AllocError, Global};
@@ -57,6 +57,14 @@ impl Model for Layouts {
       down = l.down.spans.items;
       rects = l.rects.items;
     }) };
+}
+
+/// What the sweeps of an update make, and marks of the nodes whose children they placed anew.
+#[derive(Drop)]
+struct Swept {
+    across: Along,
+    down: Along,
+    marks: Marks,
 }
 
 /// What an update makes anew, beside the keys and the tree.
@@ -169,11 +177,25 @@ impl Layouts {
         ensures cost { OnOk result (work.new.laid ≤ work.old.laid
             + laid_bound (length input.entry.remeasure.now) (resized self.old input.entry.nodes.now self.new)) }
     {
-        let laid = self.laid_again(alloc, input, work)?;
-        let size = laid.size(input.window);
-        self.across = laid.across;
-        self.down = laid.down;
-        self.rects = laid.rects;
+        let swept = self.swept_again(alloc, input, work)?;
+        let size = size_of(input.window, &swept.across, &swept.down);
+        let Swept {
+            across,
+            down,
+            mut marks,
+        } = swept;
+        let scene = Scene {
+            nodes: input.nodes,
+            looks: input.looks,
+            children: self.tree.children(),
+        };
+        let halves = Halves {
+            across: across.spans.as_slice(),
+            down: down.spans.as_slice(),
+        };
+        add_again(scene, halves, &mut marks, &mut self.rects);
+        self.across = across;
+        self.down = down;
         Ok(size)
     }
 
@@ -199,7 +221,7 @@ impl Layouts {
         let fresh = fresh_tree(alloc, &self.tree, input.nodes)?;
         let keys = keys_of(alloc, input.nodes)?;
         let laid = self.laid_moved(alloc, input, tree_in(&fresh, &self.tree), work)?;
-        let size = laid.size(input.window);
+        let size = size_of(input.window, &laid.across, &laid.down);
         let Layouts { tree, .. } = mem::replace(self, Layouts::new(alloc));
         *self = laid.over(keys, fresh.unwrap_or(tree));
         Ok(size)
@@ -243,29 +265,27 @@ impl Layouts {
         }
     }
 
-    /// What an update makes over the nodes of the last one.
-    fn laid_again<L: Ledgers>(
+    /// What the sweeps of an update make over the nodes of the last one.
+    fn swept_again<L: Ledgers>(
         &self,
         alloc: Global,
         input: Input<'_>,
         work: &mut Work<L>,
-    ) -> Result<Laid, AllocError>
+    ) -> Result<Swept, AllocError>
         requires some { 0 < length input.nodes.now }
         requires nodes { AreNodes input.nodes.now }
         requires keys { AreDifferent (keys input.nodes.now) }
         requires looks { length input.looks.now ≡ length input.nodes.now }
         requires same_keys { self.now.keys ≡ keys input.nodes.now }
         requires same_children { self.now.children ≡ children_lists (parents input.nodes.now) }
-        ensures update { IfOk result (λ made. IsUpdate self.now input.entry.nodes.now input.entry.looks.now
-            input.entry.window input.entry.remeasure.now (kept_of input.entry.nodes.now made.across.lengths.items
-            made.down.lengths.items made.across.spans.items made.down.spans.items made.rects.items)) }
-        ensures whole { IfOk result (λ made. IsWhole (kept_of input.entry.nodes.now made.across.lengths.items
-            made.down.lengths.items made.across.spans.items made.down.spans.items made.rects.items)) }
+        ensures swept { IfOk result (λ made. AreSwept self.now input.entry.nodes.now input.entry.looks.now
+            input.entry.window input.entry.remeasure.now made.across.lengths.items made.down.lengths.items
+            made.across.spans.items made.down.spans.items made.marks) }
         ensures others { OnOk result (work.new ≡ record work.old { laid = work.new.laid }) }
         ensures cost { IfOk result (λ made. work.new.laid ≤ work.old.laid
             + laid_bound (length input.entry.remeasure.now) (resized self.now input.entry.nodes.now
             (kept_of input.entry.nodes.now made.across.lengths.items made.down.lengths.items
-            made.across.spans.items made.down.spans.items made.rects.items))) }
+            made.across.spans.items made.down.spans.items []))) }
     {
         let scene = Scene {
             nodes: input.nodes,
@@ -277,16 +297,10 @@ impl Layouts {
         let across = lay_again(alloc, scene, wide, &mut marks, work)?;
         let high = self.sweep_down(input.window, &across);
         let down = lay_again(alloc, scene, high, &mut marks, work)?;
-        let halves = Halves {
-            across: across.spans.as_slice(),
-            down: down.spans.as_slice(),
-        };
-        let mut rects = Vec::from_slice(alloc, self.rects.as_slice())?;
-        add_again(scene, halves, &mut marks, &mut rects);
-        Ok(Laid {
+        Ok(Swept {
             across,
             down,
-            rects,
+            marks,
         })
     }
 
@@ -340,25 +354,6 @@ impl Layouts {
 }
 
 impl Laid {
-    /// The size of the root in the window.
-    fn size(&self, window: Option<(u32, u32)>) -> (u32, u32)
-        ensures { result ≡ (
-          root_length (window_width window) (extent_at self.now.across.lengths.items 0),
-          root_length (window_height window) (extent_at self.now.down.lengths.items 0),
-        ) }
-    {
-        (
-            root_length(
-                window_width(window),
-                extent_at(self.across.lengths.as_slice(), 0),
-            ),
-            root_length(
-                window_height(window),
-                extent_at(self.down.lengths.as_slice(), 0),
-            ),
-        )
-    }
-
     /// What is kept then, with these keys and this tree.
     fn over(self, keys: Vec<NodeKey>, tree: Tree) -> Layouts
         requires { IsWhole (record {
@@ -388,4 +383,20 @@ impl Laid {
             rects: self.rects,
         }
     }
+}
+
+/// The size of the root in the window, of what is laid along both axes.
+fn size_of(window: Option<(u32, u32)>, across: &Along, down: &Along) -> (u32, u32)
+    ensures { result ≡ (
+      root_length (window_width window) (extent_at across.now.lengths.items 0),
+      root_length (window_height window) (extent_at down.now.lengths.items 0),
+    ) }
+{
+    (
+        root_length(
+            window_width(window),
+            extent_at(across.lengths.as_slice(), 0),
+        ),
+        root_length(window_height(window), extent_at(down.lengths.as_slice(), 0)),
+    )
 }

@@ -3,6 +3,7 @@
 #![tactic(auto)]
 
 mod along;
+mod copies;
 mod keys;
 mod laws;
 mod layouts;

@@ -1,6 +1,6 @@
 //! Bounds of what is drawn, by their four edges (JavaFX `Bounds`). Edges are exact: no sum of two numbers of a shape
 //! is past their end.
-ghost use Rattle.std.specs.Prelude.{◌≡◌, ◌+ℤ◌, ◌↔◌, IsTrue};
+ghost use Rattle.std.specs.Prelude.{◌≡◌, ◌+ℤ◌};
 ghost use Rattle.std.specs.Int.{int_max, int_min};
 ghost use Rattle.fx_picture.specs.Bounds.{are_same, bounds_of, hull, is_empty, join, meet};
 
@@ -97,11 +97,4 @@ fn lesser(a: i128, b: i128) -> i128
     ensures { result ≡ int_min a b }
 {
     a.min(b)
-}
-
-/// Whether two rectangles are one.
-pub(crate) fn same_rect(one: Rect, other: Rect) -> bool
-    ensures { IsTrue result ↔ (one ≡ other) }
-{
-    one == other
 }

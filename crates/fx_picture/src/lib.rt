@@ -5,6 +5,7 @@
 
 mod edges;
 mod entries;
+mod sameness;
 mod shapes;
 
 pub use edges::{Bounds, bounds_of, is_empty, joined, meeting, same_bounds};

@@ -3,7 +3,8 @@ ghost use Rattle.std.specs.Prelude.{◌≡◌, ◌+ℤ◌, ◌*◌, ◌≤◌, �
 ghost use Rattle.fx_cells.specs.Columns.{cells_of};
 ghost use Rattle.fx_picture.specs.Shapes.{bounds, cells_bounds, color_of, whole};
 
-use crate::edges::{Bounds, bounds_of, meeting, same_rect};
+use crate::edges::{Bounds, bounds_of, meeting};
+use crate::sameness::{same_color, same_rect, same_text};
 use fx_base::{Color, Duplicate, Rect, Same, Text};
 use fx_cells::cells;
 use std::alloc::{AllocError, Global};
@@ -64,6 +65,7 @@ impl Duplicate for Shape {
 }
 
 impl Same for Shape {
+    #[inline(always)]
     fn is_same(&self, other: &Self) -> bool {
         match (self, other) {
             (
@@ -72,7 +74,7 @@ impl Same for Shape {
                     rect: other_rect,
                     color: other_color,
                 },
-            ) => *color == *other_color && same_rect(*rect, *other_rect),
+            ) => same_color(*color, *other_color) && same_rect(*rect, *other_rect),
             (
                 Shape::Letters {
                     x,
@@ -94,9 +96,9 @@ impl Same for Shape {
                 *x == *other_x
                     && *y == *other_y
                     && *scale == *other_scale
-                    && *color == *other_color
+                    && same_color(*color, *other_color)
                     && same_rect(*clip, *other_clip)
-                    && text.equals(other_text.as_str())
+                    && same_text(text.as_str(), other_text.as_str())
             }
             _ => false,
         }

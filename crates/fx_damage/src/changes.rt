@@ -1,10 +1,10 @@
 //! The entries of nodes that may have changed: those that don't have one place in both pictures, or don't stay there.
-ghost use Rattle.std.specs.Prelude.{◌≡◌, ◌++◌, OnOk, Some, nat_eq};
+ghost use Rattle.std.specs.Prelude.{◌≡◌, ◌++◌, ◌∷◌, ◌↔◌, [], IsTrue, OnOk, Some, length, nat_eq};
 ghost use Rattle.std.specs.Cmp.Lexicographic.{pointwise};
 ghost use Rattle.fx_damage.specs.Changes.{changed_nows, changed_olds, if_changed, is_kept, lent};
 ghost use Rattle.fx_damage.specs.Damage.{stays};
 
-use fx_base::Same;
+use fx_base::{List, Same};
 use fx_picture::Entry;
 use std::alloc::AllocError;
 
@@ -28,6 +28,7 @@ pub(crate) fn add_changed<'a>(
 }
 
 /// Adds what stands at one place in both pictures, unless it is one node that stays.
+#[inline(always)]
 pub(crate) fn add_if_changed<'a>(
     olds: &mut Vec<&'a Entry>,
     nows: &mut Vec<&'a Entry>,
@@ -40,6 +41,20 @@ pub(crate) fn add_if_changed<'a>(
     if is_kept(old, now) {
         return Ok(());
     }
+    add_both(olds, nows, old, now)
+}
+
+/// Adds both entries. It stands apart, since few of many nodes change.
+#[inline(never)]
+fn add_both<'a>(
+    olds: &mut Vec<&'a Entry>,
+    nows: &mut Vec<&'a Entry>,
+    old: &'a Entry,
+    now: &'a Entry,
+) -> Result<(), AllocError>
+    ensures olds { OnOk result (lent olds.new.items ≡ lent olds.old.items ++ (old.now ∷ [])) }
+    ensures nows { OnOk result (lent nows.new.items ≡ lent nows.old.items ++ (now.now ∷ [])) }
+{
     olds.push(old)?;
     nows.push(now)?;
     Ok(())
@@ -54,6 +69,7 @@ fn add_all<'a>(all: &mut Vec<&'a Entry>, entries: &'a [Entry]) -> Result<(), All
     Ok(())
 }
 
+#[inline(always)]
 fn is_kept(old: &Entry, now: &Entry) -> bool
     ensures { result ≡ is_kept old.now now.now }
 {
@@ -61,14 +77,46 @@ fn is_kept(old: &Entry, now: &Entry) -> bool
 }
 
 /// Whether a node that shows in both pictures has the same path and the same shapes.
+#[inline(always)]
 pub(crate) fn stays(old: &Entry, now: &Entry) -> bool
     ensures { result ≡ stays (Some old.now) (Some now.now) }
 {
-    has_path(old, now) && old.shapes.is_same(&now.shapes)
+    has_path(old, now) && same_lists(&old.shapes, &now.shapes)
 }
 
+#[inline(always)]
 fn has_path(old: &Entry, now: &Entry) -> bool
     ensures { result ≡ pointwise nat_eq old.now.path now.now.path }
 {
-    old.path.is_same(&now.path)
+    same_lists(&old.path, &now.path)
+}
+
+/// Whether two lists have the same items, as `List::is_same` tells, but without a call.
+#[inline(always)]
+fn same_lists<T: Same>(list: &List<T>, other: &List<T>) -> bool
+    ensures { IsTrue result ↔ (list.now ≡ other.now) }
+{
+    all_same(list.as_slice(), other.as_slice())
+}
+
+/// Whether the items are the same, one by one, and as many.
+#[inline(always)]
+fn all_same<T: Same>(items: &[T], others: &[T]) -> bool
+    ensures { IsTrue result ↔ (items.now ≡ others.now) }
+{
+    items.len() == others.len() && pairs_are_same(items, others)
+}
+
+/// Whether the items that stand at one place are the same.
+#[inline(always)]
+fn pairs_are_same<T: Same>(items: &[T], others: &[T]) -> bool
+    requires { length items.now ≡ length others.now }
+    ensures { IsTrue result ↔ (items.now ≡ others.now) }
+{
+    for at in 0..items.len() {
+        if !items[at].is_same(&others[at]) {
+            return false;
+        }
+    }
+    true
 }

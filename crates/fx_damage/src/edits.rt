@@ -49,7 +49,8 @@ fn edited_boxes(
     requires edits { AreEdits edits.now (length olds.now) }
     requires old { HasDistinctBirths olds.now }
     requires new { HasDistinctBirths (edited edits.now olds.now) }
-    ensures { IfOk result (λ boxes. boxes.items ≡ cut_to window (changed_boxes olds.now (edited edits.now olds.now))) }
+    ensures { IfOk result (λ boxes. boxes.items
+        ≡ cut_to window (changed_boxes olds.now (edited edits.now olds.now))) }
 {
     let mut changed_olds = Vec::new(alloc);
     let mut changed_nows = Vec::new(alloc);

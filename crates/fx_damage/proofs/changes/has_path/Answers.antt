@@ -8,5 +8,5 @@ pub returns : goal.returns
 returns c =
     let old = c.args.old.now.path in
     let now = c.args.now.now.path in
-    same_from_decides c.is_same.result (pointwise nat_eq old now) c.is_same.ensures
+    same_from_decides c.same_lists.result (pointwise nat_eq old now) c.same_lists.ensures
     (slice_eq-Decides Decides-eqb old now (pointwise nat_eq old now) refl)

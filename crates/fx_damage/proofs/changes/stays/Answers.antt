@@ -10,4 +10,4 @@ returns-then-has_path c =
     let old = c.args.old.now in
     let now = c.args.now.now in
     let path : pointwise nat_eq old.path now.path ≡ true = sym c.has_path.ensures ∙ c.if-has_path.true in
-    rw path (same_from_decides c.is_same.result (pointwise is_same_shape old.shapes now.shapes) c.is_same.ensures (Decides-shapes old.shapes now.shapes))
+    rw path (same_from_decides c.same_lists.result (pointwise is_same_shape old.shapes now.shapes) c.same_lists.ensures (Decides-shapes old.shapes now.shapes))

@@ -1,5 +1,5 @@
 //! The entries of nodes that may have changed: those that don't have one place in both pictures, or don't stay there.
-ghost use Rattle.std.specs.Prelude.{◌≡◌, ◌++◌, ◌∷◌, ◌↔◌, [], IsTrue, OnOk, Some, length, nat_eq};
+ghost use Rattle.std.specs.Prelude.{◌≡◌, ◌≤◌, ◌++◌, ◌↔◌, IsTrue, OnOk, Some, drop, length, nat_eq};
 ghost use Rattle.std.specs.Cmp.Lexicographic.{pointwise};
 ghost use Rattle.fx_damage.specs.Changes.{changed_nows, changed_olds, if_changed, is_kept, lent};
 ghost use Rattle.fx_damage.specs.Damage.{stays};
@@ -19,16 +19,38 @@ pub(crate) fn add_changed<'a>(
     ensures nows { OnOk result (lent nows.new.items ≡ lent nows.old.items ++ changed_nows before.now after.now) }
 {
     let both = before.len().min(after.len());
-    for place in 0..both {
+    let mut place = next_changed(before, after, 0);
+    while place < both {
         add_if_changed(olds, nows, &before[place], &after[place])?;
+        place = next_changed(before, after, place + 1);
     }
     add_all(olds, &before[both..])?;
     add_all(nows, &after[both..])?;
     Ok(())
 }
 
+/// The first place from here on at which the pictures don't have one node that stays, or the end of one of them.
+fn next_changed(before: &[Entry], after: &[Entry], from: usize) -> usize
+    requires before { from ≤ length before.now }
+    requires after { from ≤ length after.now }
+    ensures least { from ≤ result }
+    ensures before { result ≤ length before.now }
+    ensures after { result ≤ length after.now }
+    ensures olds { changed_olds (drop result before.now) (drop result after.now)
+        ≡ changed_olds (drop from before.now) (drop from after.now) }
+    ensures nows { changed_nows (drop result before.now) (drop result after.now)
+        ≡ changed_nows (drop from before.now) (drop from after.now) }
+{
+    let both = before.len().min(after.len());
+    for place in from..both {
+        if !is_kept(&before[place], &after[place]) {
+            return place;
+        }
+    }
+    both
+}
+
 /// Adds what stands at one place in both pictures, unless it is one node that stays.
-#[inline(always)]
 pub(crate) fn add_if_changed<'a>(
     olds: &mut Vec<&'a Entry>,
     nows: &mut Vec<&'a Entry>,
@@ -41,20 +63,6 @@ pub(crate) fn add_if_changed<'a>(
     if is_kept(old, now) {
         return Ok(());
     }
-    add_both(olds, nows, old, now)
-}
-
-/// Adds both entries. It stands apart, since few of many nodes change.
-#[inline(never)]
-fn add_both<'a>(
-    olds: &mut Vec<&'a Entry>,
-    nows: &mut Vec<&'a Entry>,
-    old: &'a Entry,
-    now: &'a Entry,
-) -> Result<(), AllocError>
-    ensures olds { OnOk result (lent olds.new.items ≡ lent olds.old.items ++ (old.now ∷ [])) }
-    ensures nows { OnOk result (lent nows.new.items ≡ lent nows.old.items ++ (now.now ∷ [])) }
-{
     olds.push(old)?;
     nows.push(now)?;
     Ok(())

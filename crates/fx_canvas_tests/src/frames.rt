@@ -149,6 +149,32 @@ fn paints_each_once<L: Ledgers, R: Abort + AllocGlobal>(
     Ok(())
 }
 
+/// A half opaque red over white, as the three bytes that a picture file has for the pixel.
+fn paints_the_bytes_of_a_file<L: Ledgers, R: Abort + AllocGlobal>(
+    rt: &R,
+    work: &mut Work<L>,
+) -> Result<(), Fail> {
+    let alloc = rt.alloc();
+    let mut canvas = Canvas::new(alloc, 1, 1)?;
+    let picture = single(alloc, fill(rect(0, 1, 1), RED))?;
+    assert_eq!(rt; paint(alloc, &mut canvas, None, &picture, 1, work)?, 1);
+    let bytes = bytes_of(alloc, canvas.row(0))?;
+    assert_eq!(rt; bytes.as_slice(), b"\xff\x7f\x7f".as_slice());
+    Ok(())
+}
+
+/// Red, green and blue of each pixel.
+fn bytes_of(alloc: Global, pixels: &[u32]) -> Result<Vec<u8>, AllocError> {
+    let mut bytes = Vec::new(alloc);
+    for pixel in pixels {
+        let [_, red, green, blue] = pixel.to_be_bytes();
+        bytes.push(red)?;
+        bytes.push(green)?;
+        bytes.push(blue)?;
+    }
+    Ok(bytes)
+}
+
 /// A region that gets its width only in the second frame, and stays as it is in the third.
 fn paints_what_changed<L: Ledgers, R: Abort + AllocGlobal>(
     rt: &R,
@@ -224,6 +250,7 @@ fn paint_all<L: Ledgers, R: Abort + AllocGlobal>(
 {
     let mut work: Work<L> = Work::new(evaluated, styled, laid, painted);
     paints_each_once(rt, &mut work)?;
+    paints_the_bytes_of_a_file(rt, &mut work)?;
     paints_what_changed(rt, &mut work)?;
     paints_letters(rt, &mut work)
 }

@@ -1,5 +1,5 @@
 -- Updates of nodes that stand in the list where they stood.
-use Rattle.std.proofs.Common.{refl, sym, subst, ap, ◌∙◌, ◌≡◌, ◌⊎◌, ℕ, zero, suc, ◌<◌, Bool, true, false, ◌||◌, not, nat_eq, All, List, [], Option, length, map, slice_index_or, slice_set, inl, inr, arith}
+use Rattle.std.proofs.Common.{refl, sym, subst, ap, ◌∙◌, ◌≡◌, ◌⊎◌, ℕ, zero, suc, ◌<◌, Bool, true, false, MatchBool, ◌||◌, not, nat_eq, All, List, [], Option, length, map, slice_index_or, slice_set, inl, inr, arith}
 use Rattle.std.proofs.lemmas.Bool.{true≢false}
 use Rattle.std.proofs.lemmas.List.{get_or-map, get_or-set_other, length-map}
 use Rattle.fx_base.specs.declared.keys.NodeKey.{NodeKey}
@@ -10,8 +10,8 @@ use Rattle.fx_panes_parts.specs.declared.axes.Axis.TheVariants.{Across, Down}
 use Rattle.fx_panes_parts.specs.declared.axes.Extent.{Extent}
 use Rattle.fx_panes_parts.specs.declared.axes.Span.{Span}
 use Rattle.fx_layout_sweeps.specs.Marks.{flag_in}
-use Rattle.fx_layout_sweeps.specs.Nodes.{AreNodes, children_lists, extent_at, keys, no_node, nowhere, parents, places_at, node_at, span_at}
-use Rattle.fx_layout_sweeps.specs.Sweeps.{AreMeasured, ArePlaced, fitted, is_worked, kept_here, kept_in, last_in, old_at, spans_for}
+use Rattle.fx_layout_sweeps.specs.Nodes.{AreNodes, box_at, children_lists, extent_at, keys, no_node, nowhere, parents, places_at, node_at, span_at}
+use Rattle.fx_layout_sweeps.specs.Sweeps.{AreMeasured, ArePlaced, IsMeasured, fitted, is_worked, kept_here, kept_in, last_in, old_at, seen_along, spans_for}
 use Rattle.fx_layout_sweeps.proofs.Asking.{lists_behind}
 use Rattle.fx_layout_sweeps.proofs.Respreads.{fitted_all, worked_then}
 use Rattle.fx_layout_sweeps.proofs.Turns.{map_same}
@@ -149,3 +149,36 @@ quiet old nodes looks window listed new first second third laid p within added f
     added i d few
     ∙ (ap (λ (s : Span). shifted (rect_at old.rects p) s (span_at old.down j)) (sym across)
     ∙ ap (λ (s : Span). shifted (rect_at old.rects p) (span_at new.across j) s) (sym down))
+
+-- the lengths of a node that isn't listed are those that were kept
+kept_length : (axis : Axis) (nodes : List BoxFacts) (looks : List Look) (children : List (List ℕ)) (flags : List Bool)
+    (widths : List Extent) (spans : List Span) (old new : List Extent)
+    → AreMeasured axis nodes looks children (flag_in flags) widths spans (extent_at old) new → (p : ℕ)
+    → p < length nodes → flag_in flags p ≡ false → extent_at old p ≡ extent_at new p
+kept_length axis nodes looks children flags widths spans old new measured p within free =
+    sym (subst (λ b. MatchBool b
+    (IsMeasured axis (box_at nodes looks p)
+    (seen_along axis (box_at nodes looks p).rule nodes widths new (places_at children p)) (span_at spans p).length
+    (extent_at new p))
+    (extent_at new p ≡ extent_at old p)) free (measured p within))
+
+-- what stays of a node that isn't marked in the end
+pub still_of : (old : Kept) (nodes : List BoxFacts) (looks : List Look) (window : Option (ℕ × ℕ)) (listed : List ℕ)
+    (new : Kept) (first second third : List Bool) → AreLaidAgain old nodes looks window listed new first second third
+    → (p : ℕ) → p < length nodes → flag_in third p ≡ false
+    → (extent_at old.widths p ≡ extent_at new.widths p) × (extent_at old.heights p ≡ extent_at new.heights p)
+    × All (λ j. span_at old.across j ≡ span_at new.across j) (places_at new.children p)
+    × All (λ j. span_at old.down j ≡ span_at new.down j) (places_at new.children p)
+still_of old nodes looks window listed new first second third laid p within free =
+    let low = sym (laid.done p within) ∙ free in
+    let idle = or_false (flag_in second p) _ low in
+    let narrow = sym (laid.anew p within) ∙ idle in
+    let quiet = or_false (flag_in first p) _ narrow in (
+      kept_length Across nodes looks new.children first [] [] old.widths new.widths laid.widths p within quiet,
+      kept_length Down nodes looks new.children second new.widths new.across old.heights new.heights laid.heights p within
+          idle,
+      λ i d few. sym (stay Across nodes looks new.children first new.widths [] old.across new.across laid.across p within
+          narrow i d few),
+      λ i d few. sym (stay Down nodes looks new.children second new.widths new.heights old.down new.down laid.down p within
+          low i d few),
+    )

@@ -9,3 +9,4 @@ pub mod Readds
 pub mod Updating
 pub mod Fitting
 pub mod Over
+pub mod Catching

@@ -7,7 +7,7 @@ use Rattle.fx_look.specs.declared.looks.Look.{Look}
 use Rattle.fx_panes_parts.specs.declared.axes.Extent.{Extent}
 use Rattle.fx_panes_parts.specs.declared.axes.Span.{Span}
 use Rattle.fx_layout_sweeps.specs.Marks.{flag_in}
-use Rattle.fx_layout_sweeps.specs.Nodes.{children_lists, keys, parents, places_at, span_at}
+use Rattle.fx_layout_sweeps.specs.Nodes.{children_lists, extent_at, keys, parents, places_at, span_at}
 use Rattle.fx_layout.specs.Updates.{AreDifferent, AreRects, IsUpdate, Kept, rect_at, shifted}
 
 -- the children of a place stand in this rectangle where their spans say
@@ -44,7 +44,8 @@ abbrev pub BeginAlike : Rect → Rect → Type 0
 BeginAlike one other = (one.x ≡ other.x) × (one.y ≡ other.y)
 
 -- What the sweeps of an update made of the nodes of the last one: it is an update with any rectangles that are added up
--- of it, and the children of each node that isn't marked stand in the last rectangles where their spans say.
+-- of it, of each node that isn't marked the lengths and the places of the children are those that were kept, and its
+-- children stand in the last rectangles where their spans say.
 pub record AreSwept (old : Kept) (nodes : List BoxFacts) (looks : List Look) (window : Option (ℕ × ℕ))
     (listed : List ℕ) (widths heights : List Extent) (across down : List Span) (marks : List Bool) : Type 0 where
   pub each_width : length widths ≡ length nodes
@@ -56,3 +57,11 @@ pub record AreSwept (old : Kept) (nodes : List BoxFacts) (looks : List Look) (wi
       → IsUpdate old nodes looks window listed (kept_of nodes widths heights across down rects)
   pub quiet : (p : ℕ) → p < length nodes → flag_in marks p ≡ false
       → AreAdded (children_lists (parents nodes)) across down old.rects (rect_at old.rects p) p
+  pub still_width : (p : ℕ) → p < length nodes → flag_in marks p ≡ false
+      → extent_at old.widths p ≡ extent_at widths p
+  pub still_height : (p : ℕ) → p < length nodes → flag_in marks p ≡ false
+      → extent_at old.heights p ≡ extent_at heights p
+  pub still_across : (p : ℕ) → p < length nodes → flag_in marks p ≡ false
+      → All (λ j. span_at old.across j ≡ span_at across j) (places_at (children_lists (parents nodes)) p)
+  pub still_down : (p : ℕ) → p < length nodes → flag_in marks p ≡ false
+      → All (λ j. span_at old.down j ≡ span_at down j) (places_at (children_lists (parents nodes)) p)

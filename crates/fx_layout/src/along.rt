@@ -5,7 +5,6 @@ ghost use Rattle.fx_layout_sweeps.specs.Nodes.{AreNodes, children_lists, extent_
 ghost use Rattle.fx_layout_sweeps.specs.Sweeps.{AreMeasured, ArePlaced, is_worked, kept_here, kept_in, last_in, tally};
 ghost use Rattle.fx_layout.specs.Updates.{from_corner, heights_along, lengths_in, root_length, widths_along};
 
-use crate::copies::copied;
 use crate::lengths::{heights_along, kept_lengths, root_length, spans_from, widths_along};
 use fx_base::{Ledgers, Work};
 use fx_kinds::BoxFacts;
@@ -122,11 +121,12 @@ pub(crate) fn lay_moved<L: Ledgers>(
 }
 
 /// Lengths and places along one axis of nodes that stand where they stood: only nodes that are marked, or are longer or
-/// shorter than they were, are worked on, and these are marked then.
+/// shorter than they were, are worked on, and these are marked then. What is kept of them is worked on in place.
 pub(crate) fn lay_again<L: Ledgers>(
     alloc: Global,
     scene: Scene<'_>,
     sweep: Sweep<'_>,
+    kept: Along,
     marks: &mut Marks,
     work: &mut Work<L>,
 ) -> Result<Along, AllocError>
@@ -137,6 +137,8 @@ pub(crate) fn lay_again<L: Ledgers>(
     requires lengths { length sweep.old_lengths.now ≡ length scene.nodes.now }
     requires spans { length sweep.old_spans.now ≡ length scene.nodes.now }
     requires marks { length marks.old ≡ length scene.nodes.now }
+    requires kept_lengths { kept.lengths.items ≡ sweep.old_lengths.now }
+    requires kept_spans { kept.spans.items ≡ sweep.old_spans.now }
     ensures lengths { IfOk result (λ along. AreMeasured sweep.entry.axis scene.entry.nodes.now scene.entry.looks.now
         scene.entry.children.now (flag_in marks.old) sweep.entry.widths.now sweep.entry.spans.now
         (extent_at sweep.entry.old_lengths.now) along.lengths.items) }
@@ -158,7 +160,10 @@ pub(crate) fn lay_again<L: Ledgers>(
           + tally (flag_in marks.new) (length scene.entry.nodes.now));
     }) }
 {
-    let mut lengths = copied(alloc, sweep.old_lengths)?;
+    let Along {
+        mut lengths,
+        mut spans,
+    } = kept;
     let measuring = Measuring {
         axis: sweep.axis,
         nodes: scene.nodes,
@@ -170,7 +175,6 @@ pub(crate) fn lay_again<L: Ledgers>(
     };
     measure_nodes(alloc, measuring, &mut lengths, work)?;
     let room = root_length(sweep.root, extent_at(lengths.as_slice(), 0));
-    let mut spans = copied(alloc, sweep.old_spans)?;
     let root = Span {
         start: 0,
         length: u64::from(room),

@@ -9,6 +9,7 @@ use crate::along::{Along, Moved, Scene, Sweep, lay_again, lay_moved};
 use crate::keys::{keys_of, marks_of, old_places};
 use crate::lengths::{root_length, window_height, window_width};
 use crate::rects::{Halves, add_again, rects_of};
+use crate::spare::{Spare, catch_up, copied_spare};
 use crate::trees::{Tree, fresh_tree, tree_in};
 use fx_base::{Ledgers, NodeKey, Rect, Work};
 use fx_kinds::BoxFacts;
@@ -20,7 +21,7 @@ use std::marker::Model;
 use std::mem;
 
 /// Where each node of the last update stands, and what the next one needs of it: the keys of the nodes, their
-/// children, and their lengths and places along both axes.
+/// children, and their lengths and places along both axes, of which there may be a second copy to work in.
 #[derive(Drop)]
 pub struct Layouts {
     keys: Vec<NodeKey>,
@@ -28,9 +29,11 @@ pub struct Layouts {
     across: Along,
     down: Along,
     rects: Vec<Rect>,
+    spare: Option<Spare>,
 }
 
 impl Model for Layouts {
+    ghost use Rattle.std.specs.Prelude.{◌≡◌, IfSome};
     ghost use Rattle.fx_layout_sweeps.specs.Nodes.{children_lists};
     ghost use Rattle.fx_panes_parts.specs.declared.axes.Axis.TheVariants.{Across, Down};
     ghost use Rattle.fx_layout.specs.Keeping.{IsWhole};
@@ -56,7 +59,11 @@ impl Model for Layouts {
       across = l.across.spans.items;
       down = l.down.spans.items;
       rects = l.rects.items;
-    }) };
+    })
+        × IfSome l.spare (λ s. (s.across.lengths.items ≡ l.across.lengths.items)
+        × (s.across.spans.items ≡ l.across.spans.items)
+        × (s.down.lengths.items ≡ l.down.lengths.items)
+        × (s.down.spans.items ≡ l.down.spans.items)) };
 }
 
 /// What the sweeps of an update make, and marks of the nodes whose children they placed anew.
@@ -109,6 +116,7 @@ impl Layouts {
                 spans: Vec::new(alloc),
             },
             rects: Vec::new(alloc),
+            spare: None,
         }
     }
 
@@ -177,7 +185,8 @@ impl Layouts {
         ensures cost { OnOk result (work.new.laid ≤ work.old.laid
             + laid_bound (length input.entry.remeasure.now) (resized self.old input.entry.nodes.now self.new)) }
     {
-        let swept = self.swept_again(alloc, input, work)?;
+        let spare = self.take_spare(alloc)?;
+        let swept = self.swept_again(alloc, input, spare, work)?;
         let size = size_of(input.window, &swept.across, &swept.down);
         let Swept {
             across,
@@ -193,9 +202,10 @@ impl Layouts {
             across: across.spans.as_slice(),
             down: down.spans.as_slice(),
         };
+        catch_up(scene, &marks, &across, &mut self.across);
+        catch_up(scene, &marks, &down, &mut self.down);
         add_again(scene, halves, &mut marks, &mut self.rects);
-        self.across = across;
-        self.down = down;
+        self.spare = Some(Spare { across, down });
         Ok(size)
     }
 
@@ -265,11 +275,26 @@ impl Layouts {
         }
     }
 
-    /// What the sweeps of an update make over the nodes of the last one.
+    /// The second copy, or one that is made. None is left then.
+    fn take_spare(&mut self, alloc: Global) -> Result<Spare, AllocError>
+        ensures kept { self.new ≡ self.old }
+        ensures widths { IfOk result (λ spare. spare.across.lengths.items ≡ self.old.widths) }
+        ensures across { IfOk result (λ spare. spare.across.spans.items ≡ self.old.across) }
+        ensures heights { IfOk result (λ spare. spare.down.lengths.items ≡ self.old.heights) }
+        ensures down { IfOk result (λ spare. spare.down.spans.items ≡ self.old.down) }
+    {
+        match self.spare.take() {
+            Some(spare) => Ok(spare),
+            None => copied_spare(alloc, &self.across, &self.down),
+        }
+    }
+
+    /// What the sweeps of an update make over the nodes of the last one, in a second copy of what is kept of them.
     fn swept_again<L: Ledgers>(
         &self,
         alloc: Global,
         input: Input<'_>,
+        spare: Spare,
         work: &mut Work<L>,
     ) -> Result<Swept, AllocError>
         requires some { 0 < length input.nodes.now }
@@ -278,6 +303,10 @@ impl Layouts {
         requires looks { length input.looks.now ≡ length input.nodes.now }
         requires same_keys { self.now.keys ≡ keys input.nodes.now }
         requires same_children { self.now.children ≡ children_lists (parents input.nodes.now) }
+        requires widths { spare.across.lengths.items ≡ self.now.widths }
+        requires across { spare.across.spans.items ≡ self.now.across }
+        requires heights { spare.down.lengths.items ≡ self.now.heights }
+        requires down { spare.down.spans.items ≡ self.now.down }
         ensures swept { IfOk result (λ made. AreSwept self.now input.entry.nodes.now input.entry.looks.now
             input.entry.window input.entry.remeasure.now made.across.lengths.items made.down.lengths.items
             made.across.spans.items made.down.spans.items made.marks) }
@@ -294,9 +323,9 @@ impl Layouts {
         };
         let mut marks = marks_of(alloc, input.remeasure, input.nodes.len())?;
         let wide = self.sweep_across(input.window);
-        let across = lay_again(alloc, scene, wide, &mut marks, work)?;
+        let across = lay_again(alloc, scene, wide, spare.across, &mut marks, work)?;
         let high = self.sweep_down(input.window, &across);
-        let down = lay_again(alloc, scene, high, &mut marks, work)?;
+        let down = lay_again(alloc, scene, high, spare.down, &mut marks, work)?;
         Ok(Swept {
             across,
             down,
@@ -381,6 +410,7 @@ impl Laid {
             across: self.across,
             down: self.down,
             rects: self.rects,
+            spare: None,
         }
     }
 }

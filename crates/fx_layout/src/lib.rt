@@ -10,6 +10,7 @@ mod layouts;
 mod lengths;
 mod nodes;
 mod rects;
+mod spare;
 mod trees;
 
 pub use laws::{anew_is_layout, one_layout, updates_agree};

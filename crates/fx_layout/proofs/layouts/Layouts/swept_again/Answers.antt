@@ -4,7 +4,7 @@ use Rattle.fx_layout_sweeps.specs.Nodes.{children_lists, parents}
 use Rattle.fx_layout_sweeps.proofs.Asking.{lists_long}
 use Rattle.fx_layout.specs.Keeping.{IsWhole, kept_of}
 use Rattle.fx_layout.specs.Updates.{Kept, old_places}
-use Rattle.fx_layout.proofs.Again.{AreLaidAgain, laid_as_moved, quiet, stands}
+use Rattle.fx_layout.proofs.Again.{AreLaidAgain, laid_as_moved, quiet, stands, still_of}
 use Rattle.fx_layout.proofs.Updating.{AreLaid, cost_is, update_is}
 use Rattle.fx_layout.proofs.layouts.Layouts.swept_again.Goals as goal
 
@@ -12,7 +12,7 @@ pub lay_again-requires-clause-lengths : goal.lay_again-requires-clause-lengths
 lay_again-requires-clause-lengths g c =
     let old = c.args.self.now in
     let nodes = c.args.input.nodes.now in
-    let whole : IsWhole old = subst IsWhole c.self.view_is c.self.invariant in
+    let whole : IsWhole old = subst IsWhole c.self.view_is c.self.invariant.0 in
     let long : length old.children ≡ length nodes = lists_long nodes old.children c.requires.same_children in
     rw (c.sweep_across-wide.ensures.old_lengths) (whole.widths ∙ long)
 
@@ -20,7 +20,7 @@ pub lay_again-requires-clause-spans : goal.lay_again-requires-clause-spans
 lay_again-requires-clause-spans g c =
     let old = c.args.self.now in
     let nodes = c.args.input.nodes.now in
-    let whole : IsWhole old = subst IsWhole c.self.view_is c.self.invariant in
+    let whole : IsWhole old = subst IsWhole c.self.view_is c.self.invariant.0 in
     let long : length old.children ≡ length nodes = lists_long nodes old.children c.requires.same_children in
     rw (c.sweep_across-wide.ensures.old_spans) (whole.across ∙ long)
 
@@ -28,7 +28,7 @@ pub lay_again-requires-2-clause-lengths : goal.lay_again-requires-2-clause-lengt
 lay_again-requires-2-clause-lengths g c =
     let old = c.args.self.now in
     let nodes = c.args.input.nodes.now in
-    let whole : IsWhole old = subst IsWhole c.self.view_is c.self.invariant in
+    let whole : IsWhole old = subst IsWhole c.self.view_is c.self.invariant.0 in
     let long : length old.children ≡ length nodes = lists_long nodes old.children c.requires.same_children in
     rw (c.sweep_down-high.ensures.old_lengths) (whole.heights ∙ long)
 
@@ -36,7 +36,7 @@ pub lay_again-requires-2-clause-spans : goal.lay_again-requires-2-clause-spans
 lay_again-requires-2-clause-spans g c =
     let old = c.args.self.now in
     let nodes = c.args.input.nodes.now in
-    let whole : IsWhole old = subst IsWhole c.self.view_is c.self.invariant in
+    let whole : IsWhole old = subst IsWhole c.self.view_is c.self.invariant.0 in
     let long : length old.children ≡ length nodes = lists_long nodes old.children c.requires.same_children in
     rw (c.sweep_down-high.ensures.old_spans) (whole.down ∙ long)
 
@@ -89,13 +89,14 @@ returns-clause-swept g c =
       ) at c.in_ok-down.ensures.placed;
       done = rw (c.sweep_down-high.ensures.old_spans) at c.in_ok-down.ensures.marks;
     } in
-    let whole : IsWhole old = subst IsWhole c.self.view_is c.self.invariant in
+    let whole : IsWhole old = subst IsWhole c.self.view_is c.self.invariant.0 in
     let long : length old.children ≡ length nodes = lists_long nodes old.children c.requires.same_children in
     let olds = old_places old.keys nodes in
     let stand = stands old.keys nodes c.requires.same_keys c.requires.keys in
     let moved : (rects : List Rect) → AreLaid old olds nodes looks window listed (new rects) first second third = λ rects.
     laid_as_moved old olds nodes looks window listed (new rects) first second third stand (sym c.requires.same_children)
     (laid rects) in
+    let still = still_of old nodes looks window listed (new []) first second third (laid []) in
     record {
       each_width = c.in_ok-across.ensures.each;
       each_height = c.in_ok-down.ensures.each;
@@ -109,6 +110,10 @@ returns-clause-swept g c =
           let there : p < length old.children = omega (arith, few, long) in
           quiet old nodes looks window listed (new []) first second third (laid []) p few
           (rw (c.requires.same_children) at (whole.added p there)) free;
+      still_width = λ p within free. (still p within free).0;
+      still_height = λ p within free. (still p within free).1;
+      still_across = λ p within free. (still p within free).2;
+      still_down = λ p within free. (still p within free).3;
     }
 
 pub returns-clause-cost : goal.returns-clause-cost

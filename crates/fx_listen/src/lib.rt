@@ -203,6 +203,13 @@ impl Listeners {
         entries::is_listening(owners, self.entries.as_slice(), number)
     }
 
+    /// The greatest number that a listener was ever given, 0 before the first.
+    pub fn given(&self) -> u32
+        ensures { result ≡ self.now.given }
+    {
+        self.given
+    }
+
     /// What is true of the table at all times.
     pub fn laws(&self)
         ensures { spec.IsSound self.now }

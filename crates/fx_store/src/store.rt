@@ -1,11 +1,11 @@
 //! The store itself: its parts, what contracts see of them, and the calls that change nothing but one part.
-ghost use Rattle.std.specs.Prelude.{ℕ, ◌≡◌, ◌≢◌, ◌≤◌, ◌+◌, ◌↔◌, ◌==◌, ◌⊎◌, [], ◌∷◌, false, true, All, Contains, Err, IfErr, IfOk, IsTrue, OnErr, OnOk, length, option_copied};
+ghost use Rattle.std.specs.Prelude.{ℕ, ◌≡◌, ◌≢◌, ◌≤◌, ◌+◌, ◌↔◌, ◌==◌, ◌⊎◌, [], ◌∷◌, false, true, All, Contains, Err, IfErr, Some, IfOk, IsTrue, OnErr, OnOk, length, option_copied};
 ghost use Rattle.std.specs.List.{list_any};
 ghost use Rattle.fx_base.specs.Printing.{kind_of};
 ghost use Rattle.fx_graph.specs.Known.{known_kind, known_value};
 ghost use Rattle.fx_graph.specs.Store.{origin_in};
 ghost use Rattle.fx_handles.specs.Living.{after_make};
-ghost use Rattle.fx_listen.specs.Listening.{IsSound, is_live};
+ghost use Rattle.fx_listen.specs.Listening.{IsSound, has_life, is_live};
 ghost use Rattle.fx_graph_model.specs.Eager.{eager};
 ghost use Rattle.fx_graph_model.specs.Refusals.{declare_refusal, read_only_in};
 ghost use Rattle.fx_graph_model.specs.Unread.{IsClosed, after_reading, evaluations, marked};
@@ -22,15 +22,14 @@ use fx_base::{Kind, Ledgers, Name, Value, Work};
 use fx_graph::Graph;
 use fx_graph_model::Origin;
 use fx_handles::{Owner, Owners};
-use fx_listen::Listeners;
+use fx_listen::{Listeners, has_life};
 use fx_store_model::{Change, Notices, StoreError};
 use fx_store_pairs::Pairs;
 use std::alloc::Global;
 use std::marker::Model;
 
 /// Properties, the pairs of those that change together, listeners and their owners. Contracts see the definitions,
-/// which
-/// properties are unread, the pairs, and the living listeners.
+/// which properties are unread, the pairs, and the living listeners.
 #[derive(Drop)]
 pub struct Store {
     pub(crate) graph: Graph,
@@ -90,8 +89,7 @@ impl Store {
     }
 
     /// Makes one change and tells of it. Where memory is wanting, it is made wholly or not at all, but some properties
-    /// may
-    /// have been read, and what it told is lost.
+    /// may have been read, and what it told is lost.
     pub fn apply<L: Ledgers>(
         &mut self,
         alloc: Global,
@@ -161,6 +159,13 @@ impl Store {
         self.owners.release(owner)
     }
 
+    /// Whether the owner is alive.
+    pub fn is_alive(&self, owner: Owner) -> bool
+        ensures { result ≡ has_life self.now.owners.living (Some owner) }
+    {
+        has_life(&self.owners, Some(owner))
+    }
+
     /// How many names were ever declared.
     pub fn count(&self) -> usize
         ensures { result ≡ length self.now.entries }
@@ -217,9 +222,17 @@ impl Store {
         self.listeners.is_listening(&self.owners, number)
     }
 
+    /// The greatest number that a listener was ever given, 0 before the first.
+    pub fn given(&self) -> u32
+        ensures { result ≡ self.now.given }
+    {
+        self.listeners.given()
+    }
+
     /// Whether memory was wanting in a change, so that a watched property may be unread.
     pub fn is_behind(&self) -> bool
-        ensures { result ≡ false → All (λ (name : ℕ). marked self.now.unread name ≡ false) (watched_names self.now) }
+        ensures { result ≡ false
+            → All (λ (name : ℕ). marked self.now.unread name ≡ false) (watched_names self.now) }
     {
         self.behind
     }

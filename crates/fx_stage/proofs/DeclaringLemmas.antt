@@ -1,34 +1,28 @@
 -- A further free property.
-use Rattle.std.proofs.Common.{◌≡◌, ◌<◌, ℕ, ℤ, Bool, true, false, cond, List, [], ◌∷◌, ◌++◌, length, Option, Some, None, Result, Ok, Err, is_some, refl, sym, ◌∙◌, ap, subst, inl, inr, nat_lt}
+use Rattle.std.proofs.Common.{◌≡◌, ◌<◌, Contains, arith, ℕ, Bool, true, false, cond, List, [], ◌∷◌, ◌++◌, length, Option, Some, None, Result, Ok, Err, is_some, refl, sym, ◌∙◌, ap, inl, inr}
 use Rattle.std.specs.Map.{lookup}
-use Rattle.std.specs.Option.{option_map}
-use Rattle.std.specs.Str.{bytes_eq, chars}
+use Rattle.std.specs.Str.{bytes_eq}
 use Rattle.std.proofs.lemmas.List.{get_or_push}
-use Rattle.fx_base.specs.Constants.{constants_of}
 use Rattle.fx_base.specs.Printing.{kind_of}
-use Rattle.fx_base.specs.declared.color.Color.{Color as Paint}
-use Rattle.fx_base.specs.declared.geometry.Sides.{Sides as Insets}
 use Rattle.fx_base.specs.declared.keys.Name.{Name}
+use Rattle.fx_base.specs.declared.keys.NodeKey.{NodeKey}
 use Rattle.fx_base.specs.declared.kinds.Kind.{Kind}
-use Rattle.fx_base.specs.declared.kinds.Kind.TheVariants as kind
 use Rattle.fx_base.specs.declared.values.Value.{Value}
-use Rattle.fx_base.specs.declared.values.Value.TheVariants as value
 use Rattle.fx_graph_model.specs.declared.entries.Entry.{Entry}
 use Rattle.fx_graph_model.specs.Uses.{is_gone, nothing, unknown_in}
 use Rattle.fx_graph_model.proofs.Changed.{entry-declared, known_within}
-use Rattle.fx_look.specs.Colors.{color_at}
-use Rattle.fx_look.specs.Insets.{sides_at}
-use Rattle.fx_look.specs.Numbers.{number_at}
-use Rattle.fx_look.specs.Readings.{place_of, truth_at, value_at}
+use Rattle.fx_look.specs.Readings.{value_at}
 use Rattle.fx_stage_types.specs.declared.answers.StageError.TheVariants.{Memory}
 use Rattle.fx_stage_types.specs.declared.refusals.Refusal.{Refusal}
 use Rattle.fx_stage_types.specs.declared.refusals.Refusal.TheVariants as word
-use Rattle.fx_stage_types.specs.Tables.{NodeTable}
+use Rattle.fx_stage_types.specs.Tables.{NodeTable, data_of}
 use Rattle.fx_stage_model.specs.Answers.{Taken, and_then, or_word, unless}
+use Rattle.fx_stage_model.specs.Looking.{properties_in}
 use Rattle.fx_stage_model.specs.Properties.{declare, declared, has_no_room, kind_named}
 use Rattle.fx_stage_model.specs.Sound.{IsSound}
 use Rattle.fx_stage_model.specs.Taking.{IsTaken}
 use Rattle.fx_stage_model.specs.World.{World}
+use Rattle.fx_stage_words.proofs.ReadLemmas.{kind_read}
 
 -- where memory is wanting before anything is made
 pub memory_first : (made : Result Taken Refusal) (world : World) → IsTaken made world world (Err Memory)
@@ -70,6 +64,8 @@ sound_more es entry table free new property last there sound = record {
   apart = sound.apart;
   low = sound.low;
   declared = λ name other is. by_old name other (lookup (bytes_eq name) free) refl (bytes_eq name new) (sym (lookup_push free new property name) ∙ is);
+  unowned = λ name other key is has.
+      unowned_old name other key has (lookup (bytes_eq name) free) refl (bytes_eq name new) (sym (lookup_push free new property name) ∙ is);
 }
   where
     given : (a b : Name) → ◌≡◌ {A = Option Name} (Some a) (Some b) → a ≡ b
@@ -85,38 +81,19 @@ sound_more es entry table free new property last there sound = record {
     by_old name other (Some old) here b e = known_more es entry other.0 (sound.declared name other (here ∙ e))
     by_old name other None here b e = by_new other b e
 
--- a text spells values of the kind alone
-pub kind_read : (k : Kind) (text : List ℕ) (v : Value) → Some v ≡ value_at k text → kind_of v ≡ k
-kind_read kind.Int text v e = by_option (number_at text) e
-  where
-    by_option : (o : Option ℤ) → Some v ≡ option_map value.Int o → kind_of v ≡ kind.Int
-    by_option None e = absurd (cc)
-    by_option (Some n) e = let same : v ≡ value.Int n = cc in ap kind_of same
-kind_read kind.Bool text v e = by_option (truth_at text) e
-  where
-    by_option : (o : Option Bool) → Some v ≡ option_map value.Bool o → kind_of v ≡ kind.Bool
-    by_option None e = absurd (cc)
-    by_option (Some b) e = let same : v ≡ value.Bool b = cc in ap kind_of same
-kind_read kind.Text text v e = by_test (nat_lt 4096 (length (chars text))) e
-  where
-    by_test : (b : Bool) → Some v ≡ cond b None (Some (value.Text text)) → kind_of v ≡ kind.Text
-    by_test true e = absurd (cc)
-    by_test false e = let same : v ≡ value.Text text = cc in ap kind_of same
-kind_read (kind.Choice family) text v e = by_option (place_of (constants_of family) text) e
-  where
-    by_option : (o : Option ℕ) → Some v ≡ option_map (value.Choice family) o → kind_of v ≡ kind.Choice family
-    by_option None e = absurd (cc)
-    by_option (Some n) e = let same : v ≡ value.Choice family n = cc in ap kind_of same
-kind_read kind.Color text v e = by_option (color_at text) e
-  where
-    by_option : (o : Option Paint) → Some v ≡ option_map value.Color o → kind_of v ≡ kind.Color
-    by_option None e = absurd (cc)
-    by_option (Some c) e = let same : v ≡ value.Color c = cc in ap kind_of same
-kind_read kind.Sides text v e = by_option (sides_at number_at text) e
-  where
-    by_option : (o : Option Insets) → Some v ≡ option_map value.Sides o → kind_of v ≡ kind.Sides
-    by_option None e = absurd (cc)
-    by_option (Some s) e = let same : v ≡ value.Sides s = cc in ap kind_of same
+    unowned_new : (other : Name) (key : NodeKey) → Contains (properties_in (data_of table key)) other.0 → (b : Bool)
+        → cond b (Some property) None ≡ Some other → ⊥
+    unowned_new other key has true e =
+        let there : other.0 < length es = known_within es other.0 (sound.owned key other.0 has) in
+        let same : property.0 ≡ other.0 = ap (λ (n : Name). n.0) (given property other e) in
+        omega (arith, there, same, last)
+    unowned_new other key has false e = absurd (cc)
+
+    unowned_old : (name : List ℕ) (other : Name) (key : NodeKey) → Contains (properties_in (data_of table key)) other.0
+        → (o : Option Name) → lookup (bytes_eq name) free ≡ o → (b : Bool)
+        → cond (is_some o) o (cond b (Some property) None) ≡ Some other → ⊥
+    unowned_old name other key has (Some old) here b e = sound.unowned name other key (here ∙ e) has
+    unowned_old name other key has None here b e = unowned_new other key has b e
 
 -- `prop` of a name that is new, where there is room
 module _ (name kind text : List ℕ) (world : World) (v : Value) (is : Some v ≡ value_at (kind_named kind) text)

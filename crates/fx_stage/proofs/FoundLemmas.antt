@@ -1,5 +1,5 @@
 -- A property that is found is known.
-use Rattle.std.proofs.Common.{◌≡◌, ◌+◌, ℕ, length, List, [], ◌∷◌, Contains, Option, Some, None, Result, Ok, Err, false, refl, sym, ◌∙◌, ap, subst, arith}
+use Rattle.std.proofs.Common.{◌≡◌, ◌+◌, ℕ, length, List, [], ◌∷◌, Contains, Option, Some, None, Result, Ok, false, refl, sym, ◌∙◌, ap, subst, arith}
 use Rattle.std.specs.Map.{lookup}
 use Rattle.std.specs.Option.{option_map}
 use Rattle.std.specs.Str.{bytes_eq}

@@ -1,7 +1,17 @@
 pub mod Small
 pub mod SoundLemmas
+pub mod WrittenLemmas
 pub mod TakingLemmas
 pub mod FoundLemmas
 pub mod ReadingLemmas
 pub mod ValueLemmas
 pub mod DeclaringLemmas
+pub mod HeadLemmas
+pub mod MakingLemmas
+pub mod GraphLemmas
+pub mod NamingLemmas
+pub mod ListeningLemmas
+pub mod ListenLemmas
+pub mod FindingLemmas
+pub mod BindingLemmas
+pub mod DroppingLemmas

@@ -1,5 +1,6 @@
 -- What a change of the store makes of a world.
-use Rattle.std.proofs.Common.{◌≡◌, ◌≢◌, ◌⊎◌, ℕ, Bool, true, false, cond, not, ◌||◌, List, [], ◌∷◌, filter, Option, Some, None, Result, Ok, Err, refl, sym, ◌∙◌, ap, subst, inl, inr, true≢false}
+use Rattle.std.proofs.Common.{◌≡◌, ◌⊎◌, ◌≤◌, ℕ, Bool, true, false, cond, List, [], ◌∷◌, All, arith, Option, Some, None, Result, Ok, Err, refl, sym, ◌∙◌, ap, subst, inl, inr, true≢false}
+use Rattle.std.proofs.lemmas.List.Elements.{All-cons, All-head, All-nil, All-tail}
 use Rattle.fx_base.specs.Answers.{IsAnswer}
 use Rattle.fx_listen.specs.declared.entries.Listener.{Listener}
 use Rattle.fx_store_model.specs.Applied.{Applied}
@@ -9,23 +10,21 @@ use Rattle.fx_store_model.specs.declared.changes.Notices.{Notices}
 use Rattle.fx_store_model.specs.declared.errors.StoreError.{StoreError}
 use Rattle.fx_store_model.specs.declared.errors.StoreError.TheVariants as store
 use Rattle.fx_store_model.specs.Laws.{takes_away}
-use Rattle.fx_store_model.specs.Making.{made, made_unbind}
+use Rattle.fx_store_model.specs.Making.{made}
 use Rattle.fx_store_model.specs.Refusals.{IsChangeAnswer, refusal}
-use Rattle.fx_store_model.specs.Step.{IsReadSome as IsReadSomeIn, IsUnfinished as IsStoreUnfinished, after, before_reads}
-use Rattle.fx_store_model.specs.Stored.{Stored}
+use Rattle.fx_store_model.specs.Step.{IsUnfinished as IsStoreUnfinished, after, before_reads}
+use Rattle.fx_store_model.specs.Stored.{Stored, with_unread}
 use Rattle.fx_store_model.proofs.Leaving.{memory_or_not}
-use Rattle.fx_graph_model.specs.Uses.{bound_in}
-use Rattle.fx_stage_types.specs.declared.answers.Outcome.{Outcome}
-use Rattle.fx_stage_types.specs.declared.answers.StageError.{StageError}
 use Rattle.fx_stage_types.specs.declared.answers.StageError.TheVariants.{Refused, Memory}
 use Rattle.fx_stage_types.specs.Words.{of_store}
-use Rattle.fx_stage_model.specs.Properties.{by_store, changed, told, word_in}
+use Rattle.fx_stage_model.specs.Properties.{by_store, changed, word_in}
 use Rattle.fx_stage_model.specs.Taking.{IsReadSome, IsTaken}
 use Rattle.fx_stage_model.specs.World.{World, is_listening, still_written, with_store}
-use Rattle.fx_stage.specs.Told.{keeps_listeners, told_as}
+use Rattle.fx_stage.specs.Told.{told_as}
+use Rattle.fx_stage.proofs.WrittenLemmas.{given_rises, still_from}
 
 -- of a change that takes no properties away
-answer_of : (T : Type 0) (change : Change) (stored : Stored) (result : Result T StoreError) → keeps_listeners change ≡ true
+answer_of : (T : Type 0) (change : Change) (stored : Stored) (result : Result T StoreError) → takes_away change ≡ false
     → IsChangeAnswer {T = T} change stored result → IsAnswer store.Memory (refusal change stored) result
 answer_of T (Set name value) stored result keeps a = a
 answer_of T (Publish pairs) stored result keeps a = a
@@ -35,60 +34,7 @@ answer_of T (Pair one other) stored result keeps a = a
 answer_of T (Unpair one other) stored result keeps a = a
 answer_of T (Listen name kind owner tag) stored result keeps a = a
 answer_of T (Unlisten name kind owner tag) stored result keeps a = a
-answer_of T (Forget names) stored result keeps a = absurd (true≢false (sym keeps))
-
-answer_from : (T : Type 0) (change : Change) (stored : Stored) (result : Result T StoreError) → keeps_listeners change ≡ true
-    → IsAnswer store.Memory (refusal change stored) result → IsChangeAnswer {T = T} change stored result
-answer_from T (Set name value) stored result keeps a = a
-answer_from T (Publish pairs) stored result keeps a = a
-answer_from T (Bind name formula operands) stored result keeps a = a
-answer_from T (Unbind name) stored result keeps a = a
-answer_from T (Pair one other) stored result keeps a = a
-answer_from T (Unpair one other) stored result keeps a = a
-answer_from T (Listen name kind owner tag) stored result keeps a = a
-answer_from T (Unlisten name kind owner tag) stored result keeps a = a
-answer_from T (Forget names) stored result keeps a = absurd (true≢false (sym keeps))
-
--- the listeners are the same after it
-
-same_made : (change : Change) (stored : Stored) → keeps_listeners change ≡ true → (made change stored).listeners ≡ stored.listeners
-unfolding made
-same_made (Set name value) stored keeps = refl
-same_made (Publish pairs) stored keeps = refl
-same_made (Bind name formula operands) stored keeps = refl
-same_made (Unbind name) stored keeps = by_test (bound_in stored.entries name.0) refl
-  where
-    by_test : (b : Bool) → bound_in stored.entries name.0 ≡ b → (made_unbind name.0 stored).listeners ≡ stored.listeners
-    by_test true e = rw e refl
-    by_test false e = rw e refl
-same_made (Pair one other) stored keeps = refl
-same_made (Unpair one other) stored keeps = refl
-same_made (Listen name kind owner tag) stored keeps = absurd (true≢false (sym keeps))
-same_made (Unlisten name kind owner tag) stored keeps = absurd (true≢false (sym keeps))
-same_made (Forget names) stored keeps = absurd (true≢false (sym keeps))
-
-same_before : (change : Change) (stored : Stored) → keeps_listeners change ≡ true → (before_reads change stored).listeners ≡ stored.listeners
-unfolding before_reads
-same_before change stored keeps = same_made change stored keeps
-
-same_after : (change : Change) (stored : Stored) → keeps_listeners change ≡ true → (after change stored).listeners ≡ stored.listeners
-same_after change stored keeps = same_before change stored keeps
-
-same_unfinished : (change : Change) (before now : Stored) → keeps_listeners change ≡ true → IsStoreUnfinished change before now
-    → now.listeners ≡ before.listeners
-same_unfinished change before now keeps (inl not_made) = ap (λ (s : Stored). s.listeners) not_made.rest
-same_unfinished change before now keeps (inr made_it) =
-    ap (λ (s : Stored). s.listeners) made_it.1.rest ∙ same_before change before keeps
-
-pub same_listeners : (change : Change) (before now : Stored) (result : Result Notices StoreError) (looked counted : ℕ)
-    → keeps_listeners change ≡ true → Applied change before now result looked counted → now.listeners ≡ before.listeners
-same_listeners change before now (Ok notices) looked counted keeps a =
-    ap (λ (s : Stored). s.listeners) a.ok ∙ same_after change before keeps
-same_listeners change before now (Err cause) looked counted keeps a =
-    elim (memory_or_not cause) [
-      | inl wanting ↦ same_unfinished change before now keeps (a.memory (ap Err wanting))
-      | inr other ↦ ap (λ (s : Stored). s.listeners) (a.refused other)
-    ]
+answer_of T (Forget names) stored result keeps a = absurd (true≢false keeps)
 
 -- what is written of living listeners is written once for all
 
@@ -131,7 +77,7 @@ word_of_refusal (store.Mixed n) cause e = inl (ap of_store e)
 word_of_refusal store.StaleOwner cause e = inl (ap of_store e)
 word_of_refusal store.Memory cause e = inr (ap of_store e)
 
-module _ (change : Change) (world : World) (now : Stored) (looked counted : ℕ) (keeps : keeps_listeners change ≡ true) (tidy : IsTidy world) where
+module _ (change : Change) (world : World) (now : Stored) (looked counted : ℕ) (keeps : takes_away change ≡ false) (tidy : IsTidy world) where
   unfinished : IsStoreUnfinished change world.store now
       → IsReadSome world (with_store now world) ⊎ IsReadSome (with_store (before_reads change world.store) world) (with_store now world)
   unfinished (inl not_made) =
@@ -139,8 +85,10 @@ module _ (change : Change) (world : World) (now : Stored) (looked counted : ℕ)
   unfinished (inr made_it) =
       inr
       (record {
-        rest = names_same world now tidy (same_unfinished change world.store now keeps (inr made_it))
-            ∙ sym (ap (λ (w : World). record w { store = now }) (names_same world (before_reads change world.store) tidy (same_before change world.store keeps)));
+        rest = ap
+            (λ (ls : List Listener).
+            record world { store = now; names = record world.names { written = still_written ls world.names.written } })
+            (ap (λ (s : Stored). s.listeners) made_it.1.rest);
         store = made_it.1;
       })
 
@@ -168,19 +116,43 @@ module _ (change : Change) (world : World) (now : Stored) (looked counted : ℕ)
   changed_taken result a =
       by_refusal (refusal change world.store) result refl a (answer_of Notices change world.store result keeps a.answer)
 
-pub takes_nothing : (change : Change) → keeps_listeners change ≡ true → takes_away change ≡ false
-takes_nothing (Set name value) keeps = refl
-takes_nothing (Publish pairs) keeps = refl
-takes_nothing (Bind name formula operands) keeps = refl
-takes_nothing (Unbind name) keeps = refl
-takes_nothing (Pair one other) keeps = refl
-takes_nothing (Unpair one other) keeps = refl
-takes_nothing (Listen name kind owner tag) keeps = absurd (true≢false (sym keeps))
-takes_nothing (Unlisten name kind owner tag) keeps = absurd (true≢false (sym keeps))
-takes_nothing (Forget names) keeps = absurd (true≢false (sym keeps))
+-- after a change the store is as it was, or as the change makes it, but for what is read
+abbrev pub IsSettled : Change → Stored → Stored → Type 0
+IsSettled change before now =
+    (now ≡ with_unread now.unread before) ⊎ (now ≡ with_unread now.unread (made change before))
 
--- what is seen of the same listeners, from what is kept and from what was seen of it
-pub seen_again : (before now : List Listener) (written : List (ℕ × List (List ℕ))) → now ≡ before
-    → still_written now (still_written before written) ≡ still_written now written
-seen_again before now written same =
-    ap (λ (ls : List Listener). still_written now (still_written ls written)) (sym same) ∙ written_again now written
+read_apart : (base now : Stored) (unread : List Bool) → now ≡ with_unread unread base → now ≡ with_unread now.unread base
+read_apart base now unread is = is ∙ ap (λ (u : List Bool). with_unread u base) (sym (ap (λ (s : Stored). s.unread) is))
+
+pub settled : (change : Change) (before now : Stored) (result : Result Notices StoreError) (looked counted : ℕ)
+    → Applied change before now result looked counted → IsSettled change before now
+unfolding before_reads
+settled change before now (Ok notices) looked counted a = inr (read_apart (made change before) now (after change before).unread a.ok)
+settled change before now (Err cause) looked counted a =
+    elim (memory_or_not cause) [
+      | inl wanting ↦ by_memory (a.memory (ap Err wanting))
+      | inr other ↦ inl (read_apart before now before.unread (a.refused other))
+    ]
+  where
+    by_memory : IsStoreUnfinished change before now → IsSettled change before now
+    by_memory (inl not_made) = inl not_made.rest
+    by_memory (inr made_it) = inr made_it.1.rest
+
+pub listening_from : (change : Change) (before now : Stored) → IsSettled change before now → (n : ℕ) → n ≤ before.given
+    → is_listening now.listeners n ≡ true → is_listening before.listeners n ≡ true
+listening_from change before now (inl same) n small e = ap (λ (s : Stored). is_listening s.listeners n) (sym same) ∙ e
+listening_from change before now (inr made_it) n small e =
+    still_from change before n small (ap (λ (s : Stored). is_listening s.listeners n) (sym made_it) ∙ e)
+
+pub given_settled : (change : Change) (before now : Stored) → IsSettled change before now → before.given ≤ now.given
+given_settled change before now (inl same) = subst (λ (s : Stored). before.given ≤ s.given) (sym same) (omega arith)
+given_settled change before now (inr made_it) =
+    subst (λ (s : Stored). before.given ≤ s.given) (sym made_it) (given_rises change before)
+
+pub all_below : (small great : ℕ) (ws : List (ℕ × List (List ℕ))) → small ≤ great
+    → All (λ (e : ℕ × List (List ℕ)). e.0 ≤ small) ws → All (λ (e : ℕ × List (List ℕ)). e.0 ≤ great) ws
+all_below small great [] less all = All-nil (λ (e : ℕ × List (List ℕ)). e.0 ≤ great)
+all_below small great (e ∷ ws) less all =
+    let first : e.0 ≤ small = All-head (λ (e : ℕ × List (List ℕ)). e.0 ≤ small) e ws all in
+    All-cons (λ (e : ℕ × List (List ℕ)). e.0 ≤ great) e ws (omega (arith, first, less))
+    (all_below small great ws less (All-tail (λ (e : ℕ × List (List ℕ)). e.0 ≤ small) e ws all))

@@ -1,11 +1,9 @@
 -- The value that a text spells, as it is read.
-use Rattle.std.proofs.Common.{◌≡◌, ℕ, Bool, true, false, List, Option, Some, None, Result, Ok, Err, IfOk, IfSome, IfNone, refl, sym, ◌∙◌, subst, inl}
+use Rattle.std.proofs.Common.{◌≡◌, ℕ, Bool, false, List, Option, Some, None, Result, Ok, Err, refl, sym, subst, inl}
 use Rattle.fx_base.specs.declared.keys.Name.{Name}
-use Rattle.fx_base.specs.declared.kinds.Kind.{Kind}
 use Rattle.fx_base.specs.declared.values.Value.{Value}
-use Rattle.fx_look.specs.Readings.{IsValue, value_at}
+use Rattle.fx_look.specs.Readings.{value_at}
 use Rattle.fx_graph_model.specs.Refusals.{kind_at, read_only_in}
-use Rattle.fx_look.proofs.ReadingLemmas.{value_complete, value_found}
 use Rattle.fx_store_model.specs.declared.changes.Change.TheVariants.{Set}
 use Rattle.fx_stage_types.specs.declared.answers.Outcome.{Outcome}
 use Rattle.fx_stage_types.specs.declared.answers.StageError.{StageError}
@@ -17,19 +15,6 @@ use Rattle.fx_stage_model.specs.Looking.{find}
 use Rattle.fx_stage_model.specs.Properties.{changed, set}
 use Rattle.fx_stage_model.specs.Taking.{IsTaken}
 use Rattle.fx_stage_model.specs.World.{World}
-
-spells_none : (kind : Kind) (text : List ℕ) (o : Option Value) → o ≡ value_at kind text
-    → ((v : Value) → IsValue kind text v → ⊥) → None ≡ o
-spells_none kind text None is none = refl
-spells_none kind text (Some v) is none =
-    absurd (none v (value_found {E = ℕ} kind text (Ok (Some v)) is))
-
-pub value_read : {E : Type 0} (kind : Kind) (text : List ℕ) (r : Result (Option Value) E)
-    → IfOk r (λ o. IfSome o (IsValue kind text)) → IfOk r (λ o. IfNone o ((v : Value) → IsValue kind text v → ⊥))
-    → IfOk r (λ o. o ≡ value_at kind text)
-value_read kind text (Err e) found none = tt
-value_read kind text (Ok (Some v)) found none = sym (value_complete kind text v found)
-value_read kind text (Ok None) found none = spells_none kind text (value_at kind text) refl none
 
 -- a `set` of a property that is found and not read-only, by what the text spells
 module _ (path : List (List ℕ)) (text : List ℕ) (world : World) (name : Name) (here : find world path ≡ Ok name)

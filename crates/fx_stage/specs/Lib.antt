@@ -1,2 +1,5 @@
+pub mod Dropping
+pub mod Finding
 pub mod Kept
+pub mod Noting
 pub mod Told

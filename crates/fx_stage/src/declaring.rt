@@ -7,11 +7,11 @@ ghost use Rattle.fx_look.specs.Readings.{value_at};
 ghost use Rattle.fx_stage_model.specs.Properties as spec;
 ghost use Rattle.fx_stage_model.specs.Taking.{IsTaken};
 
-use crate::properties::read;
 use crate::stage::Stage;
 use crate::telling::nothing;
 use fx_base::{Kind, Text, Value};
 use fx_stage_types::{Outcome, Refusal, StageError};
+use fx_stage_words::read;
 use std::alloc::{AllocError, Global};
 
 /// The most free properties of a script.

@@ -44,7 +44,8 @@ impl Stage {
     /// The node's property of this name.
     #[tactic(auto, unfolding(fx_stage_model::specs::Looking::property_in))]
     pub fn name_of(&self, key: NodeKey, property: &Text) -> Option<Name>
-        ensures { option_map (λ name. name.0) result ≡ spec.property_in (data_of self.now.graph.table key) property.now }
+        ensures { option_map (λ name. name.0) result
+            ≡ spec.property_in (data_of self.now.graph.table key) property.now }
     {
         match self.graph.node(key) {
             None => None,
@@ -115,7 +116,11 @@ fn or_unknown(name: Option<Name>) -> Result<Name, Refusal>
     }
 }
 
-fn both(one: Result<Name, Refusal>, other: Result<Name, Refusal>) -> Result<(Name, Name), Refusal>
+/// Both, or the word that comes first.
+pub(crate) fn both<T: Drop, U: Drop>(
+    one: Result<T, Refusal>,
+    other: Result<U, Refusal>,
+) -> Result<(T, U), Refusal>
     ensures { result ≡ both one other }
 {
     match one {
@@ -131,7 +136,7 @@ fn both(one: Result<Name, Refusal>, other: Result<Name, Refusal>) -> Result<(Nam
 }
 
 /// The word that comes first in the order of words.
-fn earlier(one: Refusal, other: Refusal) -> Refusal
+pub(crate) fn earlier(one: Refusal, other: Refusal) -> Refusal
     ensures { result ≡ earlier one other }
 {
     if one.rank() <= other.rank() {

@@ -1,11 +1,22 @@
-//! The stage: a world that scripts change and in which a scene is built. Contracts see the world, and each call makes of
-//! it what the definition of its line says. So far it looks up nodes and properties, and carries out lines on properties.
+//! The stage: a world that scripts change and in which a scene is built. Contracts see the world, and each call makes
+//! of it what the definition of its line says.
 #![tactic(auto)]
 
+mod binding;
+mod building;
 mod declaring;
+mod dressing;
+mod dropping;
 mod finding;
+mod graph_changes;
+mod lines;
+mod listening;
+mod making;
+mod naming;
+mod placing;
 mod properties;
 mod stage;
+mod styling;
 mod telling;
 
 pub use stage::Stage;

@@ -1,30 +1,29 @@
 //! Lines on properties.
-ghost use Rattle.std.specs.Prelude.{◌≡◌, IfOk, true, false};
+ghost use Rattle.std.specs.Prelude.{◌≡◌, false};
 ghost use Rattle.fx_graph_model.specs.Refusals.{kind_at};
 ghost use Rattle.fx_graph_model.specs.Uses.{unknown_in};
-ghost use Rattle.fx_look.specs.Readings.{value_at};
+ghost use Rattle.fx_store_model.specs.Laws.{takes_away};
 ghost use Rattle.fx_store_model.specs.Step.{IsFit};
-ghost use Rattle.fx_stage.specs.Told.{keeps_listeners};
 ghost use Rattle.fx_stage_model.specs.Properties as spec;
 ghost use Rattle.fx_stage_model.specs.Taking.{IsTaken};
 
 use crate::stage::Stage;
 use crate::telling::{told, told_value};
-use fx_base::{Kind, Ledgers, Name, Text, Value, Work};
-use fx_look::read_value;
+use fx_base::{Kind, Ledgers, Name, Text, Work};
 use fx_stage_types::{Outcome, Refusal, StageError};
+use fx_stage_words::read;
 use fx_store_model::Change;
-use std::alloc::{AllocError, Global};
+use std::alloc::Global;
 
 impl Stage {
-    /// Makes a change of the store that leaves all listeners as they are.
+    /// Makes a change of the store that forgets no properties.
     pub(crate) fn change_store<L: Ledgers>(
         &mut self,
         alloc: Global,
         change: Change,
         work: &mut Work<L>,
     ) -> Result<Outcome, StageError>
-        requires keeps { keeps_listeners change ≡ true }
+        requires keeps { takes_away change ≡ false }
         requires fit { IsFit change self.old.store }
         ensures { IsTaken (spec.changed change self.old) self.old self.new result }
     {
@@ -59,7 +58,8 @@ impl Stage {
 
     /// The kind of a property, which is known.
     fn kind_of(&self, name: Name) -> Kind
-        ensures { unknown_in self.now.store.entries name.0 ≡ false → result ≡ kind_at self.now.store.entries name.0 }
+        ensures { unknown_in self.now.store.entries name.0 ≡ false
+            → result ≡ kind_at self.now.store.entries name.0 }
     {
         match self.store.kind(name) {
             Some(kind) => kind,
@@ -133,11 +133,4 @@ impl Stage {
             Err(word) => Err(StageError::Refused(word)),
         }
     }
-}
-
-/// The value of the kind that the text spells, if there is one.
-pub(crate) fn read(alloc: Global, kind: Kind, text: &str) -> Result<Option<Value>, AllocError>
-    ensures { IfOk result (λ found. found ≡ value_at kind text.now) }
-{
-    read_value(alloc, kind, text)
 }

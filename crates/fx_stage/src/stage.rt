@@ -42,14 +42,20 @@ impl Model for Stage {
 
     ghost Value = { World };
 
-    ghost coded = { Prim.hlevel (codes, entry.the_row.coded, map_of.code {R = key_cmp} key_row.coded (coded_list registration_row.coded), map_of.code {R = key_cmp} key_row.coded node_row.coded, coded_numbered) };
+    ghost coded = { Prim.hlevel (
+      codes,
+      entry.the_row.coded,
+      map_of.code {R = key_cmp} key_row.coded (coded_list registration_row.coded),
+      map_of.code {R = key_cmp} key_row.coded node_row.coded,
+      coded_numbered,
+    ) };
 
-    ghost use Rattle.fx_stage.specs.Kept.{seen};
-    ghost use Rattle.fx_stage_model.specs.Sound.{IsSound};
+    ghost use Rattle.fx_stage.specs.Kept.{IsKept, seen};
 
-    ghost view = { λ s. seen s.store s.graph s.free s.labels s.actions s.run.items s.written.entries s.pointer s.button s.window };
+    ghost view = { λ s. seen s.store s.graph s.free.entries s.labels.entries s.actions.entries s.run.items
+        s.written.entries s.pointer s.button s.window };
 
-    ghost invariant = { λ s. IsSound s.store.entries s.graph.table s.free };
+    ghost invariant = { λ s. IsKept s.store s.graph.table s.free.entries s.written.entries };
 }
 
 impl Stage {

@@ -1,12 +1,11 @@
 //! What the store's answers tell, as a stage tells it.
-ghost use Rattle.std.specs.Prelude.{◌≡◌, None, Some, []};
-ghost use Rattle.fx_stage.specs.Told.{told_as, told_value_as};
-ghost use Rattle.fx_stage_model.specs.Answers.{quiet};
+ghost use Rattle.std.specs.Prelude.{◌≡◌};
+ghost use Rattle.fx_stage.specs.Told.{key_as, made_as, plain_as, silence, silent_as, told_as, told_value_as};
 
-use fx_base::{List, Value};
+use fx_base::{List, NodeKey, Value};
 use fx_stage_types::{Outcome, StageError};
 use fx_store_model::{Notices, StoreError};
-use std::alloc::Global;
+use std::alloc::{AllocError, Global};
 
 /// What a change of the store tells.
 pub(crate) fn told(
@@ -17,10 +16,8 @@ pub(crate) fn told(
 {
     match answer {
         Ok(notices) => Ok(Outcome {
-            value: None,
             notices,
-            warnings: List::new(alloc),
-            events: List::new(alloc),
+            ..nothing(alloc)
         }),
         Err(error) => Err(StageError::from(error)),
     }
@@ -36,13 +33,7 @@ pub(crate) fn told_value(
     match answer {
         Ok(value) => Ok(Outcome {
             value: Some(value),
-            notices: Notices {
-                added: None,
-                invalid: List::new(alloc),
-                changed: List::new(alloc),
-            },
-            warnings: List::new(alloc),
-            events: List::new(alloc),
+            ..nothing(alloc)
         }),
         Err(error) => Err(StageError::from(error)),
     }
@@ -50,7 +41,7 @@ pub(crate) fn told_value(
 
 /// Nothing is told.
 pub(crate) fn nothing(alloc: Global) -> Outcome
-    ensures { result ≡ record { value = None; notices = quiet; warnings = []; events = [] } }
+    ensures { result ≡ silence }
 {
     Outcome {
         value: None,
@@ -61,5 +52,48 @@ pub(crate) fn nothing(alloc: Global) -> Outcome
         },
         warnings: List::new(alloc),
         events: List::new(alloc),
+    }
+}
+
+/// What a change of the scene graph tells: nothing, if it isn't refused.
+pub(crate) fn silent(alloc: Global, answer: Result<(), StageError>) -> Result<Outcome, StageError>
+    ensures { result ≡ silent_as answer }
+{
+    match answer {
+        Ok(()) => Ok(nothing(alloc)),
+        Err(error) => Err(error),
+    }
+}
+
+/// What a change of the scene graph tells that only want of memory can hinder.
+pub(crate) fn plain(alloc: Global, answer: Result<(), AllocError>) -> Result<Outcome, StageError>
+    ensures { result ≡ plain_as answer }
+{
+    match answer {
+        Ok(()) => Ok(nothing(alloc)),
+        Err(_) => Err(StageError::Memory),
+    }
+}
+
+/// What the making of a node tells: nothing, if it isn't refused.
+pub(crate) fn made(
+    alloc: Global,
+    answer: Result<NodeKey, StageError>,
+) -> Result<Outcome, StageError>
+    ensures { result ≡ made_as answer }
+{
+    match answer {
+        Ok(_) => Ok(nothing(alloc)),
+        Err(error) => Err(error),
+    }
+}
+
+/// The answer of a step that makes a node.
+pub(crate) fn one_node(answer: Result<NodeKey, StageError>) -> Result<Option<NodeKey>, StageError>
+    ensures { result ≡ key_as answer }
+{
+    match answer {
+        Ok(key) => Ok(Some(key)),
+        Err(error) => Err(error),
     }
 }

@@ -5,15 +5,30 @@ ghost use Rattle.fx_base.specs.Answers.{IsFirmAnswer};
 ghost use Rattle.fx_stage_types.specs.Tables.{without_data};
 ghost use Rattle.fx_stage_types.specs.Words.{of_tree};
 ghost use Rattle.fx_stage_model.specs.Graphs as spec;
-ghost use Rattle.fx_tree.specs.Refusals.{drop_refusal};
+ghost use Rattle.fx_tree.specs.Refusals.{drop_refusal, is_held};
 
 use crate::graph::Graph;
 use fx_base::NodeKey;
 use fx_events::Handlers;
 use fx_stage_tables::NodeTable;
 use fx_stage_types::StageError;
+use fx_tree::TreeError;
 
 impl Graph {
+    /// Why the node's life can't be ended, if it can't.
+    #[tactic(auto, unfolding(fx_tree::specs::Refusals::drop_refusal))]
+    pub fn drop_refusal(&self, key: NodeKey) -> Option<TreeError>
+        ensures { result ≡ drop_refusal self.now.tree key }
+    {
+        if self.tree.children(key).is_none() {
+            return Some(TreeError::StaleKey);
+        }
+        if self.tree.parent(key).is_some() || is_held(self.tree.root(), key) {
+            return Some(TreeError::Attached);
+        }
+        None
+    }
+
     /// Ends the life of the node and of all below it, which are these keys, and of all that they have. It takes no
     /// memory.
     #[tactic(auto, unfolding(fx_stage_model::specs::Graphs::dropped))]
@@ -27,6 +42,15 @@ impl Graph {
         forget_handlers(&mut self.handlers, keys);
         self.paths.forget(keys);
         Ok(())
+    }
+}
+
+fn is_held(held: Option<NodeKey>, key: NodeKey) -> bool
+    ensures { result ≡ is_held held key }
+{
+    match held {
+        None => false,
+        Some(held) => held.slot == key.slot && held.birth == key.birth,
     }
 }
 

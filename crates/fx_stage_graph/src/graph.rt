@@ -41,11 +41,16 @@ impl Model for Graph {
 
     ghost Value = { Graph };
 
-    ghost coded = { Prim.hlevel (codes, map_of.code {R = key_cmp} key_row.coded (coded_list registration_row.coded), map_of.code {R = key_cmp} key_row.coded node_row.coded) };
+    ghost coded = { Prim.hlevel (
+      codes,
+      map_of.code {R = key_cmp} key_row.coded (coded_list registration_row.coded),
+      map_of.code {R = key_cmp} key_row.coded node_row.coded,
+    ) };
 
     ghost use Rattle.fx_stage_model.specs.Graphs.{graph_of};
 
-    ghost view = { λ g. graph_of g.tree g.nodes.map g.handlers g.paths g.sheets.items g.hover.items g.pressed.items g.target g.focus };
+    ghost view = { λ g. graph_of g.tree g.nodes.map g.handlers g.paths.list g.sheets.items g.hover.items
+        g.pressed.items g.target g.focus };
 }
 
 impl Graph {
@@ -129,7 +134,8 @@ impl Graph {
         phase: Phase,
         action: Text,
     ) -> Result<(), StageError>
-        ensures answer { IsAnswer Memory (spec.handler_refusal key (spec.registration on phase action) self.old) result }
+        ensures answer { IsAnswer Memory (spec.handler_refusal key (spec.registration on phase action) self.old)
+            result }
         ensures ok { OnOk result (self.new ≡ spec.with_handler key (spec.registration on phase action) self.old) }
         ensures err { OnErr result (self.new ≡ self.old) }
     {

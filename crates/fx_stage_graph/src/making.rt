@@ -1,15 +1,21 @@
 //! Making nodes, and the root of the scene.
-ghost use Rattle.std.specs.Prelude.{◌≡◌, ◌+◌, ◌==◌, ◌||◌, IfOk, OnErr, OnOk, length};
+ghost use Rattle.std.specs.Prelude.{◌≡◌, ◌+◌, ◌==◌, ◌||◌, IfOk, None, OnErr, OnOk, Some, if◌then◌else◌, length};
+ghost use Rattle.std.specs.FinMap as map_of;
 ghost use Rattle.std.specs.Option.{option_map};
 ghost use Rattle.fx_base.specs.Answers.{IsAnswer};
 ghost use Rattle.fx_stage_model.specs.Graphs as spec;
+ghost use Rattle.fx_stage_types.specs.Edits.{born_data};
+ghost use Rattle.fx_stage_types.specs.Tables.{node_at};
 ghost use Rattle.fx_stage_types.specs.Words.{of_tree};
-ghost use Rattle.fx_stage_types.specs.declared.answers.StageError.TheVariants.{Memory};
+ghost use Rattle.fx_stage_types.specs.declared.answers.StageError.TheVariants.{Memory, Refused};
+ghost use Rattle.fx_stage_types.specs.declared.refusals.Refusal.TheVariants.{Full};
 ghost use Rattle.fx_tree.specs.Refusals.{root_refusal};
+ghost use Rattle.fx_tree.specs.Scene.{after_make};
 
 use crate::graph::Graph;
 use fx_base::{NodeKey, Text};
 use fx_kinds::Class;
+use fx_stage_tables::NodeTable;
 use fx_stage_types::{NodeData, NodeEdit, Refusal, StageError};
 use fx_tree::{Tree, TreeError};
 use std::alloc::{AllocError, Global};
@@ -29,17 +35,31 @@ impl Graph {
         ensures ok { IfOk result (λ key. self.new ≡ spec.with_born class first key self.old) }
         ensures err { OnErr result (self.new ≡ self.old) }
     {
-        if self.tree.is_full() {
-            return Err(StageError::Refused(Refusal::Full));
+        make_node(alloc, &mut self.tree, &mut self.nodes, class, first)
+    }
+
+    /// A further node of the class, which is known by this path, its properties numbered from here on.
+    pub fn make_named(
+        &mut self,
+        alloc: Global,
+        class: Class,
+        first: u32,
+        path: Vec<Text>,
+    ) -> Result<NodeKey, StageError>
+        requires new { node_at self.old.paths path.items ≡ None }
+        ensures answer { IsAnswer Memory (spec.make_refusal self.old) result }
+        ensures birth { IfOk result (λ key. key.birth ≡ self.old.tree.born + 1) }
+        ensures ok { IfOk result (λ key. self.new
+            ≡ spec.with_path path.items key (spec.with_born class first key self.old)) }
+        ensures err { OnErr result (self.new ≡ self.old) }
+    {
+        if let Err(_) = self.paths.reserve() {
+            return Err(StageError::Memory);
         }
-        let node = NodeData::born(alloc, class, first)?;
-        self.nodes.reserve()?;
-        match self.tree.make(alloc) {
-            Ok(key) => match self.nodes.put(key, node) {
-                Ok(()) => Ok(key),
-                Err(_) => unreachable!(),
-            },
-            Err(_) => Err(StageError::Memory),
+        let key = make_node(alloc, &mut self.tree, &mut self.nodes, class, first)?;
+        match self.paths.add(path, key) {
+            Ok(()) => Ok(key),
+            Err(_) => unreachable!(),
         }
     }
 
@@ -59,6 +79,37 @@ impl Graph {
             Ok(()) => Ok(()),
             Err(_) => unreachable!(),
         }
+    }
+}
+
+/// A further node in the tree, and what it has of its own.
+fn make_node(
+    alloc: Global,
+    tree: &mut Tree,
+    nodes: &mut NodeTable,
+    class: Class,
+    first: u32,
+) -> Result<NodeKey, StageError>
+    ensures answer { IsAnswer Memory
+        (if (length tree.old.nodes == 4096) || (tree.old.born == 4294967295) then Some (Refused Full) else None)
+        result }
+    ensures birth { IfOk result (λ key. key.birth ≡ tree.old.born + 1) }
+    ensures tree { IfOk result (λ key. tree.new ≡ after_make tree.old key) }
+    ensures nodes { IfOk result (λ key. nodes.new.map ≡ map_of.insert nodes.old.map key (born_data class first)) }
+    ensures same_tree { OnErr result (tree.new ≡ tree.old) }
+    ensures same_nodes { OnErr result (nodes.new.map ≡ nodes.old.map) }
+{
+    if tree.is_full() {
+        return Err(StageError::Refused(Refusal::Full));
+    }
+    let node = NodeData::born(alloc, class, first)?;
+    nodes.reserve()?;
+    match tree.make(alloc) {
+        Ok(key) => match nodes.put(key, node) {
+            Ok(()) => Ok(key),
+            Err(_) => unreachable!(),
+        },
+        Err(_) => Err(StageError::Memory),
     }
 }
 

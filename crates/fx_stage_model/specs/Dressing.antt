@@ -1,5 +1,5 @@
 -- Lines on what a node has of its own: `class`, `unclass`, `style`, `pseudo`, `constrain`, `handle` and `filter`.
-use Rattle.std.specs.Prelude.{ℕ, ◌==◌, Bool, true, false, not, ◌&&◌, nat_le, List, [], ◌∷◌, ◌++◌, codes, length, filter, map, Option, Some, None, Result, Ok, Err, is_some, if◌then◌else◌}
+use Rattle.std.specs.Prelude.{ℕ, ◌==◌, Bool, true, false, not, ◌&&◌, ◌||◌, nat_le, nat_lt, List, [], ◌∷◌, ◌++◌, codes, length, filter, map, Option, Some, None, Result, Ok, Err, is_some, if◌then◌else◌}
 use Rattle.std.specs.List.{find as first_of, list_any}
 use Rattle.std.specs.Option.{option_map, option_and_then, option_map_or}
 use Rattle.std.specs.Str.{bytes_eq}
@@ -72,9 +72,10 @@ abbrev pub is_past : List ℕ → Bool
 is_past [] = false
 is_past (first ∷ rest) = true
 
--- a declaration of the text is past a limit
+-- the text is longer than any script, or a declaration of it is past a limit
 abbrev pub is_past_limit : List ℕ → Bool
-is_past_limit text = is_past (past_declarations 0 (kept_in (numbered_marks (scanned Plain start text))))
+is_past_limit text =
+    nat_lt 4194304 (length text) || is_past (past_declarations 0 (kept_in (numbered_marks (scanned Plain start text))))
 
 abbrev pub styled : NodeKey → Sheet → World → Taken
 styled key sheet world =
@@ -126,33 +127,45 @@ constraint_at entry text =
     option_and_then (λ (value : Value). if is_in_range entry.range value then Some value else None)
     (value_at entry.kind text)
 
-abbrev pub constrained : NodeKey → List ℕ → ConstraintEntry → List ℕ → World → Result Taken Refusal
-constrained key name entry [] world = silently (edited_in key (edit.RemoveConstraint name) world)
-constrained key name entry (first ∷ rest) world =
-    and_then (or_word word.Value (constraint_at entry (first ∷ rest))) (λ (value : Value).
-    silently (edited_in key (edit.PutConstraint (record { name = name; value = value })) world))
+-- what a text makes of the constraint of this name: without a text it goes
+abbrev pub constraint_edit : List ℕ → ConstraintEntry → List ℕ → Option NodeEdit
+constraint_edit name entry [] = Some (edit.RemoveConstraint name)
+constraint_edit name entry (first ∷ rest) =
+    option_map (λ (value : Value). edit.PutConstraint (record { name = name; value = value }))
+    (constraint_at entry (first ∷ rest))
 
 unfoldable pub constrain : List (List ℕ) → List ℕ → List ℕ → World → Result Taken Refusal
 constrain path name text world =
     and_then (find_node world path) (λ (key : NodeKey).
     and_then (or_word word.Property (constraint_named name)) (λ (entry : ConstraintEntry).
-    constrained key name entry text world))
+    and_then (or_word word.Value (constraint_edit name entry text)) (λ (change : NodeEdit).
+    silently (edited_in key change world))))
 
 -- handlers
 
--- the types of events by the names of their constants
-abbrev pub event_names : List (List ℕ × EventKind)
-event_names = (codes "ANY", event.Any) ∷ (codes "MOUSE", event.Mouse) ∷ (codes "KEY", event.Key)
-    ∷ (codes "ACTION", event.Action) ∷ (codes "MOUSE_MOVED", event.MouseMoved)
-    ∷ (codes "MOUSE_DRAGGED", event.MouseDragged) ∷ (codes "MOUSE_PRESSED", event.MousePressed)
-    ∷ (codes "MOUSE_RELEASED", event.MouseReleased) ∷ (codes "MOUSE_CLICKED", event.MouseClicked)
-    ∷ (codes "MOUSE_ENTERED", event.MouseEntered) ∷ (codes "MOUSE_EXITED", event.MouseExited)
-    ∷ (codes "KEY_PRESSED", event.KeyPressed) ∷ []
+-- the name of a type's constant
+abbrev pub constant_of : EventKind → List ℕ
+constant_of event.Any = codes "ANY"
+constant_of event.Mouse = codes "MOUSE"
+constant_of event.Key = codes "KEY"
+constant_of event.Action = codes "ACTION"
+constant_of event.MouseMoved = codes "MOUSE_MOVED"
+constant_of event.MouseDragged = codes "MOUSE_DRAGGED"
+constant_of event.MousePressed = codes "MOUSE_PRESSED"
+constant_of event.MouseReleased = codes "MOUSE_RELEASED"
+constant_of event.MouseClicked = codes "MOUSE_CLICKED"
+constant_of event.MouseEntered = codes "MOUSE_ENTERED"
+constant_of event.MouseExited = codes "MOUSE_EXITED"
+constant_of event.KeyPressed = codes "KEY_PRESSED"
 
+abbrev pub event_kinds : List EventKind
+event_kinds = event.Any ∷ event.Mouse ∷ event.Key ∷ event.Action ∷ event.MouseMoved ∷ event.MouseDragged
+    ∷ event.MousePressed ∷ event.MouseReleased ∷ event.MouseClicked ∷ event.MouseEntered ∷ event.MouseExited
+    ∷ event.KeyPressed ∷ []
+
+-- the type whose constant has this name
 abbrev pub event_named : List ℕ → Option EventKind
-event_named name =
-    option_map (λ (row : List ℕ × EventKind). row.1)
-    (first_of (λ (row : List ℕ × EventKind). bytes_eq row.0 name) event_names)
+event_named name = first_of (λ (on : EventKind). bytes_eq (constant_of on) name) event_kinds
 
 -- a further registration, by the handlers' own refusal
 abbrev pub registered : NodeKey → Registration → World → Result Taken Refusal

@@ -1,13 +1,13 @@
 -- What a line of a script makes of the world: one case a line. Event lines, `pulse` and lines on timelines aren't the
 -- world's own; they make nothing here.
-use Rattle.std.specs.Prelude.{ℕ, ◌+◌, ◌-◌, Bool, nat_le, ◌&&◌, not, ◌==◌, false, List, [], ◌∷◌, ◌++◌, length, Option, Some, None, Result, Ok, Err, is_some, if◌then◌else◌}
+use Rattle.std.specs.Prelude.{ℕ, Bool, nat_eq, nat_le, ◌&&◌, List, [], ◌∷◌, ◌++◌, codes, Option, Some, None, Result, Ok, Err, is_some, if◌then◌else◌}
+use Rattle.std.specs.List.{starts_with}
 use Rattle.std.specs.Map.{lookup}
 use Rattle.std.specs.Str.{bytes_eq}
 use Rattle.fx_events.specs.declared.kinds.Phase.TheVariants as phase
 use Rattle.fx_script_commands.specs.Requests.{Numbered, Request, Requests, asks, bad, binds, defines, no_more, more}
 use Rattle.fx_script_lines.specs.declared.instructions.Instruction.{Instruction}
 use Rattle.fx_script_lines.specs.declared.instructions.Instruction.TheVariants as line
-use Rattle.fx_text.specs.Characters.{hyphen}
 use Rattle.fx_text.specs.Digits.{number_of_digits}
 use Rattle.fx_stage_types.specs.declared.refusals.Refusal.{Refusal}
 use Rattle.fx_stage_types.specs.declared.refusals.Refusal.TheVariants as word
@@ -31,14 +31,15 @@ unfoldable pub define : List ℕ → Requests → World → Result Taken Refusal
 define name lines world =
     unless (is_some (lookup (bytes_eq name) world.names.actions)) word.Exists (silently (with_action name lines world))
 
--- a side of a window, 1 to 2,048
+-- a side of a window, in pixels
+abbrev pub is_side : ℕ → Bool
+is_side n = nat_le 1 n && nat_le n 2048
+
 abbrev pub side_of : List ℕ → Option ℕ
-side_of [] = None
-side_of (first ∷ rest) =
-    if first == hyphen then None else within (number_of_digits (first ∷ rest))
-  where
-    within : ℕ → Option ℕ
-    within n = if nat_le 1 n && nat_le n 2048 then Some n else None
+side_of word =
+    if starts_with nat_eq word (codes "-")
+    then None
+    else (if is_side (number_of_digits word) then Some (number_of_digits word) else None)
 
 unfoldable pub resize : List ℕ → List ℕ → World → Result Taken Refusal
 resize width height world =

@@ -1,6 +1,6 @@
 -- Lines on owners and listeners: `owner`, `release`, `listen`, `unlisten`, `watch` and `unwatch`.
-use Rattle.std.specs.Prelude.{ℕ, ◌+◌, Bool, false, not, List, [], ◌∷◌, ◌++◌, codes, length, Option, Some, None, Result, Ok, Err, is_some, if◌then◌else◌}
-use Rattle.std.specs.List.{position, position_or_len}
+use Rattle.std.specs.Prelude.{ℕ, ◌+◌, Bool, false, not, min, List, [], ◌∷◌, ◌++◌, codes, length, Option, Some, None, unwrap_or, Result, Ok, Err, is_some, if◌then◌else◌}
+use Rattle.std.specs.List.{position}
 use Rattle.std.specs.Map.{lookup}
 use Rattle.std.specs.Option.{option_map, option_map_or}
 use Rattle.std.specs.Str.{bytes_eq}
@@ -62,10 +62,11 @@ release label world =
     unless (not (has_life world.store.owners.living (Some owner))) word.Stale
     (silently (with_store (after_end owner world.store) world)))
 
--- a listener that runs an action has the action's place from 1 as its tag, and any other has 0
+-- a listener that runs an action has the action's place from 1 as its tag, and any other has 0; there never are more
+-- actions than there are numbers of listeners, so places end with the greatest of these
 abbrev pub tag_of : List (List ℕ) → Option (List ℕ) → ℕ
 tag_of run None = 0
-tag_of run (Some action) = position_or_len (bytes_eq action) run + 1
+tag_of run (Some action) = min (unwrap_or (position (bytes_eq action) run) (length run) + 1) 4294967295
 
 abbrev pub with_run : Option (List ℕ) → List (List ℕ) → List (List ℕ)
 with_run None run = run
@@ -89,11 +90,12 @@ listened number path action taken =
     }
 
 -- `listen`, and with an action `watch`
-unfoldable pub listen : List ℕ → List (List ℕ) → Option (List ℕ) → Option (List ℕ) → World → Result Taken Refusal
+unfoldable pub listen : List ℕ → List (List ℕ) → Option (List ℕ) → Option (List ℕ) → World
+    → Result Taken Refusal
 listen kind path action label world =
     and_then (find_both world path label) (λ (found : Name × Option Owner).
-    and_then (changed (Listen found.0 (kind_named kind) found.1 (tag_of world.names.run action)) world) (λ (taken : Taken).
-    Ok (listened (world.store.given + 1) path action taken)))
+    and_then (changed (Listen found.0 (kind_named kind) found.1 (tag_of world.names.run action)) world)
+    (λ (taken : Taken). Ok (listened (world.store.given + 1) path action taken)))
 
 -- `unlisten`, and with an action `unwatch`
 unfoldable pub unlisten : List ℕ → List (List ℕ) → Option (List ℕ) → Option (List ℕ) → World

@@ -1,5 +1,5 @@
 -- Lines on nodes of the tree: `new`, `attach`, `detach` and `drop`.
-use Rattle.std.specs.Prelude.{ℕ, ◌+◌, Bool, not, ◌&&◌, ◌||◌, nat_lt, List, [], ◌∷◌, codes, length, map, Option, Some, None, Result, Ok, Err, is_some}
+use Rattle.std.specs.Prelude.{ℕ, ◌+◌, Bool, not, ◌&&◌, ◌||◌, nat_lt, min, List, [], ◌∷◌, codes, length, map, Option, Some, None, Result, Ok, Err, is_some}
 use Rattle.std.specs.List.{find as first_of, flat_map, fold, position}
 use Rattle.std.specs.Option.{option_map_or}
 use Rattle.std.specs.Str.{bytes_eq}
@@ -10,6 +10,7 @@ use Rattle.fx_base.specs.declared.keys.NodeKey.{NodeKey}
 use Rattle.fx_kinds.specs.declared.classes.Class.{Class}
 use Rattle.fx_kinds.specs.Classes.{classes, is_node, name_of}
 use Rattle.fx_kinds.specs.Properties.{PropertyRow, rows_of}
+use Rattle.fx_store_model.specs.declared.changes.Change.{Change}
 use Rattle.fx_store_model.specs.declared.changes.Change.TheVariants.{Forget}
 use Rattle.fx_store_model.specs.Making.{after_declared}
 use Rattle.fx_store_model.specs.Refusals.{is_read_outside}
@@ -78,9 +79,13 @@ new slot name path world =
 abbrev pub edges : List (List ℕ)
 edges = codes "top" ∷ codes "right" ∷ codes "bottom" ∷ codes "left" ∷ codes "center" ∷ []
 
+-- the number of a place; the largest ones are past the end of any list, and are one
+abbrev pub place_of_digits : List ℕ → ℕ
+place_of_digits word = min (number_of_digits word) 4294967295
+
 -- an edge by its name in lower case, or a place by its number
 abbrev pub spot_of : List ℕ → Spot
-spot_of word = option_map_or On (position (λ (edge : List ℕ). bytes_eq edge word) edges) (At (number_of_digits word))
+spot_of word = option_map_or On (position (λ (edge : List ℕ). bytes_eq edge word) edges) (At (place_of_digits word))
 
 -- a scene graph, by the tree's own refusal
 abbrev pub by_tree : Option TreeError → Graph → World → Result Taken Refusal
@@ -110,23 +115,27 @@ properties_of_all table keys = flat_map (λ (key : NodeKey). properties_in (data
 abbrev pub names_of_all : NodeTable → List NodeKey → List Name
 names_of_all table keys = map name_numbered (properties_of_all table keys)
 
+-- these properties are forgotten, and nothing is left of these nodes, which are the subtree of the first
+abbrev pub without_nodes : Change → NodeKey → List NodeKey → World → Taken
+without_nodes change key keys world =
+    record {
+      made = with_store (before_reads change world.store) (with_graph (dropped key keys world.graph) world);
+      world = with_store (after change world.store) (with_graph (dropped key keys world.graph) world);
+      value = None;
+      notices = told change world.store;
+      warnings = [];
+    }
+
+-- a node and all below it, unless a property outside is bound to one of theirs
+abbrev pub forgotten : NodeKey → List NodeKey → World → Result Taken Refusal
+forgotten key keys world =
+    unless (is_read_outside (properties_of_all world.graph.table keys) world.store.entries) word.Used
+    (Ok (without_nodes (Forget (names_of_all world.graph.table keys)) key keys world))
+
+abbrev pub drop_by : Option TreeError → NodeKey → World → Result Taken Refusal
+drop_by (Some error) key world = Err (word_in (of_tree error))
+drop_by None key world = forgotten key (subtree world.graph.tree.nodes key) world
+
 unfoldable pub drop : List (List ℕ) → World → Result Taken Refusal
 drop path world =
-    and_then (find_node world path) (λ (key : NodeKey).
-    drop_at (drop_refusal world.graph.tree key) key (subtree world.graph.tree.nodes key) world)
-  where
-    forgotten : List Name → NodeKey → List NodeKey → World → Taken
-    forgotten names key keys world =
-        record {
-          made = with_store (before_reads (Forget names) world.store) (with_graph (dropped key keys world.graph) world);
-          world = with_store (after (Forget names) world.store) (with_graph (dropped key keys world.graph) world);
-          value = None;
-          notices = told (Forget names) world.store;
-          warnings = [];
-        }
-
-    drop_at : Option TreeError → NodeKey → List NodeKey → World → Result Taken Refusal
-    drop_at (Some error) key keys world = Err (word_in (of_tree error))
-    drop_at None key keys world =
-        unless (is_read_outside (properties_of_all world.graph.table keys) world.store.entries) word.Used
-        (Ok (forgotten (names_of_all world.graph.table keys) key keys world))
+    and_then (find_node world path) (λ (key : NodeKey). drop_by (drop_refusal world.graph.tree key) key world)

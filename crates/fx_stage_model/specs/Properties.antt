@@ -1,5 +1,5 @@
 -- Lines on properties: `prop`, `set`, `get`, `bind`, `unbind`, `pair` and `unpair`.
-use Rattle.std.specs.Prelude.{ℕ, ◌+◌, true, false, nat_le, nat_lt, ◌||◌, Bool, List, [], ◌∷◌, ◌++◌, codes, length, map, Option, Some, None, Result, Ok, Err, is_some, if◌then◌else◌}
+use Rattle.std.specs.Prelude.{ℕ, ◌+◌, true, false, not, nat_le, nat_lt, ◌||◌, Bool, List, [], ◌∷◌, ◌++◌, codes, length, map, Option, Some, None, Result, Ok, Err, is_some, if◌then◌else◌}
 use Rattle.std.specs.Map.{lookup}
 use Rattle.std.specs.Str.{bytes_eq}
 use Rattle.fx_base.specs.Names.{name_of}
@@ -7,6 +7,7 @@ use Rattle.fx_base.specs.declared.keys.Name.{Name}
 use Rattle.fx_base.specs.declared.kinds.Kind.{Kind}
 use Rattle.fx_base.specs.declared.kinds.Kind.TheVariants as kind
 use Rattle.fx_base.specs.declared.values.Value.{Value}
+use Rattle.fx_expr.specs.Tree.{is_within}
 use Rattle.fx_graph_model.specs.Eager.{eager}
 use Rattle.fx_graph_model.specs.Refusals.{kind_at, read_only_in}
 use Rattle.fx_graph_model.specs.Unread.{after_reading}
@@ -108,18 +109,25 @@ get path world =
     }))
 
 -- all paths are looked up before anything else is asked
-unfoldable pub bind : List (List ℕ) → Expression → World → Result Taken Refusal
-bind path expression world =
+unfoldable pub bound : List (List ℕ) → Expression → World → Result Taken Refusal
+bound path expression world =
     and_then (both (find world path) (all (map (find world) expression.paths))) (λ (found : Name × List Name).
     changed (Bind found.0 expression.meaning found.1) world)
+
+-- an expression that lacks an operand is of no form
+unfoldable pub bind : List (List ℕ) → Expression → World → Result Taken Refusal
+bind path expression world =
+    unless (not (is_within expression.meaning (length expression.paths))) word.Syntax (bound path expression world)
 
 unfoldable pub unbind : List (List ℕ) → World → Result Taken Refusal
 unbind path world = and_then (find world path) (λ (name : Name). changed (Unbind name) world)
 
 unfoldable pub pair : List (List ℕ) → List (List ℕ) → World → Result Taken Refusal
 pair one other world =
-    and_then (both (find world one) (find world other)) (λ (found : Name × Name). changed (Pair found.0 found.1) world)
+    and_then (both (find world one) (find world other))
+    (λ (found : Name × Name). changed (Pair found.0 found.1) world)
 
 unfoldable pub unpair : List (List ℕ) → List (List ℕ) → World → Result Taken Refusal
 unpair one other world =
-    and_then (both (find world one) (find world other)) (λ (found : Name × Name). changed (Unpair found.0 found.1) world)
+    and_then (both (find world one) (find world other))
+    (λ (found : Name × Name). changed (Unpair found.0 found.1) world)

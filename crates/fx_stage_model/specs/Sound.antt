@@ -18,6 +18,8 @@ pub record IsSound (entries : List Entry) (table : NodeTable) (free : List (List
       → Contains (properties_in (data_of table other)) name → one ≡ other
   -- their numbers are small
   pub low : (key : NodeKey) (node : NodeData) → data_of table key ≡ Some node → node.first ≤ 4000000
-  -- free properties are known
+  -- free properties are known, and are no node's
   pub declared : (name : List ℕ) (property : Name) → lookup (bytes_eq name) free ≡ Some property
       → unknown_in entries property.0 ≡ false
+  pub unowned : (name : List ℕ) (property : Name) (key : NodeKey) → lookup (bytes_eq name) free ≡ Some property
+      → Contains (properties_in (data_of table key)) property.0 → ⊥

@@ -1,5 +1,6 @@
 -- What a stage answers of a line and makes of its world, where the definition makes this of the world before.
-use Rattle.std.specs.Prelude.{◌≡◌, ◌⊎◌, ◌++◌, false, length, replicate, List, [], Result, Ok, Err}
+use Rattle.std.specs.Prelude.{◌≡◌, ◌⊎◌, ◌++◌, false, length, replicate, List, [], Option, Result, Ok, Err}
+use Rattle.fx_base.specs.declared.keys.NodeKey.{NodeKey}
 use Rattle.fx_graph_model.specs.declared.entries.Entry.{Entry}
 use Rattle.fx_store_model.specs.Stored.{Stored}
 use Rattle.fx_store_model.specs.Step.{IsReadSome as IsReadSomeIn}
@@ -42,3 +43,11 @@ IsTaken (Ok taken) before now (Ok outcome) = (now ≡ taken.world) × (outcome �
 IsTaken (Ok taken) before now (Err error) = (error ≡ Memory) × IsUnfinished taken before now
 IsTaken (Err word) before now (Ok outcome) = ⊥
 IsTaken (Err word) before now (Err error) = (now ≡ before) × ((error ≡ Refused word) ⊎ (error ≡ Memory))
+
+-- the same of a step, which answers the node that it makes, if it makes one
+abbrev pub IsBuilt : Result Taken Refusal → Option NodeKey → World → World
+    → Result (Option NodeKey) StageError → Type 0
+IsBuilt (Ok taken) made before now (Ok key) = (now ≡ taken.world) × (key ≡ made)
+IsBuilt (Ok taken) made before now (Err error) = (error ≡ Memory) × IsUnfinished taken before now
+IsBuilt (Err word) made before now (Ok key) = ⊥
+IsBuilt (Err word) made before now (Err error) = (now ≡ before) × ((error ≡ Refused word) ⊎ (error ≡ Memory))

@@ -51,7 +51,7 @@ as_long class list is = sym (length-map list listed_property) ∙ ap length is �
 
 -- declared rows are further entries
 
-abbrev entry_of_row : Class → PropertyRow → Entry
+abbrev pub entry_of_row : Class → PropertyRow → Entry
 entry_of_row class row = new_entry (kind_of (row.initial class)) row.read_only (row.initial class)
 
 more_again : (stored : Stored) (others : List Entry) (kind : Kind) (read_only : Bool) (value : Value)
@@ -86,7 +86,7 @@ rows_more class (row ∷ more) stored others =
     ∙ ap (λ (es : List Entry). with_more es stored)
     (append_assoc others (entry ∷ []) (map (entry_of_row class) more))
 
-all_more : (class : Class) (more : List PropertyRow) (stored : Stored)
+pub all_more : (class : Class) (more : List PropertyRow) (stored : Stored)
     → with_rows class more stored ≡ with_more (map (entry_of_row class) more) stored
 all_more class more stored = ap (with_rows class more) (sym (none_more stored)) ∙ rows_more class more stored []
 

@@ -1,5 +1,5 @@
 //! Names with what they stand for, in the order in which they were given.
-ghost use Rattle.std.specs.Prelude.{◌≡◌, ◌++◌, ◌∷◌, [], None, OnOk, OnErr, length};
+ghost use Rattle.std.specs.Prelude.{◌≡◌, ◌<◌, ◌++◌, ◌∷◌, [], None, IsOk, OnOk, OnErr, length};
 ghost use Rattle.std.specs.Map.{lookup};
 ghost use Rattle.std.specs.Option.{option_copied};
 ghost use Rattle.std.specs.Str.{bytes_eq};
@@ -10,24 +10,26 @@ use indexmap::IndexMap;
 use std::alloc::{AllocError, Global};
 use std::marker::Model;
 
-/// A map from names. Contracts see its entries in the order in which the names were given.
+/// A map from names. Contracts see its entries in the order in which the names were given, and for how many more there
+/// is room.
 #[derive(Drop)]
 pub struct NameMap<T> {
     given: IndexMap<Text, T>,
 }
 
 impl<T> Model for NameMap<T> {
-    ghost use Rattle.std.specs.Prelude.{ℕ, List};
+    ghost use Rattle.fx_stage_tables.specs.Roomy.{Named};
+    ghost use Rattle.indexmap.specs.IndexMap.{spare};
 
-    ghost Value = { List (List ℕ × T) };
+    ghost Value = { Named T };
 
-    ghost view = { λ m. m.given.entries };
+    ghost view = { λ m. record { entries = m.given.entries; room = spare m.given } };
 }
 
 impl<T: Drop> NameMap<T> {
     /// No name was given.
     pub fn new(alloc: Global) -> NameMap<T>
-        ensures { result ≡ [] }
+        ensures { result.entries ≡ [] }
     {
         NameMap {
             given: IndexMap::new(alloc),
@@ -36,22 +38,31 @@ impl<T: Drop> NameMap<T> {
 
     /// How many names there are.
     pub fn len(&self) -> usize
-        ensures { result ≡ length self.now }
+        ensures { result ≡ length self.now.entries }
     {
         self.given.len()
     }
 
     /// What the name stands for.
     pub fn get(&self, name: &Text) -> Option<&T>
-        ensures { option_copied result ≡ lookup (bytes_eq name.now) self.now }
+        ensures { option_copied result ≡ lookup (bytes_eq name.now) self.now.entries }
     {
         self.given.get(name)
     }
 
+    /// Makes room for one name more.
+    pub fn reserve(&mut self) -> Result<(), AllocError>
+        ensures same { self.new.entries ≡ self.old.entries }
+        ensures room { OnOk result (0 < self.new.room) }
+    {
+        self.given.reserve(1)
+    }
+
     /// The name, which may be new, stands for this.
     pub fn put(&mut self, name: Text, item: T) -> Result<(), AllocError>
-        ensures ok { OnOk result (self.new ≡ insert_entry bytes_eq self.old name item) }
-        ensures err { OnErr result (self.new ≡ self.old) }
+        ensures ok { OnOk result (self.new.entries ≡ insert_entry bytes_eq self.old.entries name item) }
+        ensures err { OnErr result (self.new.entries ≡ self.old.entries) }
+        ensures room { 0 < self.old.room → IsOk result }
     {
         match self.given.insert(name, item) {
             Ok(_) => Ok(()),
@@ -61,9 +72,9 @@ impl<T: Drop> NameMap<T> {
 
     /// The name, which is new, stands for this.
     pub fn add(&mut self, name: Text, item: T) -> Result<(), AllocError>
-        requires { lookup (bytes_eq name) self.old ≡ None }
-        ensures ok { OnOk result (self.new ≡ self.old ++ (name, item) ∷ []) }
-        ensures err { OnErr result (self.new ≡ self.old) }
+        requires { lookup (bytes_eq name) self.old.entries ≡ None }
+        ensures ok { OnOk result (self.new.entries ≡ self.old.entries ++ (name, item) ∷ []) }
+        ensures err { OnErr result (self.new.entries ≡ self.old.entries) }
     {
         match self.given.insert(name, item) {
             Ok(_) => Ok(()),

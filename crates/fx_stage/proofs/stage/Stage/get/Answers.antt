@@ -1,4 +1,4 @@
-use Rattle.std.proofs.Common.{◌≡◌, ◌∙◌, ℕ, List, Result, ap, subst, sym}
+use Rattle.std.proofs.Common.{◌≡◌, ◌∙◌, List, Result, ap, subst, sym}
 use Rattle.fx_listen.specs.declared.entries.Listener.{Listener}
 use Rattle.fx_stage_types.specs.declared.answers.Outcome.{Outcome}
 use Rattle.fx_stage_types.specs.declared.answers.StageError.{StageError}
@@ -17,10 +17,10 @@ returns g c =
     let s = c.self.inside in
     let now = c.read.new.self in
     let path = c.args.path.now in
-    let w : World = seen s.store s.graph s.free s.labels s.actions s.run.items s.written.entries s.pointer s.button s.window in
-    let v : World = seen now s.graph s.free s.labels s.actions s.run.items s.written.entries s.pointer s.button s.window in
+    let w : World = seen s.store s.graph s.free.entries s.labels.entries s.actions.entries s.run.items s.written.entries s.pointer s.button s.window in
+    let v : World = seen now s.graph s.free.entries s.labels.entries s.actions.entries s.run.items s.written.entries s.pointer s.button s.window in
     let here = ap (λ (x : World). find x path) c.self.view_is ∙ sym c.find_property.ensures ∙ c.in-Ok.is in
-    let known = found_known w c.self.invariant c.in-Ok.name path here in
+    let known = found_known w c.self.invariant.sound c.in-Ok.name path here in
     let taken =
     get_taken path w c.in-Ok.name now c.read.result here known c.read.ensures.answer c.read.ensures.value c.read.ensures.ok c.read.ensures.memory in
     let same = listeners_kept s.store now c.in-Ok.name c.read.result c.read.ensures.ok c.read.ensures.refused c.read.ensures.memory in

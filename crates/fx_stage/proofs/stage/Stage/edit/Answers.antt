@@ -1,0 +1,14 @@
+use Rattle.fx_stage_model.specs.Graphs.{Graph, edited_at}
+use Rattle.fx_stage_model.specs.Sound.{IsSound}
+use Rattle.fx_stage.proofs.HeadLemmas.{either_way, sound_edited}
+use Rattle.fx_stage.proofs.stage.Stage.edit.Goals as goal
+
+pub invariant_of-self : goal.invariant_of-self
+invariant_of-self c =
+    let s = c.self.inside in
+    record {
+      sound = either_way c.edit.result (λ (g : Graph). IsSound s.store.entries g.table s.free.entries) c.edit.new.self
+          (edited_at c.args.key c.args.edit s.graph) s.graph c.edit.ensures.ok c.edit.ensures.err
+          (sound_edited s.store.entries s.graph.table s.free.entries c.args.key c.args.edit c.self.invariant.sound) c.self.invariant.sound;
+      numbered = c.self.invariant.numbered;
+    }

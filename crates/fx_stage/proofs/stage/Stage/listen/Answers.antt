@@ -1,0 +1,18 @@
+use Rattle.std.proofs.Common.{◌∙◌, Result, subst, sym}
+use Rattle.std.specs.Option.{option_copied}
+use Rattle.fx_stage_types.specs.declared.refusals.Refusal.{Refusal}
+use Rattle.fx_stage_model.specs.Answers.{Taken}
+use Rattle.fx_stage_model.specs.Taking.{IsTaken}
+use Rattle.fx_stage.proofs.ListenLemmas.{listen_is}
+use Rattle.fx_stage.proofs.stage.Stage.listen.Goals as goal
+
+pub returns : goal.returns
+returns g c =
+    let now = c.args.self.now in
+    subst (λ (r : Result Taken Refusal). IsTaken r now c.add_listener.new.self c.add_listener.result)
+    (sym
+    (listen_is now c.args.kind.now c.args.path.now (option_copied c.args.action) (option_copied c.args.label) c.in-Ok.found
+    c.kind_named.result c.tag_of.result c.in-Ok-copy_names.asked c.in-Ok-new_action.runs
+    (sym c.find_both.ensures ∙ c.in-Ok.is) c.kind_named.ensures c.tag_of.ensures c.in-Ok-copy_names.ensures
+    c.in-Ok-new_action.ensures))
+    c.add_listener.ensures

@@ -1,0 +1,4 @@
+pub mod DigitLemmas
+pub mod NameLemmas
+pub mod ReadLemmas
+pub mod StyleLemmas

@@ -1,0 +1,6 @@
+-- the places so far are copied
+use Rattle.std.proofs.Common.{◌≡◌, take}
+use Rattle.fx_stage_words.proofs.styles.copy_places.Given as goal
+
+abbrev pub invariant-loop-place : goal.invariant-loop-place
+invariant-loop-place l = l.copies.items ≡ take l.place-index l.places

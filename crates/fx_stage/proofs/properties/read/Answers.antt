@@ -1,5 +1,0 @@
-use Rattle.fx_stage.proofs.ValueLemmas.{value_read}
-use Rattle.fx_stage.proofs.properties.read.Goals as goal
-
-pub returns : goal.returns
-returns c = value_read c.args.kind c.args.text.now c.read_value.result c.read_value.ensures.found c.read_value.ensures.none

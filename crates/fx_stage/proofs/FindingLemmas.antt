@@ -16,10 +16,6 @@ pub name_more : (name : Name) (names : List Name) (word : Option Refusal)
 name_more name names None = ap Ok (reverse-append names (name ∷ []))
 name_more name names (Some word) = refl
 
-pub word_more : (refusal word : Refusal) (names : List Name)
-    → Err (earlier refusal word) ≡ and_then (both (Err refusal) (found_last_first names (Some word))) in_front
-word_more refusal word names = refl
-
 module _ (world : World) (paths : List (List (List ℕ))) where
   pub none_left : Ok (reverse []) ≡ all (map (find world) (drop (length paths) paths))
   unfolding all

@@ -42,33 +42,6 @@ answered (Some refused) before made now (Err error) is ok err = (
   ],
 )
 
-of_tree_refusal : (refusal : Option TreeError) (graph : Graph) (world : World)
-    → by_tree refusal graph world ≡ by_refusal (option_map of_tree refusal) (with_graph graph world)
-of_tree_refusal None graph world = refl
-of_tree_refusal (Some error) graph world = refl
-
--- a change of the tree
-pub tree_answered : (refusal : Option TreeError) (graph : Graph) (before now : World) (answer : Result (Unit {0}) StageError)
-    → IsAnswer Memory (option_map of_tree refusal) answer → OnOk answer (now ≡ with_graph graph before) → OnErr answer (now ≡ before)
-    → IsTaken (by_tree refusal graph before) before now (silent_as answer)
-tree_answered refusal graph before now answer is ok err =
-    subst (λ (r : Result Taken Refusal). IsTaken r before now (silent_as answer)) (sym (of_tree_refusal refusal graph before))
-    (answered (option_map of_tree refusal) before (with_graph graph before) now answer is ok err)
-
-full_refusal : (full : Bool) (made : World)
-    → unless (is_some (cond full (Some (Refused word.Full)) None)) word.Full (silently made)
-    ≡ by_refusal (cond full (Some (Refused word.Full)) None) made
-full_refusal true made = refl
-full_refusal false made = refl
-
--- a change that is refused where there is no room
-pub full_answered : (full : Bool) (before made now : World) (answer : Result (Unit {0}) StageError)
-    → IsAnswer Memory (cond full (Some (Refused word.Full)) None) answer → OnOk answer (now ≡ made) → OnErr answer (now ≡ before)
-    → IsTaken (unless (is_some (cond full (Some (Refused word.Full)) None)) word.Full (silently made)) before now (silent_as answer)
-full_answered full before made now answer is ok err =
-    subst (λ (r : Result Taken Refusal). IsTaken r before now (silent_as answer)) (sym (full_refusal full made))
-    (answered (cond full (Some (Refused word.Full)) None) before made now answer is ok err)
-
 -- a change that only memory can hinder
 pub plain_answered : {E : Type 0} (before made now : World) (answer : Result (Unit {0}) E)
     → OnOk answer (now ≡ made) → OnErr answer (now ≡ before) → IsTaken (silently made) before now (plain_as answer)

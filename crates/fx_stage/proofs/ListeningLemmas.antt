@@ -230,15 +230,6 @@ pub owner_made : (full : Bool) (owner : Owner) (before made now : World)
 owner_made true owner before made now answer same = absurd answer
 owner_made false owner before made now answer same = (same, refl)
 
-pub owner_refused : (full : Bool) (error : StoreError) (before made now : World)
-    → IsAnswer {T = Owner} store.Memory (refused_if full store.Full) (Err error) → now ≡ before
-    → IsTaken (owned full made) before now (Err (of_store error))
-owner_refused true error before made now (inl e) same = (same, inl (ap of_store e))
-owner_refused true error before made now (inr e) same = (same, inr (ap of_store e))
-owner_refused false error before made now e same =
-    subst (λ (x : World). IsTaken (silently made) before x (Err (of_store error))) (sym same)
-    (subst (λ (x : StoreError). IsTaken (silently made) before before (Err (of_store x))) (sym e) (memory_first (silently made) before))
-
 -- no number that was given is that of a new listener
 pub none_less : (number : ℕ) (ws : List (ℕ × List (List ℕ))) → All (λ (e : ℕ × List (List ℕ)). e.0 < number) ws
     → lookup (eqb number) ws ≡ None

@@ -37,17 +37,6 @@ taken_of world name =
       warnings = [];
     }
 
-pub entries_kept : (before now : Stored) (name : Name) (answer : Result Value StoreError)
-    → OnOk answer (now ≡ with_unread (after_reading before.entries name.0 before.unread) before)
-    → IfErr answer (λ (error : StoreError). error ≢ store.Memory → now ≡ before)
-    → (answer ≡ Err store.Memory → IsReadSomeIn before now) → now.entries ≡ before.entries
-entries_kept before now name (Ok value) ok refused memory = ap (λ (s : Stored). s.entries) ok
-entries_kept before now name (Err cause) ok refused memory =
-    elim (memory_or_not cause) [
-      | inl wanting ↦ read_entries before now (memory (ap Err wanting))
-      | inr other ↦ ap (λ (s : Stored). s.entries) (refused other)
-    ]
-
 pub listeners_kept : (before now : Stored) (name : Name) (answer : Result Value StoreError)
     → OnOk answer (now ≡ with_unread (after_reading before.entries name.0 before.unread) before)
     → IfErr answer (λ (error : StoreError). error ≢ store.Memory → now ≡ before)

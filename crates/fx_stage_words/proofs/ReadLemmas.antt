@@ -72,11 +72,6 @@ in_range_of entry value = cond (is_in_range entry.range value) (Some value) None
 abbrev ranged : ConstraintEntry → Option Value → Option Value
 ranged entry o = option_and_then (in_range_of entry) o
 
-pub taken_value : (entry : ConstraintEntry) (text : List ℕ) (v : Value) → Some v ≡ value_at entry.kind text
-    → TakesValue entry v → Some v ≡ constraint_at entry text
-taken_value entry text v is takes =
-    ap (λ (b : Bool). cond b (Some v) None) (sym takes.1) ∙ ap (ranged entry) is
-
 pub refused_value : (entry : ConstraintEntry) (text : List ℕ) (v : Value) → Some v ≡ value_at entry.kind text
     → (TakesValue entry v → ⊥) → None ≡ constraint_at entry text
 refused_value entry text v is refuses =

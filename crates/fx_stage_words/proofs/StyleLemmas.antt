@@ -70,9 +70,6 @@ style_past text position short read =
     (in_length text short
     ∙ something_past (marks_of text) (past_of text) position (given text (Err (Limit position)) read)))
 
-pub style_long : (text : List ℕ) → nat_lt 4194304 (length text) ≡ true → None ≡ read_of text (is_past_limit text)
-style_long text long = sym (ap (λ (b : Bool). read_of text (b || is_past (past_of text))) long)
-
 pub short_text : (n : ℕ) → n ≤ 4194304 → nat_lt 4194304 n ≡ false
 short_text n small = by_test (ltb 4194304 n) refl
   where

@@ -4,6 +4,7 @@
 #![tactic(auto)]
 
 mod answers;
+mod scene;
 mod scripts;
 
 ghost use Rattle.std.specs.Prelude.{◌≡◌};
@@ -41,14 +42,14 @@ fn play<L: Ledgers, R: Input + Print + AllocGlobal>(
     for line in rt.lines(alloc) {
         let line = line?;
         if line.as_str() == "# stage" {
-            let answers = play_script(alloc, script.as_str(), &mut work)?;
+            let answers = play_script(alloc, script.as_str(), &mut work);
             print!(rt; "{answers}")?;
             script = String::new(alloc);
         }
         script.push_str(line.as_str())?;
         script.push_str("\n")?;
     }
-    let answers = play_script(alloc, script.as_str(), &mut work)?;
+    let answers = play_script(alloc, script.as_str(), &mut work);
     print!(rt; "{answers}")?;
     Ok(())
 }

@@ -3,7 +3,7 @@ ghost use Rattle.std.specs.Prelude.{◌≡◌, ◌↔◌, ◌<◌, ◌≤◌, �
 ghost use Rattle.std.specs.List.{list_all, sum_by};
 ghost use Rattle.fx_base.specs.Pixel.{white};
 ghost use Rattle.fx_canvas.specs.Painting.{is_met, most_writes, repainted, writes};
-ghost use Rattle.fx_canvas.specs.Surfaces.{begins, encloses, ends, is_size, lies_in, pixel_at, row_at, white_line, window};
+ghost use Rattle.fx_canvas.specs.Surfaces.{IsSurface as IsWhole, begins, encloses, ends, is_size, lies_in, pixel_at, row_at, white_line, window};
 ghost use Rattle.fx_canvas.specs.declared.canvas.CanvasError.TheVariants.{Memory};
 ghost use Rattle.fx_row_text.specs.Rows.{row_text};
 
@@ -74,16 +74,25 @@ impl Canvas {
         })
     }
 
+    /// Promises on its rows: there are as many as it is high, each as long as it is wide.
+    pub fn laws(&self)
+        ensures { IsWhole self.now }
+    {
+        let _width = self.width;
+    }
+
     /// How many columns it has.
     pub fn width(&self) -> u32
-        ensures { result ≡ self.now.width }
+        ensures value { result ≡ self.now.width }
+        ensures narrow { result ≤ 2048 }
     {
         self.width
     }
 
     /// How many rows it has.
     pub fn height(&self) -> u32
-        ensures { result ≡ self.now.height }
+        ensures value { result ≡ self.now.height }
+        ensures low { result ≤ 2048 }
     {
         self.height
     }
@@ -122,7 +131,9 @@ impl Canvas {
     /// The pixels of a row, each 0x00RRGGBB, counted from the top.
     pub fn row(&self, y: u32) -> &[u32]
         requires { y < self.now.height }
-        ensures { result.now ≡ (row_at self.now.rows y).pixels }
+        ensures pixels { result.now ≡ (row_at self.now.rows y).pixels }
+        ensures long { length result.now ≡ self.now.width }
+        ensures narrow { length result.now ≤ 2048 }
     {
         self.rows[y as usize].pixels()
     }

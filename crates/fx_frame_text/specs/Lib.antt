@@ -1,0 +1,2 @@
+pub mod Canvases
+pub mod Frames

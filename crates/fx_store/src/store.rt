@@ -1,6 +1,7 @@
 //! The store itself: its parts, what contracts see of them, and the calls that change nothing but one part.
 ghost use Rattle.std.specs.Prelude.{ℕ, ◌≡◌, ◌≢◌, ◌≤◌, ◌+◌, ◌↔◌, ◌==◌, ◌⊎◌, [], ◌∷◌, false, true, All, Contains, Err, IfErr, Some, IfOk, IsTrue, OnErr, OnOk, length, option_copied};
 ghost use Rattle.std.specs.List.{list_any};
+ghost use Rattle.fx_base.specs.Names.{numbers};
 ghost use Rattle.fx_base.specs.Printing.{kind_of};
 ghost use Rattle.fx_graph.specs.Known.{known_kind, known_value};
 ghost use Rattle.fx_graph.specs.Store.{origin_in};
@@ -8,7 +9,8 @@ ghost use Rattle.fx_handles.specs.Living.{after_make};
 ghost use Rattle.fx_listen.specs.Listening.{IsSound, has_life, is_live};
 ghost use Rattle.fx_graph_model.specs.Eager.{eager};
 ghost use Rattle.fx_graph_model.specs.Refusals.{declare_refusal, read_only_in};
-ghost use Rattle.fx_graph_model.specs.Unread.{IsClosed, after_reading, evaluations, marked};
+ghost use Rattle.fx_graph_model.specs.Changes.{AreKnown};
+ghost use Rattle.fx_graph_model.specs.Unread.{IsClosed, after_reading, after_reads, evaluations, evaluations_of, marked};
 ghost use Rattle.fx_graph_model.specs.Sound.{AreSound, IsAcyclic};
 ghost use Rattle.fx_graph_model.specs.Uses.{bound_in};
 ghost use Rattle.fx_store_model.specs.Applied.{Applied};
@@ -25,7 +27,7 @@ use fx_handles::{Owner, Owners};
 use fx_listen::{Listeners, has_life};
 use fx_store_model::{Change, Notices, StoreError};
 use fx_store_pairs::Pairs;
-use std::alloc::Global;
+use std::alloc::{AllocError, Global};
 use std::marker::Model;
 
 /// Properties, the pairs of those that change together, listeners and their owners. Contracts see the definitions,
@@ -136,6 +138,25 @@ impl Store {
     {
         let value = self.graph.read(alloc, name, work)?;
         Ok(value)
+    }
+
+    /// Reads these known properties one after another. Where memory is wanting, some properties may have been read.
+    pub fn read_all<L: Ledgers>(
+        &mut self,
+        alloc: Global,
+        names: &[Name],
+        work: &mut Work<L>,
+    ) -> Result<(), AllocError>
+        requires { AreKnown self.old.entries names.now }
+        ensures ok { OnOk result (self.new
+            ≡ with_unread (after_reads self.old.entries (numbers names.now) self.old.unread) self.old) }
+        ensures part { IsReadSome self.old self.new }
+        ensures cost { work.new.evaluated
+            ≤ work.old.evaluated + evaluations_of self.old.entries (numbers names.now) self.old.unread }
+        ensures others { work.new ≡ record work.old { evaluated = work.new.evaluated } }
+    {
+        self.graph.read_all(alloc, names, work)?;
+        Ok(())
     }
 
     /// A further owner of listeners.

@@ -99,6 +99,34 @@ impl Graph {
         &self.handlers
     }
 
+    /// The scene's own style sheets, in their order.
+    pub fn sheets(&self) -> &[Sheet]
+        ensures { result.now ≡ self.now.sheets }
+    {
+        self.sheets.as_slice()
+    }
+
+    /// The nodes that the pointer is over, from the outermost.
+    pub fn hover(&self) -> &[NodeKey]
+        ensures { result.now ≡ self.now.hover }
+    {
+        self.hover.as_slice()
+    }
+
+    /// The nodes that the button holds, from the outermost.
+    pub fn pressed(&self) -> &[NodeKey]
+        ensures { result.now ≡ self.now.pressed }
+    {
+        self.pressed.as_slice()
+    }
+
+    /// The node that has the focus.
+    pub fn focus(&self) -> Option<NodeKey>
+        ensures { result ≡ self.now.focus }
+    {
+        self.focus
+    }
+
     /// The node is known by this path, too.
     pub fn add_path(&mut self, path: Vec<Text>, key: NodeKey) -> Result<(), AllocError>
         requires { node_at self.old.paths path.items ≡ None }

@@ -56,7 +56,7 @@ use Rattle.fx_stage_model.specs.Sound.{IsSound}
 use Rattle.fx_stage_model.specs.Taking.{IsTaken, IsUnfinished}
 use Rattle.fx_stage_model.specs.World.{World, still_written, with_graph, with_store}
 use Rattle.fx_stage.specs.Dropping.{are_gone, dropped_if}
-use Rattle.fx_stage.specs.Told.{told_as}
+use Rattle.fx_stage_words.specs.Told.{told_as}
 use Rattle.fx_stage.proofs.TakingLemmas.{IsSettled, IsTidy}
 
 in_none : (name : ℕ) → Contains [] name → ⊥

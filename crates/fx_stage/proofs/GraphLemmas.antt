@@ -14,7 +14,7 @@ use Rattle.fx_stage_model.specs.Nodes.{by_tree}
 use Rattle.fx_stage_model.specs.Properties.{word_in}
 use Rattle.fx_stage_model.specs.Taking.{IsTaken}
 use Rattle.fx_stage_model.specs.World.{World, with_graph}
-use Rattle.fx_stage.specs.Told.{plain_as, silent_as}
+use Rattle.fx_stage_words.specs.Told.{plain_as, silent_as}
 use Rattle.fx_stage.proofs.DeclaringLemmas.{memory_first}
 
 abbrev by_refusal : Option StageError → World → Result Taken Refusal

@@ -33,7 +33,7 @@ use Rattle.fx_stage_model.specs.Taking.{IsPassedOver, IsReadSome, IsTaken, IsUnf
 use Rattle.fx_stage_model.specs.World.{World, is_listening, still_written, with_store}
 use Rattle.fx_stage.specs.Kept.{seen}
 use Rattle.fx_stage.specs.Noting.{IsListen, added, all_noted, has_listener_behind, noted, run_if, written_if}
-use Rattle.fx_stage.specs.Told.{silence, told_as}
+use Rattle.fx_stage_words.specs.Told.{silence, told_as}
 use Rattle.fx_stage.proofs.DeclaringLemmas.{memory_first}
 use Rattle.fx_stage.proofs.TakingLemmas.{IsSettled, all_below}
 use Rattle.fx_stage.proofs.WrittenLemmas.{any_new}

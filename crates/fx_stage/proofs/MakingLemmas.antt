@@ -39,7 +39,7 @@ use Rattle.fx_stage_model.specs.Sound.{IsSound}
 use Rattle.fx_stage_model.specs.Taking.{IsBuilt, IsPassedOver, IsTaken}
 use Rattle.fx_stage_model.specs.World.{World}
 use Rattle.fx_stage.specs.Kept.{seen}
-use Rattle.fx_stage.specs.Told.{key_as, made_as}
+use Rattle.fx_stage_words.specs.Told.{key_as, made_as}
 use Rattle.fx_stage.proofs.HeadLemmas.{key_equal}
 use Rattle.fx_stage.proofs.SoundLemmas.{sound_kept}
 

@@ -15,7 +15,7 @@ use Rattle.fx_stage_model.specs.Lines.{define, lines_of, with_action}
 use Rattle.fx_stage_model.specs.Taking.{IsTaken}
 use Rattle.fx_stage_model.specs.World.{World}
 use Rattle.fx_stage.specs.Kept.{action_of, actions_of}
-use Rattle.fx_stage.specs.Told.{plain_as}
+use Rattle.fx_stage_words.specs.Told.{plain_as}
 use Rattle.fx_stage.proofs.GraphLemmas.{plain_answered}
 
 abbrev Kept : Type 0

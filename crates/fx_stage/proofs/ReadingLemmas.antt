@@ -21,7 +21,7 @@ use Rattle.fx_stage_model.specs.Looking.{find}
 use Rattle.fx_stage_model.specs.Properties.{after_read, get}
 use Rattle.fx_stage_model.specs.Taking.{IsTaken}
 use Rattle.fx_stage_model.specs.World.{World}
-use Rattle.fx_stage.specs.Told.{told_value_as}
+use Rattle.fx_stage_words.specs.Told.{told_value_as}
 
 -- of a known property nothing is refused
 none_unknown : (entries : List Entry) (name : Name) → unknown_in entries name.0 ≡ false → unknown_of (name ∷ []) entries ≡ None

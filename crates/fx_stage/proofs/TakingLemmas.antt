@@ -20,7 +20,7 @@ use Rattle.fx_stage_types.specs.Words.{of_store}
 use Rattle.fx_stage_model.specs.Properties.{by_store, changed, word_in}
 use Rattle.fx_stage_model.specs.Taking.{IsReadSome, IsTaken}
 use Rattle.fx_stage_model.specs.World.{World, is_listening, still_written, with_store}
-use Rattle.fx_stage.specs.Told.{told_as}
+use Rattle.fx_stage_words.specs.Told.{told_as}
 use Rattle.fx_stage.proofs.WrittenLemmas.{given_rises, still_from}
 
 -- of a change that takes no properties away

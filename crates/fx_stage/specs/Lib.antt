@@ -2,4 +2,3 @@ pub mod Dropping
 pub mod Finding
 pub mod Kept
 pub mod Noting
-pub mod Told

@@ -4,17 +4,17 @@ ghost use Rattle.fx_stage_model.specs.Answers.{silently};
 ghost use Rattle.fx_stage_model.specs.Building as spec;
 ghost use Rattle.fx_stage_model.specs.Nodes.{has_no_room, next_key, with_node};
 ghost use Rattle.fx_stage_model.specs.Taking.{IsBuilt, IsTaken};
-ghost use Rattle.fx_stage.specs.Told.{no_node_as};
+ghost use Rattle.fx_stage_words.specs.Told.{no_node_as};
 ghost use Rattle.fx_tree.specs.Scene.{is_alive};
 
 use crate::stage::Stage;
-use crate::telling::{one_node, plain};
 use fx_base::{Ledgers, List, NodeKey, Text, Track, Value, Work};
 use fx_css_types::Sheet;
 use fx_events::{EventKind, Phase};
 use fx_kinds::{Class, Constraint, constraint_of, is_node};
 use fx_stage_rows::declare_rows;
 use fx_stage_types::{BuildStep, NodeEdit, Outcome, Refusal, StageError};
+use fx_stage_words::{one_node, plain};
 use fx_store_model::Change;
 use std::alloc::Global;
 

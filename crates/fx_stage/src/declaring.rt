@@ -8,10 +8,9 @@ ghost use Rattle.fx_stage_model.specs.Properties as spec;
 ghost use Rattle.fx_stage_model.specs.Taking.{IsTaken};
 
 use crate::stage::Stage;
-use crate::telling::nothing;
 use fx_base::{Kind, Text, Value};
 use fx_stage_types::{Outcome, Refusal, StageError};
-use fx_stage_words::read;
+use fx_stage_words::{nothing, read};
 use std::alloc::{AllocError, Global};
 
 /// The most free properties of a script.

@@ -11,11 +11,11 @@ ghost use Rattle.fx_tree.specs.Refusals.{drop_refusal};
 ghost use Rattle.fx_tree.specs.Scene.{subtree};
 
 use crate::stage::Stage;
-use crate::telling::told;
 use fx_base::{Ledgers, List, Name, NodeKey, Text, Work};
 use fx_stage_graph::Graph;
 use fx_stage_rows::row_count;
 use fx_stage_types::{Outcome, StageError};
+use fx_stage_words::told;
 use fx_store::Store;
 use fx_store_model::Change;
 use std::alloc::{AllocError, Global};

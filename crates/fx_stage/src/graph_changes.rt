@@ -9,11 +9,11 @@ ghost use Rattle.fx_stage_model.specs.World.{with_graph};
 ghost use Rattle.fx_tree.specs.Refusals.{detach_refusal, root_refusal};
 
 use crate::stage::Stage;
-use crate::telling::{plain, silent};
 use fx_base::{NodeKey, Text};
 use fx_css_types::Sheet;
 use fx_events::{EventKind, Phase};
 use fx_stage_types::{NodeEdit, Outcome, Spot, StageError};
+use fx_stage_words::{plain, silent};
 use std::alloc::Global;
 
 impl Stage {

@@ -8,6 +8,7 @@ mod declaring;
 mod dressing;
 mod dropping;
 mod finding;
+mod frames;
 mod graph_changes;
 mod lines;
 mod listening;
@@ -17,6 +18,5 @@ mod placing;
 mod properties;
 mod stage;
 mod styling;
-mod telling;
 
 pub use stage::Stage;

@@ -4,11 +4,11 @@ ghost use Rattle.fx_stage_model.specs.Lines as spec;
 ghost use Rattle.fx_stage_model.specs.Taking.{IsTaken};
 
 use crate::stage::Stage;
-use crate::telling::nothing;
 use fx_base::{Ledgers, Work};
 use fx_events::Phase;
 use fx_script_lines::Instruction;
 use fx_stage_types::{Outcome, StageError};
+use fx_stage_words::nothing;
 use std::alloc::Global;
 
 impl Stage {

@@ -14,12 +14,11 @@ ghost use Rattle.indexmap.specs.IndexMap.{spare};
 
 use crate::finding::both;
 use crate::stage::Stage;
-use crate::telling::{nothing, told};
 use fx_base::{Ledgers, List, Name, Text, Work};
 use fx_handles::Owner;
 use fx_listen::ListenKind;
 use fx_stage_types::{Outcome, Refusal, StageError};
-use fx_stage_words::{copy_names, has_place, place_of_name};
+use fx_stage_words::{copy_names, has_place, nothing, place_of_name, told};
 use fx_store::Store;
 use fx_store_model::Change;
 use indexmap::IndexMap;

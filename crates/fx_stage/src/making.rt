@@ -6,12 +6,11 @@ ghost use Rattle.fx_stage_model.specs.Taking.{IsTaken};
 ghost use Rattle.fx_stage_types.specs.Tables.{node_at};
 
 use crate::stage::Stage;
-use crate::telling::made;
 use fx_base::Text;
 use fx_kinds::Class;
 use fx_stage_rows::{declare_rows, row_count};
 use fx_stage_types::{Outcome, Refusal, StageError};
-use fx_stage_words::node_class;
+use fx_stage_words::{made, node_class};
 use std::alloc::{AllocError, Global};
 
 /// The most names that are ever declared.

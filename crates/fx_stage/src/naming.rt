@@ -5,11 +5,10 @@ ghost use Rattle.fx_stage_model.specs.Lines as spec;
 ghost use Rattle.fx_stage_model.specs.Taking.{IsTaken};
 
 use crate::stage::Stage;
-use crate::telling::{nothing, plain};
 use fx_base::Text;
 use fx_script_commands::Line;
 use fx_stage_types::{Outcome, Refusal, StageError};
-use fx_stage_words::side_of;
+use fx_stage_words::{nothing, plain, side_of};
 use std::alloc::Global;
 
 impl Stage {

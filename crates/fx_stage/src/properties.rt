@@ -8,10 +8,9 @@ ghost use Rattle.fx_stage_model.specs.Properties as spec;
 ghost use Rattle.fx_stage_model.specs.Taking.{IsTaken};
 
 use crate::stage::Stage;
-use crate::telling::{told, told_value};
 use fx_base::{Kind, Ledgers, Name, Text, Work};
 use fx_stage_types::{Outcome, Refusal, StageError};
-use fx_stage_words::read;
+use fx_stage_words::{read, told, told_value};
 use fx_store_model::Change;
 use std::alloc::Global;
 

@@ -4,11 +4,10 @@ ghost use Rattle.fx_stage_model.specs.Dressing as spec;
 ghost use Rattle.fx_stage_model.specs.Taking.{IsTaken};
 
 use crate::stage::Stage;
-use crate::telling::nothing;
 use fx_base::{NodeKey, Text};
 use fx_css_types::Sheet;
 use fx_stage_types::{NodeEdit, Outcome, Refusal, StageError};
-use fx_stage_words::{copy_places, read_style};
+use fx_stage_words::{copy_places, nothing, read_style};
 use std::alloc::Global;
 
 impl Stage {

@@ -1,5 +1,5 @@
 //! What single words of a line say: types of events, pseudo-classes, numbers, spots of children, values of constraints,
-//! inline styles, and classes of nodes.
+//! inline styles, and classes of nodes; and what the answers of the parts tell, as a stage tells it.
 #![tactic(auto)]
 
 mod constraints;
@@ -9,6 +9,7 @@ mod numbers;
 mod operands;
 mod spots;
 mod styles;
+mod telling;
 
 pub use constraints::{constraint_edit, read};
 pub use events::{event_named, is_own_pseudo};
@@ -17,3 +18,4 @@ pub use numbers::{number_of, side_of};
 pub use operands::has_operands;
 pub use spots::spot_of;
 pub use styles::{copy_places, read_style};
+pub use telling::{made, nothing, one_node, plain, silent, told, told_value};

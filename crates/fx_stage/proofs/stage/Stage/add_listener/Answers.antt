@@ -7,7 +7,7 @@ use Rattle.fx_stage_model.specs.Taking.{IsTaken}
 use Rattle.fx_stage_model.specs.World.{World, is_listening, with_store}
 use Rattle.fx_stage.specs.Kept.{seen}
 use Rattle.fx_stage.specs.Noting.{added, has_listener_behind, run_if, written_if}
-use Rattle.fx_stage.specs.Told.{told_as}
+use Rattle.fx_stage_words.specs.Told.{told_as}
 use Rattle.fx_stage.proofs.ListeningLemmas.{added_taken, first_true, has_new, listen_keeps, new_given, not_there, numbered_if, perhaps_noted, view_noted}
 use Rattle.fx_stage.proofs.SoundLemmas.{sound_kept}
 use Rattle.fx_stage.proofs.TakingLemmas.{changed_taken, given_settled, listening_from, settled, written_again}

@@ -6,7 +6,7 @@ use Rattle.fx_stage_model.specs.Properties.{changed}
 use Rattle.fx_stage_model.specs.Taking.{IsTaken}
 use Rattle.fx_stage_model.specs.World.{World, with_store}
 use Rattle.fx_stage.specs.Kept.{seen}
-use Rattle.fx_stage.specs.Told.{told_as}
+use Rattle.fx_stage_words.specs.Told.{told_as}
 use Rattle.fx_stage.proofs.SoundLemmas.{sound_kept}
 use Rattle.fx_stage.proofs.TakingLemmas.{all_below, changed_taken, given_settled, listening_from, settled, written_again}
 use Rattle.fx_stage.proofs.WrittenLemmas.{still_twice}

@@ -11,7 +11,7 @@ use Rattle.fx_stage_model.specs.Taking.{IsTaken}
 use Rattle.fx_stage_model.specs.World.{World, with_graph, with_store}
 use Rattle.fx_stage.specs.Dropping.{dropped_if}
 use Rattle.fx_stage.specs.Kept.{seen}
-use Rattle.fx_stage.specs.Told.{told_as}
+use Rattle.fx_stage_words.specs.Told.{told_as}
 use Rattle.fx_stage.proofs.DroppingLemmas.{all_known, forgotten_taken, found_gone, settled_by, sound_by}
 use Rattle.fx_stage.proofs.TakingLemmas.{all_below, given_settled, listening_from, written_again}
 use Rattle.fx_stage.proofs.WrittenLemmas.{still_twice}

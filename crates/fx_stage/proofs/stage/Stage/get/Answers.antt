@@ -7,7 +7,7 @@ use Rattle.fx_stage_model.specs.Properties.{get}
 use Rattle.fx_stage_model.specs.Taking.{IsTaken}
 use Rattle.fx_stage_model.specs.World.{World, still_written}
 use Rattle.fx_stage.specs.Kept.{seen}
-use Rattle.fx_stage.specs.Told.{told_value_as}
+use Rattle.fx_stage_words.specs.Told.{told_value_as}
 use Rattle.fx_stage.proofs.FoundLemmas.{found_known}
 use Rattle.fx_stage.proofs.ReadingLemmas.{get_taken, listeners_kept}
 use Rattle.fx_stage.proofs.stage.Stage.get.Goals as goal

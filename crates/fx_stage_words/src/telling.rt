@@ -1,6 +1,6 @@
 //! What the store's answers tell, as a stage tells it.
 ghost use Rattle.std.specs.Prelude.{◌≡◌};
-ghost use Rattle.fx_stage.specs.Told.{key_as, made_as, plain_as, silence, silent_as, told_as, told_value_as};
+ghost use Rattle.fx_stage_words.specs.Told.{key_as, made_as, plain_as, silence, silent_as, told_as, told_value_as};
 
 use fx_base::{List, NodeKey, Value};
 use fx_stage_types::{Outcome, StageError};
@@ -8,10 +8,7 @@ use fx_store_model::{Notices, StoreError};
 use std::alloc::{AllocError, Global};
 
 /// What a change of the store tells.
-pub(crate) fn told(
-    alloc: Global,
-    answer: Result<Notices, StoreError>,
-) -> Result<Outcome, StageError>
+pub fn told(alloc: Global, answer: Result<Notices, StoreError>) -> Result<Outcome, StageError>
     ensures { result ≡ told_as answer }
 {
     match answer {
@@ -24,10 +21,7 @@ pub(crate) fn told(
 }
 
 /// What a read of the store tells.
-pub(crate) fn told_value(
-    alloc: Global,
-    answer: Result<Value, StoreError>,
-) -> Result<Outcome, StageError>
+pub fn told_value(alloc: Global, answer: Result<Value, StoreError>) -> Result<Outcome, StageError>
     ensures { result ≡ told_value_as answer }
 {
     match answer {
@@ -40,7 +34,7 @@ pub(crate) fn told_value(
 }
 
 /// Nothing is told.
-pub(crate) fn nothing(alloc: Global) -> Outcome
+pub fn nothing(alloc: Global) -> Outcome
     ensures { result ≡ silence }
 {
     Outcome {
@@ -56,7 +50,7 @@ pub(crate) fn nothing(alloc: Global) -> Outcome
 }
 
 /// What a change of the scene graph tells: nothing, if it isn't refused.
-pub(crate) fn silent(alloc: Global, answer: Result<(), StageError>) -> Result<Outcome, StageError>
+pub fn silent(alloc: Global, answer: Result<(), StageError>) -> Result<Outcome, StageError>
     ensures { result ≡ silent_as answer }
 {
     match answer {
@@ -66,7 +60,7 @@ pub(crate) fn silent(alloc: Global, answer: Result<(), StageError>) -> Result<Ou
 }
 
 /// What a change of the scene graph tells that only want of memory can hinder.
-pub(crate) fn plain(alloc: Global, answer: Result<(), AllocError>) -> Result<Outcome, StageError>
+pub fn plain(alloc: Global, answer: Result<(), AllocError>) -> Result<Outcome, StageError>
     ensures { result ≡ plain_as answer }
 {
     match answer {
@@ -76,10 +70,7 @@ pub(crate) fn plain(alloc: Global, answer: Result<(), AllocError>) -> Result<Out
 }
 
 /// What the making of a node tells: nothing, if it isn't refused.
-pub(crate) fn made(
-    alloc: Global,
-    answer: Result<NodeKey, StageError>,
-) -> Result<Outcome, StageError>
+pub fn made(alloc: Global, answer: Result<NodeKey, StageError>) -> Result<Outcome, StageError>
     ensures { result ≡ made_as answer }
 {
     match answer {
@@ -89,7 +80,7 @@ pub(crate) fn made(
 }
 
 /// The answer of a step that makes a node.
-pub(crate) fn one_node(answer: Result<NodeKey, StageError>) -> Result<Option<NodeKey>, StageError>
+pub fn one_node(answer: Result<NodeKey, StageError>) -> Result<Option<NodeKey>, StageError>
     ensures { result ≡ key_as answer }
 {
     match answer {

@@ -1,0 +1,9 @@
+pub mod CodeLemmas
+pub mod DepthLemmas
+pub mod FactsLemmas
+pub mod LawLemmas
+pub mod LoopLemmas
+pub mod PublishLemmas
+pub mod ReadLemmas
+pub mod TreeLemmas
+pub mod ValueLemmas

@@ -1,0 +1,32 @@
+use Rattle.std.proofs.Common.{◌∙◌, ◌+◌, ◌++◌, Bool, ap, arith, drop, sym}
+use Rattle.fx_base.specs.Names.{numbers}
+use Rattle.fx_kinds.specs.Properties.{properties_of}
+use Rattle.fx_stage_rows.proofs.RowLemmas.{as_long, few_rows}
+use Rattle.fx_stage_facts.specs.Attached.{displayed_from, one_if}
+use Rattle.fx_stage_facts.proofs.LoopLemmas.{displayed_next, piece_done, row_left}
+use Rattle.fx_stage_facts.proofs.attached.push_displayed.Goals as goal
+
+pub overflow_cast-name : goal.overflow_cast-name
+overflow_cast-name c =
+    let class = c.args.node.now.class in
+    let long = as_long class c.properties-row-items.result.now c.properties-row-items.ensures in
+    omega (arith, long, few_rows class, c.loop-place-test.true)
+
+pub overflow_add-name : goal.overflow_add-name
+overflow_add-name c =
+    let class = c.args.node.now.class in
+    let long = as_long class c.properties-row-items.result.now c.properties-row-items.ensures in
+    omega (arith, long, few_rows class, c.loop-place-test.true, c.requires)
+
+pub loop-place-preserved : goal.loop-place-preserved
+loop-place-preserved c =
+    let class = c.args.node.now.class in
+    let first = c.args.node.now.first in
+    let place = c.loop-place.place in
+    let more = displayed_from (first + (place + 1)) (drop (place + 1) (properties_of class)) in
+    piece_done (numbers c.loop-place.names.items) (numbers c.push_if.new.names.items) _
+    (displayed_from (first + place) (drop place (properties_of class))) more _ c.in_ok-push_if.ensures
+    (displayed_next first (properties_of class) place _
+    (row_left class c.properties-row-items.result.now place _ c.properties-row-items.ensures c.loop-place-test.true)
+    ∙ ap (λ (b : Bool). one_if b (first + place) ++ more) (sym c.is_displayed.ensures))
+    c.loop-place.invariant

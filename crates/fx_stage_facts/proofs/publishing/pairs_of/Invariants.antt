@@ -1,0 +1,7 @@
+use Rattle.std.proofs.Common.{◌≡◌, take}
+use Rattle.fx_stage_facts.specs.Publishing.{pairs_of}
+use Rattle.fx_stage_facts.proofs.publishing.pairs_of.Given as goal
+
+-- the sizes so far
+abbrev pub invariant-loop-size : goal.invariant-loop-size
+invariant-loop-size l = l.pairs.items ≡ pairs_of l.stage (take l.size-index l.sizes)

@@ -1,0 +1,30 @@
+use Rattle.std.proofs.Common.{◌∙◌, List, sym, subst}
+use Rattle.fx_base.specs.declared.keys.Name.{Name}
+use Rattle.fx_base.specs.declared.values.Value.{Value}
+use Rattle.fx_store_model.specs.declared.changes.Change.TheVariants.{Publish}
+use Rattle.fx_store_model.specs.Step.{IsFit}
+use Rattle.fx_stage_model.specs.Properties.{changed}
+use Rattle.fx_stage_model.specs.Taking.{IsTaken}
+use Rattle.fx_stage_facts.proofs.PublishLemmas.{publish_fits, published_err, published_ok}
+use Rattle.fx_stage_facts.proofs.publishing.publish.Goals as goal
+
+pub publish-requires : goal.publish-requires
+publish-requires g c =
+    subst (λ (pairs : List (Name × Value)). IsFit (Publish pairs) c.args.stage.now.store)
+    (sym (c.from_vec.ensures ∙ c.in_ok-pairs.ensures))
+    (publish_fits c.args.stage.now c.laws.ensures c.args.sizes.now c.requires)
+
+pub returns-in-Ok : goal.returns-in-Ok
+returns-in-Ok g c =
+    published_ok c.args.stage.now c.publish.new.self c.keep_window.new.self c.args.window c.args.sizes.now c.publish.result
+    c.in-Ok.outcome c.laws.ensures
+    (subst (λ (pairs : List (Name × Value)). IsTaken (changed (Publish pairs) c.args.stage.now) c.args.stage.now c.publish.new.self c.publish.result)
+    (c.from_vec.ensures ∙ c.in_ok-pairs.ensures) c.publish.ensures)
+    c.in-Ok.is c.keep_window.ensures
+
+pub returns-in-Err : goal.returns-in-Err
+returns-in-Err g c =
+    published_err c.args.stage.now c.publish.new.self c.args.sizes.now c.publish.result c.in-Err.field-0 c.laws.ensures
+    (subst (λ (pairs : List (Name × Value)). IsTaken (changed (Publish pairs) c.args.stage.now) c.args.stage.now c.publish.new.self c.publish.result)
+    (c.from_vec.ensures ∙ c.in_ok-pairs.ensures) c.publish.ensures)
+    c.in-Err.is

@@ -1,0 +1,10 @@
+pub mod Attached
+pub mod Boxes
+pub mod Laws
+pub mod Publishing
+pub mod Reads
+pub mod Scenes
+pub mod Sheets
+pub mod Stands
+pub mod Styles
+pub mod Values

@@ -1,0 +1,76 @@
+//! The nodes that stand in the scene, and the properties that a frame reads of them.
+ghost use Rattle.std.specs.Prelude.{◌≡◌, ◌≤◌, ◌++◌, IfOk, OnOk, Some};
+ghost use Rattle.fx_base.specs.Names.{numbers};
+ghost use Rattle.fx_base.specs.declared.keys.NodeKey.{NodeKey as Key};
+ghost use Rattle.fx_stage_types.specs.Tables.{data_of};
+ghost use Rattle.fx_stage_types.specs.declared.node_data.NodeData.{NodeData as Data};
+ghost use Rattle.fx_stage_facts.specs.Attached as spec;
+
+use fx_base::{Name, NodeKey};
+use fx_kinds::properties;
+use fx_stage_graph::Graph;
+use fx_stage_types::NodeData;
+use fx_tree::Tree;
+use std::alloc::{AllocError, Global};
+
+/// The nodes that stand in the scene, in pre-order.
+pub(crate) fn attached(alloc: Global, tree: &Tree) -> Result<Vec<NodeKey>, AllocError>
+    ensures { IfOk result (λ keys. keys.items ≡ spec.keys_in tree.now) }
+{
+    match tree.root() {
+        None => Ok(Vec::new(alloc)),
+        Some(root) => match tree.subtree(alloc, root) {
+            Ok(keys) => Ok(keys),
+            Err(_) => Err(AllocError),
+        },
+    }
+}
+
+/// Does a frame read the property of this name?
+fn is_displayed(name: &str) -> bool
+    ensures { result ≡ spec.is_displayed name.now }
+{
+    !(name == "width" || name == "height")
+}
+
+/// Puts the name behind the others, if it is so.
+fn push_if(names: &mut Vec<Name>, so: bool, name: Name) -> Result<(), AllocError>
+    ensures { OnOk result (numbers names.new.items ≡ numbers names.old.items ++ spec.one_if so name.0) }
+{
+    if !so {
+        return Ok(());
+    }
+    names.push(name)?;
+    Ok(())
+}
+
+/// Puts the properties of a node that a frame reads behind the names.
+fn push_displayed(names: &mut Vec<Name>, node: &NodeData) -> Result<(), AllocError>
+    requires { node.now.first ≤ 4000000 }
+    ensures { OnOk result (numbers names.new.items ≡ numbers names.old.items ++ spec.displayed_in (Some node.now)) }
+{
+    for (place, row) in properties(node.class).iter().enumerate() {
+        let name = Name(node.first + place as u32);
+        push_if(names, is_displayed(row.name), name)?;
+    }
+    Ok(())
+}
+
+/// The properties that a frame reads of these nodes.
+pub(crate) fn display_names(
+    alloc: Global,
+    graph: &Graph,
+    keys: &[NodeKey],
+) -> Result<Vec<Name>, AllocError>
+    requires low { (key : Key) (node : Data) → data_of graph.now.table key ≡ Some node → node.first ≤ 4000000 }
+    ensures { IfOk result (λ names. numbers names.items ≡ spec.displayed_of graph.now.table keys.now) }
+{
+    let mut names = Vec::new(alloc);
+    for key in keys {
+        match graph.node(*key) {
+            None => {}
+            Some(node) => push_displayed(&mut names, node)?,
+        }
+    }
+    Ok(names)
+}

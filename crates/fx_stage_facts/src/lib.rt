@@ -1,0 +1,17 @@
+//! What a frame takes from a stage: the style sheets, and of each node in the scene what its style and its layout hang
+//! on. All lists are made anew each time. And what a frame gives back: the window, and the size of each node.
+#![tactic(auto)]
+
+mod attached;
+mod boxes;
+mod facts;
+mod laws;
+mod publishing;
+mod sheets;
+mod stands;
+mod styles;
+mod values;
+
+pub use facts::{Facts, read_facts};
+pub use laws::{facts_fit_together, nodes_are_a_tree};
+pub use publishing::publish;

@@ -1,0 +1,143 @@
+//! What a frame gives back to the stage: the window, and the sizes of nodes.
+ghost use Rattle.std.specs.Prelude.{◌≡◌, ◌≤◌, ◌++◌, IfOk, OnOk, Some};
+ghost use Rattle.fx_stage_types.specs.Tables.{data_of};
+ghost use Rattle.fx_stage_types.specs.declared.node_data.NodeData.{NodeData as Data};
+ghost use Rattle.fx_base.specs.declared.keys.NodeKey.{NodeKey as Key};
+ghost use Rattle.fx_stage_facts.specs.Publishing as spec;
+
+use crate::values::name_in;
+use fx_base::{Kind, Ledgers, List, Name, NodeKey, Value, Work};
+use fx_stage::Stage;
+use fx_stage_types::{NodeData, Outcome};
+use fx_store::Store;
+use fx_store_model::Notices;
+use std::alloc::{AllocError, Global};
+
+fn is_number(kind: Option<Kind>) -> bool
+    ensures { result ≡ spec.is_number kind }
+{
+    match kind {
+        Some(Kind::Int) => true,
+        _ => false,
+    }
+}
+
+/// Is it a number that only the player writes?
+fn is_size(store: &Store, name: Name) -> bool
+    ensures { result ≡ spec.is_size store.now.entries name.0 }
+{
+    store.is_read_only(name) && is_number(store.kind(name))
+}
+
+/// The node's property of this name, if it is such a number.
+fn size_named(store: &Store, node: &NodeData, property: &str) -> Option<Name>
+    requires { node.now.first ≤ 4000000 }
+    ensures { result ≡ spec.size_named store.now.entries node.now property.now }
+{
+    match name_in(node, property) {
+        None => None,
+        Some(name) => if_size(store, name),
+    }
+}
+
+fn if_size(store: &Store, name: Name) -> Option<Name>
+    ensures { result ≡ spec.size_if store.now.entries name.0 }
+{
+    if is_size(store, name) {
+        Some(name)
+    } else {
+        None
+    }
+}
+
+/// Puts the node's property of this name behind the others, with this length.
+fn push_pair(
+    pairs: &mut Vec<(Name, Value)>,
+    store: &Store,
+    node: &NodeData,
+    property: &str,
+    length: i64,
+) -> Result<(), AllocError>
+    requires { node.now.first ≤ 4000000 }
+    ensures { OnOk result (pairs.new.items
+        ≡ pairs.old.items ++ spec.pair_of store.now.entries node.now property.now length) }
+{
+    match size_named(store, node, property) {
+        None => Ok(()),
+        Some(name) => {
+            pairs.push((name, Value::Int(length)))?;
+            Ok(())
+        }
+    }
+}
+
+fn push_both(
+    pairs: &mut Vec<(Name, Value)>,
+    store: &Store,
+    node: &NodeData,
+    width: i64,
+    height: i64,
+) -> Result<(), AllocError>
+    requires { node.now.first ≤ 4000000 }
+    ensures { OnOk result (pairs.new.items
+        ≡ pairs.old.items ++ spec.pairs_in store.now.entries width height (Some node.now)) }
+{
+    push_pair(pairs, store, node, "width", width)?;
+    push_pair(pairs, store, node, "height", height)
+}
+
+/// Puts the two properties of a node behind the others.
+fn push_size(
+    pairs: &mut Vec<(Name, Value)>,
+    stage: &Stage,
+    size: &(NodeKey, i64, i64),
+) -> Result<(), AllocError>
+    requires low { (node : Data) → data_of stage.now.graph.table size.now.0 ≡ Some node → node.first ≤ 4000000 }
+    ensures { OnOk result (pairs.new.items ≡ pairs.old.items ++ spec.pairs_at stage.now size.now) }
+{
+    let (key, width, height) = *size;
+    match stage.graph().node(key) {
+        None => Ok(()),
+        Some(node) => push_both(pairs, stage.store(), node, width, height),
+    }
+}
+
+/// The two properties of each of these nodes, with their values.
+fn pairs_of(
+    alloc: Global,
+    stage: &Stage,
+    sizes: &[(NodeKey, i64, i64)],
+) -> Result<Vec<(Name, Value)>, AllocError>
+    requires low { (key : Key) (node : Data) → data_of stage.now.graph.table key ≡ Some node → node.first ≤ 4000000 }
+    ensures { IfOk result (λ pairs. pairs.items ≡ spec.pairs_of stage.now sizes.now) }
+{
+    let mut pairs = Vec::new(alloc);
+    for size in sizes {
+        push_size(&mut pairs, stage, size)?;
+    }
+    Ok(pairs)
+}
+
+/// Ends a frame: the window has this width and this height from now on, and the nodes have these widths and heights,
+/// in pixels, published in one change.
+pub fn publish<L: Ledgers>(
+    alloc: Global,
+    stage: &mut Stage,
+    window: (u32, u32),
+    sizes: &[(NodeKey, i64, i64)],
+    work: &mut Work<L>,
+) -> Result<Notices, AllocError>
+    requires { spec.AreOnce sizes.now }
+    ensures { spec.IsPublished window sizes.now stage.old stage.new result }
+{
+    stage.laws();
+    let pairs = pairs_of(alloc, stage, sizes)?;
+    match stage.publish(alloc, List::from_vec(pairs), work) {
+        Ok(outcome) => {
+            let Outcome { notices, .. } = outcome;
+            stage.keep_window(window);
+            Ok(notices)
+        }
+        Err(_) => Err(AllocError),
+    }
+}

@@ -1,0 +1,86 @@
+//! Where the nodes of a scene stand among each other.
+ghost use Rattle.std.specs.Prelude.{◌≡◌, [], IfOk};
+ghost use Rattle.std.specs.List.{position};
+ghost use Rattle.fx_tree.specs.Scene.{is_same, parent_of};
+ghost use Rattle.fx_stage_facts.specs.Reads.{AreRead, IsReadAt};
+ghost use Rattle.fx_stage_facts.specs.Stands as spec;
+
+use crate::values::is_set_disabled;
+use fx_base::NodeKey;
+use fx_stage::Stage;
+use fx_tree::Tree;
+use std::alloc::{AllocError, Global};
+
+/// A node in a list: its key, the place of its parent in the list, and whether it or an ancestor is disabled.
+#[derive(Clone, Copy)]
+pub struct Stand {
+    pub key: NodeKey,
+    pub parent: Option<usize>,
+    pub disabled: bool,
+}
+
+/// Are the keys those of one node?
+pub(crate) fn is_same(one: NodeKey, other: NodeKey) -> bool
+    ensures { result ≡ is_same one other }
+{
+    one.slot == other.slot && one.birth == other.birth
+}
+
+fn place_in(stands: &[Stand], key: NodeKey) -> Option<usize>
+    ensures { result ≡ position (λ stand. is_same stand.key key) stands.now }
+{
+    stands.iter().position(|stand| is_same(stand.key, key))
+}
+
+/// The place of a node's parent among the nodes.
+fn parent_place(tree: &Tree, stands: &[Stand], key: NodeKey) -> Option<usize>
+    ensures { result ≡ spec.place_of stands.now (parent_of tree.now.nodes key) }
+{
+    match tree.parent(key) {
+        None => None,
+        Some(parent) => place_in(stands, parent),
+    }
+}
+
+fn is_disabled_at(stands: &[Stand], parent: Option<usize>) -> bool
+    ensures { result ≡ spec.is_disabled_at stands.now parent }
+{
+    match parent {
+        None => false,
+        Some(place) => match stands.get(place) {
+            None => false,
+            Some(stand) => stand.disabled,
+        },
+    }
+}
+
+/// Where a further node stands.
+fn stand_of(stage: &Stage, stands: &[Stand], key: NodeKey) -> Stand
+    requires { IsReadAt stage.now key }
+    ensures { result ≡ spec.stand_of stage.now stands.now key }
+{
+    let parent = parent_place(stage.graph().tree(), stands, key);
+    let own = is_set_disabled(stage, key);
+    Stand {
+        key,
+        parent,
+        disabled: own || is_disabled_at(stands, parent),
+    }
+}
+
+/// Where the nodes of these keys stand.
+pub(crate) fn stands_of(
+    alloc: Global,
+    stage: &Stage,
+    keys: &[NodeKey],
+) -> Result<Vec<Stand>, AllocError>
+    requires { AreRead stage.now keys.now }
+    ensures { IfOk result (λ stands. stands.items ≡ spec.stands_from stage.now [] keys.now) }
+{
+    let mut stands = Vec::with_capacity(alloc, keys.len())?;
+    for key in keys {
+        let stand = stand_of(stage, stands.as_slice(), *key);
+        stands.push(stand)?;
+    }
+    Ok(stands)
+}

@@ -1,0 +1,246 @@
+//! What the style of each node in a scene hangs on.
+ghost use Rattle.std.specs.Prelude.{◌≡◌, ◌≤◌, ◌+◌, ◌++◌, IfOk, IfSome, OnOk, Some, false, length, option_to_list};
+ghost use Rattle.std.specs.List.{flat_map};
+ghost use Rattle.std.specs.Option.{option_map};
+ghost use Rattle.fx_graph_model.specs.Uses.{unknown_in};
+ghost use Rattle.fx_graph_model.specs.Unread.{marked};
+ghost use Rattle.fx_kinds.specs.Properties.{properties_of};
+ghost use Rattle.fx_stage_facts.specs.Reads.{AreReadStands, IsRead, IsReadAt};
+ghost use Rattle.fx_stage_facts.specs.Sheets.{common_sheets as common_of, inline_place, sheets_at};
+ghost use Rattle.fx_stage_facts.specs.Styles as spec;
+
+use crate::sheets::{places_of, push_sheets};
+use crate::stands::{Stand, is_same};
+use crate::values::text_in;
+use fx_base::{List, Name, NodeKey, Text};
+use fx_css_types::{Sheet, SheetAt};
+use fx_graph_model::Origin;
+use fx_kinds::{Class, StyleFacts, properties};
+use fx_look::{CodeValue, StyleName};
+use fx_stage::Stage;
+use fx_stage_graph::Graph;
+use fx_stage_types::NodeData;
+use fx_store::Store;
+use std::alloc::{AllocError, Global};
+
+fn is_among(keys: &[NodeKey], key: NodeKey) -> bool
+    ensures { result ≡ spec.is_among keys.now key }
+{
+    keys.iter().any(|other| is_same(*other, key))
+}
+
+fn is_focus(focus: Option<NodeKey>, key: NodeKey) -> bool
+    ensures { result ≡ spec.is_focus focus key }
+{
+    match focus {
+        None => false,
+        Some(focus) => is_same(focus, key),
+    }
+}
+
+/// Puts the name behind the others, if it is so.
+fn push_if(alloc: Global, names: &mut Vec<Text>, so: bool, name: &str) -> Result<(), AllocError>
+    ensures { OnOk result (names.new.items ≡ names.old.items ++ spec.named_if so name.now) }
+{
+    if !so {
+        return Ok(());
+    }
+    match Text::from_str(alloc, name) {
+        Ok(name) => {
+            names.push(name)?;
+            Ok(())
+        }
+        Err(_) => Err(AllocError),
+    }
+}
+
+/// The pseudo-classes of a node.
+fn pseudos_of(
+    alloc: Global,
+    graph: &Graph,
+    stand: Stand,
+    node: &NodeData,
+) -> Result<List<Text>, AllocError>
+    ensures { IfOk result (λ names. names ≡ spec.pseudos_of graph.now stand node.now) }
+{
+    let mut names = node.pseudos.copy(alloc)?.into_vec();
+    let key = stand.key;
+    push_if(alloc, &mut names, is_among(graph.hover(), key), "hover")?;
+    push_if(alloc, &mut names, is_focus(graph.focus(), key), "focused")?;
+    push_if(alloc, &mut names, is_among(graph.pressed(), key), "pressed")?;
+    push_if(alloc, &mut names, stand.disabled, "disabled")?;
+    Ok(List::from_vec(names))
+}
+
+/// The value by code of a property that a declaration styles, if it has one.
+fn code_with(
+    alloc: Global,
+    store: &Store,
+    name: Name,
+    style: StyleName,
+) -> Result<Option<CodeValue>, AllocError>
+    requires known { unknown_in store.now.entries name.0 ≡ false }
+    requires read { marked store.now.unread name.0 ≡ false }
+    ensures { IfOk result (λ code. code ≡ spec.code_of store.now.entries name.0 (Some style.0)) }
+{
+    let bound = match store.origin(name) {
+        None => return Ok(None),
+        Some(Origin::Initial) => return Ok(None),
+        Some(Origin::Code) => false,
+        Some(Origin::Bound) => true,
+    };
+    match store.value(name) {
+        None => Ok(None),
+        Some(value) => Ok(Some(CodeValue {
+            style,
+            value: value.copy(alloc)?,
+            bound,
+        })),
+    }
+}
+
+/// Puts the value by code of a property behind the others, if a declaration styles the property and it has one.
+fn push_code(
+    alloc: Global,
+    store: &Store,
+    codes: &mut Vec<CodeValue>,
+    name: Name,
+    styled: Option<StyleName>,
+) -> Result<(), AllocError>
+    requires known { IfSome styled (λ _. unknown_in store.now.entries name.0 ≡ false) }
+    requires read { IfSome styled (λ _. marked store.now.unread name.0 ≡ false) }
+    ensures { OnOk result (codes.new.items ≡ codes.old.items
+        ++ option_to_list (spec.code_of store.now.entries name.0 (option_map (λ style. style.0) styled))) }
+{
+    let Some(style) = styled else {
+        return Ok(());
+    };
+    match code_with(alloc, store, name, style)? {
+        None => Ok(()),
+        Some(code) => {
+            codes.push(code)?;
+            Ok(())
+        }
+    }
+}
+
+/// The values by code of a node's properties.
+fn codes_of(alloc: Global, store: &Store, node: &NodeData) -> Result<List<CodeValue>, AllocError>
+    requires { IsRead store.now node.now }
+    ensures { IfOk result (λ codes. codes
+        ≡ spec.codes_from store.now.entries node.now.first (properties_of node.now.class)) }
+{
+    let mut codes = Vec::new(alloc);
+    for (place, row) in properties(node.class).iter().enumerate() {
+        let name = Name(node.first + place as u32);
+        push_code(alloc, store, &mut codes, name, row.styled)?;
+    }
+    Ok(List::from_vec(codes))
+}
+
+fn inline_place(place: usize, inline: &Option<Sheet>) -> Option<usize>
+    ensures { result ≡ inline_place place inline.now }
+{
+    match inline {
+        None => None,
+        Some(_) => Some(place),
+    }
+}
+
+/// A node that has nothing.
+fn bare_style(alloc: Global, stand: Stand) -> StyleFacts
+    ensures { result ≡ spec.bare_style stand }
+{
+    StyleFacts {
+        key: stand.key,
+        parent: stand.parent,
+        class: Class::Region,
+        id: Text::new(alloc),
+        classes: List::new(alloc),
+        pseudos: List::new(alloc),
+        inline: None,
+        sheets: List::new(alloc),
+        codes: List::new(alloc),
+    }
+}
+
+/// Where the sheets of a node stand: so many count for every node, and its own begin at a place, with so many sheets in
+/// all by now.
+#[derive(Clone, Copy)]
+struct Spot {
+    common: usize,
+    start: usize,
+    end: usize,
+}
+
+/// The facts of a node that has something.
+fn style_with(
+    alloc: Global,
+    stage: &Stage,
+    spot: Spot,
+    stand: Stand,
+    node: &NodeData,
+) -> Result<StyleFacts, AllocError>
+    requires read { IsRead stage.now.store node.now }
+    requires room { spot.start + length node.now.sheets ≤ spot.end }
+    requires common { spot.common ≡ length (common_of stage.now.graph) }
+    ensures { IfOk result (λ facts. facts ≡ spec.style_in stage.now spot.start stand (Some node.now)) }
+{
+    let end = spot.start + node.sheets.as_slice().len();
+    Ok(StyleFacts {
+        key: stand.key,
+        parent: stand.parent,
+        class: node.class,
+        id: text_in(alloc, stage, node, "id")?,
+        classes: node.classes.copy(alloc)?,
+        pseudos: pseudos_of(alloc, stage.graph(), stand, node)?,
+        inline: inline_place(end, &node.inline),
+        sheets: places_of(alloc, spot.common, stand.parent, spot.start, end)?,
+        codes: codes_of(alloc, stage.store(), node)?,
+    })
+}
+
+/// The facts of a node.
+fn style_of(
+    alloc: Global,
+    stage: &Stage,
+    spot: Spot,
+    stand: Stand,
+) -> Result<StyleFacts, AllocError>
+    requires read { IsReadAt stage.now stand.key }
+    requires room { spot.start + length (sheets_at stage.now.graph stand) ≤ spot.end }
+    requires common { spot.common ≡ length (common_of stage.now.graph) }
+    ensures { IfOk result (λ facts. facts ≡ spec.style_at stage.now spot.start stand) }
+{
+    match stage.graph().node(stand.key) {
+        None => Ok(bare_style(alloc, stand)),
+        Some(node) => style_with(alloc, stage, spot, stand, node),
+    }
+}
+
+/// The facts of the nodes. Their sheets go behind those that count for every node.
+pub(crate) fn styles_of(
+    alloc: Global,
+    stage: &Stage,
+    sheets: &mut Vec<SheetAt>,
+    stands: &[Stand],
+) -> Result<Vec<StyleFacts>, AllocError>
+    requires read { AreReadStands stage.now stands.now }
+    requires common { sheets.old.items ≡ common_of stage.now.graph }
+    ensures styles { IfOk result (λ styles. styles.items
+        ≡ spec.styles_from stage.now (length sheets.old.items) stands.now) }
+    ensures sheets { OnOk result (sheets.new.items
+        ≡ sheets.old.items ++ flat_map (sheets_at stage.now.graph) stands.now) }
+{
+    let common = sheets.len();
+    let mut styles = Vec::with_capacity(alloc, stands.len())?;
+    for stand in stands {
+        let start = sheets.len();
+        push_sheets(alloc, sheets, stage.graph(), *stand)?;
+        let end = sheets.len();
+        let spot = Spot { common, start, end };
+        let facts = style_of(alloc, stage, spot, *stand)?;
+        styles.push(facts)?;
+    }
+    Ok(styles)
+}

@@ -1,0 +1,9 @@
+pub mod ToldLemmas
+pub mod CountLemmas
+pub mod PathLemmas
+pub mod FlagLemmas
+pub mod EntryLemmas
+pub mod WindowLemmas
+pub mod ShowLemmas
+pub mod HeadLemmas
+pub mod WorkLemmas

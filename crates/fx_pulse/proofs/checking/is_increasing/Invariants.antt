@@ -1,0 +1,7 @@
+-- those so far rise
+use Rattle.std.proofs.Common.{ℕ, ◌<◌, ◌+◌}
+use Rattle.std.specs.Prelude.{slice_index}
+use Rattle.fx_pulse.proofs.checking.is_increasing.Given as goal
+
+abbrev pub invariant-loop-place : goal.invariant-loop-place
+invariant-loop-place l = (k : ℕ) → k + 1 < l.place → slice_index l.numbers k < slice_index l.numbers (k + 1)

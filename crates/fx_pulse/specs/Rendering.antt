@@ -1,0 +1,34 @@
+-- What is kept of the last frame.
+use Rattle.std.specs.Prelude.{[], List, Option, Some, None}
+use Rattle.std.specs.Option.{option_map}
+use Rattle.fx_base.specs.declared.geometry.Rect.{Rect}
+use Rattle.fx_canvas.specs.Surfaces.{Surface}
+use Rattle.fx_canvas_laws.specs.Frames.{Shows}
+use Rattle.fx_picture.specs.Entries.{HasDistinctBirths, Rises}
+use Rattle.fx_picture.specs.declared.entries.Entry.{Entry}
+use Rattle.fx_pulse_model.specs.Frames.{Framed}
+
+-- the canvas, if there was a frame, the last picture, and the rectangle of each node of the last scene, in its order
+pub record Rendering : Type 0 where
+  pub canvas : Option Surface
+  pub picture : List Entry
+  pub rects : List Rect
+
+-- the last frame, if there was one
+abbrev pub last_frame : Rendering → Option Framed
+last_frame r =
+    option_map (λ (s : Surface). record { width = s.width; height = s.height; picture = r.picture }) r.canvas
+
+-- before the first frame there is nothing to show
+abbrev pub no_surface : Surface
+no_surface = record { width = 0; height = 0; rows = [] }
+
+abbrev pub surface_of : Option Surface → Surface
+surface_of None = no_surface
+surface_of (Some s) = s
+
+-- the canvas shows the picture, whose entries rise and have different birth numbers
+pub record IsShown (r : Rendering) : Type 0 where
+  pub shows : Shows (surface_of r.canvas) r.picture
+  pub rises : Rises r.picture
+  pub births : HasDistinctBirths r.picture

@@ -1,0 +1,146 @@
+//! The picture of a scene whose nodes have their looks and rectangles.
+ghost use Rattle.std.specs.Prelude.{ℕ, ◌≡◌, ◌≤◌, ◌<◌, ◌+◌, IfOk, OnOk, length};
+ghost use Rattle.std.specs.List.{AllZip};
+ghost use Rattle.std.specs.Option.{option_copied};
+ghost use Rattle.fx_layout.specs.Updates.{rect_at};
+ghost use Rattle.fx_layout_sweeps.specs.Nodes.{IsTree, parents};
+ghost use Rattle.fx_pulse_model.specs.Lines.{path_of};
+ghost use Rattle.fx_pulse_model.specs.Pictures.{IsEntry, IsPicture, is_disabled, shows, text_of};
+ghost use Rattle.fx_pulse.specs.Drawing.{drawn, shown_below, told};
+ghost use Rattle.fx_shapes.specs.Rects.{IsNear};
+
+use crate::flags::{disabled_flags, flag_at, shown_flags};
+use crate::paths::{path_at, paths_of};
+use fx_base::{List, Rect, Text};
+use fx_kinds::{BoxFacts, is_control};
+use fx_look::Look;
+use fx_picture::{Entry, Picture};
+use fx_shapes::shapes;
+use std::alloc::{AllocError, Global};
+
+/// Nodes with the look and the rectangle of each, and whether each is disabled itself.
+#[derive(Clone, Copy)]
+pub(crate) struct Laid<'a> {
+    pub boxes: &'a [BoxFacts],
+    pub looks: &'a [Look],
+    pub rects: &'a [Rect],
+    pub disabled: &'a [bool],
+}
+
+/// The path of each node, and whether it is disabled.
+#[derive(Clone, Copy)]
+struct Notes<'a> {
+    paths: &'a [List<u32>],
+    shown: &'a [bool],
+    disabled: &'a [bool],
+}
+
+/// The picture: an entry for each node that shows.
+pub(crate) fn picture_of(alloc: Global, laid: Laid<'_>) -> Result<Picture, AllocError>
+    requires tree { IsTree (parents laid.boxes.now) }
+    requires few { length laid.boxes.now ≤ 4096 }
+    requires looks { length laid.looks.now ≡ length laid.boxes.now }
+    requires rects { length laid.rects.now ≡ length laid.boxes.now }
+    requires near { (k : ℕ) → IsNear (rect_at laid.rects.now k) }
+    ensures { IfOk result (λ picture. IsPicture (drawn laid.entry) picture.entries) }
+{
+    let paths = paths_of(alloc, laid.boxes)?;
+    let shown = shown_flags(alloc, laid)?;
+    let disabled = disabled_flags(alloc, laid)?;
+    let notes = Notes {
+        paths: paths.as_slice(),
+        shown: shown.as_slice(),
+        disabled: disabled.as_slice(),
+    };
+    let entries = entries_of(alloc, laid, notes)?;
+    Ok(Picture {
+        entries: List::from_vec(entries),
+    })
+}
+
+fn entries_of(alloc: Global, laid: Laid<'_>, notes: Notes<'_>) -> Result<Vec<Entry>, AllocError>
+    requires looks { length laid.looks.now ≡ length laid.boxes.now }
+    requires rects { length laid.rects.now ≡ length laid.boxes.now }
+    requires near { (k : ℕ) → IsNear (rect_at laid.rects.now k) }
+    requires paths { notes.paths.now ≡ told (path_of (parents laid.boxes.now)) (length laid.boxes.now) }
+    requires shown { notes.shown.now ≡ told (shows (drawn laid)) (length laid.boxes.now) }
+    requires disabled { notes.disabled.now ≡ told (is_disabled (drawn laid)) (length laid.boxes.now) }
+    ensures { IfOk result (λ entries. IsPicture (drawn laid.entry) entries.items) }
+{
+    let mut entries = Vec::new(alloc);
+    for place in 0..laid.boxes.len() {
+        add_shown(alloc, laid, notes, place, &mut entries)?;
+    }
+    Ok(entries)
+}
+
+/// Adds the entry of a node, if it shows.
+fn add_shown(
+    alloc: Global,
+    laid: Laid<'_>,
+    notes: Notes<'_>,
+    place: usize,
+    entries: &mut Vec<Entry>,
+) -> Result<(), AllocError>
+    requires there { place < length laid.boxes.now }
+    requires looks { length laid.looks.now ≡ length laid.boxes.now }
+    requires rects { length laid.rects.now ≡ length laid.boxes.now }
+    requires near { (k : ℕ) → IsNear (rect_at laid.rects.now k) }
+    requires paths { notes.paths.now ≡ told (path_of (parents laid.boxes.now)) (length laid.boxes.now) }
+    requires shown { notes.shown.now ≡ told (shows (drawn laid)) (length laid.boxes.now) }
+    requires disabled { notes.disabled.now ≡ told (is_disabled (drawn laid)) (length laid.boxes.now) }
+    requires before { AllZip (IsEntry (drawn laid)) (shown_below (drawn laid) place) entries.old.items }
+    ensures { OnOk result (AllZip (IsEntry (drawn laid.entry)) (shown_below (drawn laid.entry) (place + 1))
+        entries.new.items) }
+{
+    if !flag_at(notes.shown, place) {
+        return Ok(());
+    }
+    let entry = entry_of(alloc, laid, notes, place)?;
+    entries.push(entry)?;
+    Ok(())
+}
+
+/// The entry of a node.
+fn entry_of(
+    alloc: Global,
+    laid: Laid<'_>,
+    notes: Notes<'_>,
+    place: usize,
+) -> Result<Entry, AllocError>
+    requires there { place < length laid.boxes.now }
+    requires looks { length laid.looks.now ≡ length laid.boxes.now }
+    requires rects { length laid.rects.now ≡ length laid.boxes.now }
+    requires near { (k : ℕ) → IsNear (rect_at laid.rects.now k) }
+    requires paths { notes.paths.now ≡ told (path_of (parents laid.boxes.now)) (length laid.boxes.now) }
+    requires disabled { notes.disabled.now ≡ told (is_disabled (drawn laid)) (length laid.boxes.now) }
+    ensures { IfOk result (λ entry. IsEntry (drawn laid.entry) place entry) }
+{
+    let node = &laid.boxes[place];
+    let rect = laid.rects[place];
+    let shapes = shapes(alloc, &laid.looks[place], rect, text_of(node))?;
+    Ok(Entry {
+        key: node.key,
+        path: copied(alloc, path_at(notes.paths, place))?,
+        rect,
+        shapes: List::from_vec(shapes),
+        disabled: flag_at(notes.disabled, place),
+        focusable: node.focus_traversable,
+    })
+}
+
+/// The text of a node, if its class shows one.
+fn text_of(node: &BoxFacts) -> Option<&Text>
+    ensures { option_copied result ≡ text_of node.now }
+{
+    if is_control(node.class) {
+        return Some(&node.text);
+    }
+    None
+}
+
+fn copied(alloc: Global, path: &[u32]) -> Result<List<u32>, AllocError>
+    ensures { IfOk result (λ copy. copy ≡ path.now) }
+{
+    Ok(List::from_vec(Vec::from_slice(alloc, path)?))
+}

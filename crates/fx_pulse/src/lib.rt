@@ -1,0 +1,15 @@
+//! Frames: from the facts of a scene to its picture, what the picture damages of the last one, and the pixels of the
+//! window. It is given lists and stands on no stage; the player hands it the scene of each frame.
+#![tactic(auto)]
+
+mod checking;
+mod entries;
+mod flags;
+mod frames;
+mod paths;
+mod renderer;
+mod scenes;
+
+pub use checking::is_scene;
+pub use renderer::{Frame, Renderer};
+pub use scenes::Scene;

@@ -1,0 +1,296 @@
+//! Frame by frame.
+ghost use Rattle.std.specs.Prelude.{ℕ, ◌≡◌, ◌≤◌, ◌<◌, ◌+◌, ◌*◌, length, [], None, true, false, IfOk, IfSome, OnErr, OnOk, is_some};
+ghost use Rattle.std.specs.List.{list_all, sum_by};
+ghost use Rattle.std.specs.Option.{option_copied};
+ghost use Rattle.fx_canvas.specs.Painting.{most_writes};
+ghost use Rattle.fx_canvas.specs.Surfaces.{is_size, lies_in, row_at};
+ghost use Rattle.fx_canvas_laws.specs.Frames.{IsRepainted, Shows};
+ghost use Rattle.fx_picture.specs.Entries.{HasDistinctBirths, Rises};
+ghost use Rattle.fx_damage.specs.Damage.{damage as damage_of};
+ghost use Rattle.fx_pulse_model.specs.Frames.{IsFrame, frame_damage, has_size};
+ghost use Rattle.fx_pulse_model.specs.Scenes.{IsScene};
+ghost use Rattle.fx_pulse.specs.Drawing.{seen};
+ghost use Rattle.fx_pulse.specs.Rendering.{IsShown, last_frame, surface_of};
+ghost use Rattle.fx_pulse.specs.Showing.{IsShowing};
+ghost use Rattle.fx_row_text.specs.Rows.{row_text};
+
+use crate::frames::{Made, made_of};
+use crate::scenes::Scene;
+use fx_base::{Ledgers, Rect, Work};
+use fx_canvas::Canvas;
+use fx_damage::damage;
+use fx_picture::Picture;
+use std::alloc::{AllocError, Global};
+use std::marker::Model;
+
+/// What is kept from one frame to the next: the last picture, the canvas that shows it, and where each node of the last
+/// scene stood. Before the first frame the picture is empty and there is no canvas.
+#[derive(Drop)]
+pub struct Renderer {
+    picture: Picture,
+    canvas: Option<Canvas>,
+    rects: Vec<Rect>,
+}
+
+impl Model for Renderer {
+    ghost use Rattle.fx_pulse.specs.Rendering.{IsShown, Rendering};
+
+    ghost Value = { Rendering };
+
+    ghost view = { λ r. record { canvas = r.canvas; picture = r.picture.entries; rects = r.rects.items } };
+
+    ghost invariant = { λ r. IsShown (record {
+      canvas = r.canvas;
+      picture = r.picture.entries;
+      rects = r.rects.items;
+    }) };
+}
+
+/// The size of a frame in pixels, and the rectangles outside which it shows what the last one did.
+#[derive(Drop)]
+pub struct Frame {
+    pub width: u32,
+    pub height: u32,
+    pub damage: Vec<Rect>,
+}
+
+impl Renderer {
+    /// Nothing was shown.
+    pub fn new(alloc: Global) -> Renderer
+        ensures { result ≡ record { canvas = None; picture = []; rects = [] } }
+    {
+        Renderer {
+            picture: Picture::new(alloc),
+            canvas: None,
+            rects: Vec::new(alloc),
+        }
+    }
+
+    /// Makes the frame of a scene and shows it. `window` is the size of the window in pixels; without one it is as
+    /// large as the root, which has its preferred size. Memory is taken before anything that is kept is changed. Slow:
+    /// every node is styled and laid out anew, and the whole picture made.
+    pub fn pulse<L: Ledgers>(
+        &mut self,
+        alloc: Global,
+        scene: Scene<'_>,
+        window: Option<(u32, u32)>,
+        work: &mut Work<L>,
+    ) -> Result<Frame, AllocError>
+        requires scene { IsScene (seen scene) }
+        requires window { IfSome window (λ size. is_size size.0 size.1 ≡ true) }
+        ensures frame { IfOk result (λ frame. IsFrame (seen scene.entry) window frame.width frame.height
+            self.new.rects self.new.picture) }
+        ensures damage { IfOk result (λ frame. frame.damage.items
+            ≡ frame_damage (last_frame self.old) self.new.picture frame.width frame.height) }
+        ensures width { IfOk result (λ frame. (surface_of self.new.canvas).width ≡ frame.width) }
+        ensures height { IfOk result (λ frame. (surface_of self.new.canvas).height ≡ frame.height) }
+        ensures pixels { OnOk result (Shows (surface_of self.new.canvas) self.new.picture) }
+        ensures err { OnErr result (self.new ≡ self.old) }
+        ensures evaluated { OnOk result (work.new.evaluated ≡ work.old.evaluated) }
+        ensures styled { OnOk result (work.new.styled ≤ work.old.styled + length scene.entry.styles.now) }
+        ensures laid { OnOk result (work.new.laid ≤ work.old.laid + 7 * length scene.entry.boxes.now) }
+        ensures painted { IfOk result (λ frame. work.new.painted
+            ≤ work.old.painted + sum_by (most_writes self.new.picture) frame.damage.items) }
+    {
+        let made = made_of(alloc, scene, window, work)?;
+        if self.has_size(made.width, made.height) {
+            self.show_next(alloc, made, work)
+        } else {
+            self.show_first(alloc, made, work)
+        }
+    }
+
+    /// What is true at all times: the canvas shows the last picture, whose entries rise by their paths and have
+    /// different birth numbers.
+    pub fn laws(&self)
+        ensures { IsShown self.now }
+    {
+        let _picture = &self.picture;
+    }
+
+    /// The last picture.
+    pub fn picture(&self) -> &Picture
+        ensures { result.now.entries ≡ self.now.picture }
+    {
+        &self.picture
+    }
+
+    /// The canvas that shows the last picture, if there was a frame.
+    pub fn canvas(&self) -> Option<&Canvas>
+        ensures { option_copied result ≡ self.now.canvas }
+    {
+        self.canvas.as_ref()
+    }
+
+    /// The rectangle of each node of the last scene in the window, in its order, in pixels.
+    pub fn rects(&self) -> &[Rect]
+        ensures { result.now ≡ self.now.rects }
+    {
+        self.rects.as_slice()
+    }
+
+    /// The pixels of a row of the window, each 0x00RRGGBB, counted from the top.
+    pub fn row(&self, y: u32) -> &[u32]
+        requires { y < (surface_of self.now.canvas).height }
+        ensures { result.now ≡ (row_at (surface_of self.now.canvas).rows y).pixels }
+    {
+        match &self.canvas {
+            Some(canvas) => canvas.row(y),
+            None => &[],
+        }
+    }
+
+    /// Prints each row whose text is out of date. Want of memory leaves some so, and nothing else.
+    pub fn refresh(&mut self) -> Result<(), AllocError>
+        ensures fresh { OnOk result ((y : ℕ) → y < (surface_of self.new.canvas).height
+            → (row_at (surface_of self.new.canvas).rows y).stale ≡ false) }
+        ensures pixels { (y : ℕ) → (row_at (surface_of self.new.canvas).rows y).pixels
+            ≡ (row_at (surface_of self.old.canvas).rows y).pixels }
+        ensures width { (surface_of self.new.canvas).width ≡ (surface_of self.old.canvas).width }
+        ensures height { (surface_of self.new.canvas).height ≡ (surface_of self.old.canvas).height }
+        ensures some { is_some self.new.canvas ≡ is_some self.old.canvas }
+        ensures picture { self.new.picture ≡ self.old.picture }
+        ensures rects { self.new.rects ≡ self.old.rects }
+    {
+        match &mut self.canvas {
+            Some(canvas) => canvas.refresh(),
+            None => Ok(()),
+        }
+    }
+
+    /// The text of a row, six hexadecimal digits a pixel, with a line feed.
+    pub fn text(&self, y: u32) -> &[u8]
+        requires within { y < (surface_of self.now.canvas).height }
+        requires fresh { (row_at (surface_of self.now.canvas).rows y).stale ≡ false }
+        ensures { result.now ≡ row_text (row_at (surface_of self.now.canvas).rows y).pixels }
+    {
+        match &self.canvas {
+            Some(canvas) => canvas.text(y),
+            None => &[],
+        }
+    }
+
+    /// Has the last frame this size?
+    fn has_size(&self, width: u32, height: u32) -> bool
+        ensures { result ≡ has_size (last_frame self.now) width height }
+    {
+        match &self.canvas {
+            Some(canvas) => canvas.width() == width && canvas.height() == height,
+            None => false,
+        }
+    }
+
+    /// Shows a frame in the window of the last one.
+    fn show_next<L: Ledgers>(
+        &mut self,
+        alloc: Global,
+        made: Made,
+        work: &mut Work<L>,
+    ) -> Result<Frame, AllocError>
+        requires size { has_size (last_frame self.old) made.width made.height ≡ true }
+        requires rises { Rises made.picture.entries }
+        requires births { HasDistinctBirths made.picture.entries }
+        ensures frame { IfOk result (λ frame. IsShowing made self.old self.new frame) }
+        ensures err { OnErr result (self.new ≡ self.old) }
+        ensures work { OnOk result (work.new ≡ record work.old { painted = work.new.painted }) }
+        ensures painted { IfOk result (λ frame. work.new.painted
+            ≤ work.old.painted + sum_by (most_writes made.picture.entries) frame.damage.items) }
+    {
+        let damage = damage(
+            alloc,
+            Some(&self.picture),
+            &made.picture,
+            made.width,
+            made.height,
+        )?;
+        repaint_in(&mut self.canvas, &made.picture, damage.as_slice(), work);
+        self.picture = made.picture;
+        self.rects = made.rects;
+        Ok(Frame {
+            width: made.width,
+            height: made.height,
+            damage,
+        })
+    }
+
+    /// Shows a frame in a window of another size, or the first one.
+    fn show_first<L: Ledgers>(
+        &mut self,
+        alloc: Global,
+        made: Made,
+        work: &mut Work<L>,
+    ) -> Result<Frame, AllocError>
+        requires size { is_size made.width made.height ≡ true }
+        requires other { has_size (last_frame self.old) made.width made.height ≡ false }
+        requires rises { Rises made.picture.entries }
+        requires births { HasDistinctBirths made.picture.entries }
+        ensures frame { IfOk result (λ frame. IsShowing made self.old self.new frame) }
+        ensures err { OnErr result (self.new ≡ self.old) }
+        ensures work { OnOk result (work.new ≡ record work.old { painted = work.new.painted }) }
+        ensures painted { IfOk result (λ frame. work.new.painted
+            ≤ work.old.painted + sum_by (most_writes made.picture.entries) frame.damage.items) }
+    {
+        let damage = damage(alloc, None, &made.picture, made.width, made.height)?;
+        let canvas = painted(alloc, &made, damage.as_slice(), work)?;
+        *self = Renderer {
+            picture: made.picture,
+            canvas: Some(canvas),
+            rects: made.rects,
+        };
+        Ok(Frame {
+            width: made.width,
+            height: made.height,
+            damage,
+        })
+    }
+}
+
+/// Paints the damage anew on the canvas, if there is one.
+fn repaint_in<L: Ledgers>(
+    canvas: &mut Option<Canvas>,
+    picture: &Picture,
+    damage: &[Rect],
+    work: &mut Work<L>,
+)
+    requires { list_all (lies_in (surface_of canvas.old).width (surface_of canvas.old).height) damage.now ≡ true }
+    ensures repainted { IsRepainted (surface_of canvas.old) picture.now.entries damage.now (surface_of canvas.new) }
+    ensures work { work.new ≡ record work.old { painted = work.new.painted } }
+    ensures painted { work.new.painted ≤ work.old.painted + sum_by (most_writes picture.now.entries) damage.now }
+{
+    match canvas {
+        Some(canvas) => canvas.repaint(picture, damage, work),
+        None => {}
+    }
+}
+
+/// A new canvas on which the damage is painted.
+fn painted<L: Ledgers>(
+    alloc: Global,
+    made: &Made,
+    damage: &[Rect],
+    work: &mut Work<L>,
+) -> Result<Canvas, AllocError>
+    requires size { is_size made.now.width made.now.height ≡ true }
+    requires all { damage.now ≡ damage_of None made.now.picture.entries made.now.width made.now.height }
+    ensures width { IfOk result (λ canvas. canvas.width ≡ made.now.width) }
+    ensures height { IfOk result (λ canvas. canvas.height ≡ made.now.height) }
+    ensures shows { IfOk result (λ canvas. Shows canvas made.now.picture.entries) }
+    ensures work { OnOk result (work.new ≡ record work.old { painted = work.new.painted }) }
+    ensures painted { OnOk result (work.new.painted
+        ≤ work.old.painted + sum_by (most_writes made.now.picture.entries) damage.now) }
+{
+    let mut canvas = white_canvas(alloc, made.width, made.height)?;
+    canvas.repaint(&made.picture, damage, work);
+    Ok(canvas)
+}
+
+fn white_canvas(alloc: Global, width: u32, height: u32) -> Result<Canvas, AllocError>
+    requires { is_size width height ≡ true }
+    ensures width { IfOk result (λ canvas. canvas.width ≡ width) }
+    ensures height { IfOk result (λ canvas. canvas.height ≡ height) }
+{
+    match Canvas::new(alloc, width, height) {
+        Ok(canvas) => Ok(canvas),
+        Err(_) => Err(AllocError),
+    }
+}

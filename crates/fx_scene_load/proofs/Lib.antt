@@ -1,0 +1,3 @@
+pub mod AttributeLemmas
+pub mod SceneLemmas
+pub mod ScriptLemmas

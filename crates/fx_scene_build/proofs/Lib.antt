@@ -1,0 +1,2 @@
+pub mod PropertyLemmas
+pub mod StepLemmas

@@ -1,0 +1,12 @@
+-- What is answered of one step of a plan.
+use Rattle.std.specs.Prelude.{◌≡◌, ℕ, Result, Ok, Err}
+use Rattle.fx_stage_types.specs.declared.answers.StageError.{StageError}
+use Rattle.fx_stage_types.specs.declared.answers.StageError.TheVariants.{Refused, Memory}
+use Rattle.fx_scene_plan.specs.declared.steps.PlannedStep.{PlannedStep}
+use Rattle.fx_scene_plan.specs.Plans.{Standing, stepped}
+
+-- the step makes what now stands, or is refused by this word; want of memory says nothing
+abbrev pub IsStepTaken : {T : Type 0} → PlannedStep → Standing → Standing → Result T StageError → Type 0
+IsStepTaken step before now (Ok done) = (slot : ℕ) × (stepped slot step before ≡ Ok now)
+IsStepTaken step before now (Err (Refused word)) = (slot : ℕ) × (stepped slot step before ≡ Err word)
+IsStepTaken step before now (Err Memory) = Unit {0}

@@ -1,0 +1,7 @@
+//! Building scenes: a plan is carried out on a stage, whose keys and names are looked up as they come to be.
+#![tactic(auto)]
+
+mod building;
+mod resolving;
+
+pub use building::build_scene;

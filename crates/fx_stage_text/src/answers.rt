@@ -1,0 +1,117 @@
+//! What is told of a line.
+ghost use Rattle.std.specs.Prelude.{◌≡◌, ◌++◌, OnOk};
+ghost use Rattle.std.specs.List.{flat_map};
+ghost use Rattle.std.specs.Option.{option_copied};
+ghost use Rattle.fx_stage_text.specs.Printing as spec;
+
+use crate::notices::print_notices;
+use crate::paths::{put, put_number, put_path};
+use fx_base::{Place, Text, Value};
+use fx_stage::Stage;
+use fx_stage_types::Outcome;
+use std::alloc::{AllocError, Global};
+
+/// Appends `refused LINE WORD`.
+#[tactic(auto, unfolding(crate::specs::Printing::refused_line))]
+pub fn print_refusal(
+    alloc: Global,
+    out: &mut Vec<u8>,
+    number: u32,
+    word: &str,
+) -> Result<(), AllocError>
+    ensures { OnOk result (out.new.items ≡ out.old.items ++ spec.refused_line number word.now) }
+{
+    put(out, b"refused ")?;
+    put_number(alloc, out, number)?;
+    put(out, b" ")?;
+    put(out, word.as_bytes())?;
+    put(out, b"\n")
+}
+
+/// Appends `say TEXT`.
+#[tactic(auto, unfolding(crate::specs::Printing::said_line))]
+pub fn print_saying(out: &mut Vec<u8>, text: &str) -> Result<(), AllocError>
+    ensures { OnOk result (out.new.items ≡ out.old.items ++ spec.said_line text.now) }
+{
+    put(out, b"say ")?;
+    put(out, text.as_bytes())?;
+    put(out, b"\n")
+}
+
+/// Appends what is told of the line with this number: the value that it asked for by this path, what was dropped of an
+/// inline style, and whom the line told.
+pub fn print_outcome(
+    alloc: Global,
+    out: &mut Vec<u8>,
+    stage: &Stage,
+    number: u32,
+    path: &[Text],
+    outcome: &Outcome,
+) -> Result<(), AllocError>
+    ensures { OnOk result (out.new.items
+        ≡ out.old.items ++ spec.outcome_lines stage.now.names.written number path.now outcome.now) }
+{
+    print_value(alloc, out, path, outcome.value.as_ref())?;
+    print_warnings(alloc, out, number, outcome.warnings.as_slice())?;
+    print_notices(alloc, out, stage, &outcome.notices)
+}
+
+fn print_value(
+    alloc: Global,
+    out: &mut Vec<u8>,
+    path: &[Text],
+    value: Option<&Value>,
+) -> Result<(), AllocError>
+    ensures { OnOk result (out.new.items
+        ≡ out.old.items ++ spec.value_lines path.now (option_copied value.entry)) }
+{
+    match value {
+        None => Ok(()),
+        Some(value) => print_value_line(alloc, out, path, value),
+    }
+}
+
+#[tactic(auto, unfolding(crate::specs::Printing::value_line))]
+fn print_value_line(
+    alloc: Global,
+    out: &mut Vec<u8>,
+    path: &[Text],
+    value: &Value,
+) -> Result<(), AllocError>
+    ensures { OnOk result (out.new.items ≡ out.old.items ++ spec.value_line path.now value.now) }
+{
+    put(out, b"value ")?;
+    put_path(out, path)?;
+    put(out, b" ")?;
+    value.print(alloc, out)?;
+    put(out, b"\n")
+}
+
+fn print_warnings(
+    alloc: Global,
+    out: &mut Vec<u8>,
+    number: u32,
+    warnings: &[Place],
+) -> Result<(), AllocError>
+    ensures { OnOk result (out.new.items
+        ≡ out.old.items ++ flat_map (spec.warning_line number) warnings.now) }
+{
+    for place in warnings {
+        print_warning(alloc, out, number, *place)?;
+    }
+    Ok(())
+}
+
+#[tactic(auto, unfolding(crate::specs::Printing::warning_line))]
+fn print_warning(
+    alloc: Global,
+    out: &mut Vec<u8>,
+    number: u32,
+    place: Place,
+) -> Result<(), AllocError>
+    ensures { OnOk result (out.new.items ≡ out.old.items ++ spec.warning_line number place) }
+{
+    let column = place.position.column;
+    let text = format!(in alloc; "warn inline {number} {column}\n")?;
+    put(out, text.as_bytes())
+}

@@ -1,0 +1,84 @@
+-- What a line of a script tells and makes of the world, frames aside.
+use Rattle.std.specs.Prelude.{ℕ, Bool, true, false, List, [], codes, Option, Some, None, Result, Ok, Err, if◌then◌else◌}
+use Rattle.fx_script_commands.specs.Requests.{Request, asks}
+use Rattle.fx_script_lines.specs.declared.instructions.Instruction.{Instruction}
+use Rattle.fx_script_lines.specs.declared.instructions.Instruction.TheVariants as line
+use Rattle.fx_stage_model.specs.Answers.{Taken}
+use Rattle.fx_stage_model.specs.Lines.{instructed, taken}
+use Rattle.fx_stage_model.specs.Taking.{outcome_of}
+use Rattle.fx_stage_model.specs.World.{World}
+use Rattle.fx_stage_text.specs.Printing.{outcome_lines, refused_line, said_line}
+use Rattle.fx_stage_types.specs.Words.{word_of}
+use Rattle.fx_stage_types.specs.declared.refusals.Refusal.{Refusal}
+use Rattle.fx_plain_steps.specs.Told.{Told, lines_told, notices_in}
+
+-- what is told of a line, and the world behind it
+pub record Step : Type 0 where
+  pub told : Told
+  pub world : World
+
+-- a line that prints this and changes nothing
+abbrev pub printing : List ℕ → World → Step
+printing text world = record { told = lines_told text 0; world = world }
+
+-- a line that isn't carried out yet
+unfoldable pub not_built : ℕ → World → Step
+not_built number world = printing (refused_line number (codes "notbuilt")) world
+
+-- a line that the stage takes: what it makes and whom it tells, or the word that refuses it
+abbrev pub answered : ℕ → List (List ℕ) → Result Taken Refusal → World → Step
+answered number path (Ok taken) world =
+    record {
+      told = lines_told (outcome_lines taken.world.names.written number path (outcome_of taken))
+          (notices_in taken.notices);
+      world = taken.world;
+    }
+answered number path (Err word) world = printing (refused_line number (word_of word)) world
+
+-- the path of the property that a line asks for
+unfoldable pub asked_by : Instruction → List (List ℕ)
+asked_by (line.Get path) = path
+asked_by other = []
+
+-- The stage takes the line. Listeners that run actions, explanations, event lines and timelines aren't built yet.
+unfoldable pub is_carried : Instruction → Bool
+is_carried (line.Watch kind path action label) = false
+is_carried (line.Unwatch kind path action label) = false
+is_carried (line.Explain path name) = false
+is_carried (line.Say text) = false
+is_carried line.Consume = false
+is_carried (line.Move x y) = false
+is_carried line.Press = false
+is_carried line.ReleaseButton = false
+is_carried (line.Key name) = false
+is_carried (line.Focus path) = false
+is_carried line.Tab = false
+is_carried line.Backtab = false
+is_carried line.Pulse = false
+is_carried (line.Timeline label count back) = false
+is_carried (line.Keyframe label time path text) = false
+is_carried (line.Play label) = false
+is_carried (line.Stop label) = false
+is_carried (line.Tick time) = false
+is_carried other = true
+
+-- what a line says
+unfoldable pub saying : Instruction → Option (List ℕ)
+saying (line.Say text) = Some text
+saying other = None
+
+-- a line that the stage doesn't take says something, or isn't built
+abbrev pub said_by : ℕ → Option (List ℕ) → World → Step
+said_by number None world = not_built number world
+said_by number (Some text) world = printing (said_line text) world
+
+unfoldable pub instruction_step : ℕ → ℕ → Instruction → World → Step
+instruction_step slot number instruction world =
+    if is_carried instruction
+    then answered number (asked_by instruction) (instructed slot instruction world) world
+    else said_by number (saying instruction) world
+
+-- The line of this number. What it makes anew, a node or an owner, is kept in this slot.
+unfoldable pub line_step : ℕ → ℕ → Request → World → Step
+line_step slot number (asks instruction) world = instruction_step slot number instruction world
+line_step slot number other world = answered number [] (taken slot other world) world

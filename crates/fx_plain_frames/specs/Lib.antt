@@ -1,0 +1,3 @@
+pub mod Games
+pub mod Playing
+pub mod Pulses

@@ -1,0 +1,81 @@
+-- What a `pulse` makes and tells.
+use Rattle.std.specs.Prelude.{◌≡◌, ℕ, ◌+◌, ◌*◌, List, [], ◌∷◌, ◌++◌, Option, Some}
+use Rattle.std.specs.List.{sum_by}
+use Rattle.fx_base.specs.declared.geometry.Rect.{Rect}
+use Rattle.fx_frame_text.specs.Frames.{Image, frame_text, image_of, pixel_sum}
+use Rattle.fx_frame_text.specs.declared.forms.Form.{Form}
+use Rattle.fx_picture.specs.Pixels.{pixel}
+use Rattle.fx_picture.specs.Shapes.{whole}
+use Rattle.fx_plain_steps.specs.Told.{Told, notices_in}
+use Rattle.fx_pulse_model.specs.Frames.{Framed, IsFrame, frame_damage}
+use Rattle.fx_pulse_model.specs.Scenes.{Scene}
+use Rattle.fx_stage_facts.specs.Attached.{looked}
+use Rattle.fx_kinds.specs.declared.facts.BoxFacts.{BoxFacts}
+use Rattle.fx_stage_facts.specs.Boxes.{box_facts}
+use Rattle.fx_stage_facts.specs.Publishing.{Size, published, sized}
+use Rattle.fx_stage_facts.specs.Scenes.{disabled_flags}
+use Rattle.fx_stage_facts.specs.Sheets.{sheets_of}
+use Rattle.fx_stage_facts.specs.Styles.{style_facts}
+use Rattle.fx_stage_model.specs.World.{World}
+use Rattle.fx_stage_text.specs.Printing.{notice_lines}
+use Rattle.fx_store_model.specs.declared.changes.Notices.{Notices}
+use Rattle.fx_plain_frames.specs.Games.{Game}
+
+-- what a frame is made of
+abbrev pub scene_of : World → Scene
+scene_of world =
+    record {
+      sheets = sheets_of world;
+      styles = style_facts world;
+      boxes = box_facts world;
+      disabled = disabled_flags world;
+    }
+
+-- each node with its width and its height
+abbrev pub sizes_of : List BoxFacts → List Rect → List Size
+sizes_of [] rects = []
+sizes_of (node ∷ nodes) [] = []
+sizes_of (node ∷ nodes) (rect ∷ rects) = (node.key, rect.w, rect.h) ∷ sizes_of nodes rects
+
+-- what a frame shows
+abbrev pub image_in : Framed → Image
+image_in frame = image_of frame.width frame.height (pixel frame.picture)
+
+-- a frame that was made: what of the window may be another than before, and who was told that sizes are others
+pub record Pulsed : Type 0 where
+  pub frame : Framed
+  pub damage : List Rect
+  pub notices : Notices
+
+-- The present scene, styled, laid out and drawn from nothing, is the next frame, and the sizes of its nodes are
+-- published behind it, as one change.
+pub record IsDrawn (before now : World) (last next : Option Framed) (pulsed : Pulsed) : Type 0 where
+  pub rects : List Rect
+  pub shown : IsFrame (scene_of before) before.window pulsed.frame.width pulsed.frame.height rects pulsed.frame.picture
+  pub damage : pulsed.damage ≡ frame_damage last pulsed.frame.picture pulsed.frame.width pulsed.frame.height
+  pub published : now
+      ≡ published (pulsed.frame.width, pulsed.frame.height) (sizes_of (box_facts before) rects) (looked before)
+  pub notices : pulsed.notices ≡ (sized (sizes_of (box_facts before) rects) (looked before)).notices
+  pub last_one : next ≡ Some pulsed.frame
+
+pub record IsPulsed (before now : Game) (pulsed : Pulsed) : Type 0 where
+  pub drawn : IsDrawn before.world now.world before.last now.last pulsed
+  pub count : now.frames ≡ before.frames + 1
+
+-- so many pixels are damaged
+abbrev pub area_of : Rect → ℕ
+area_of rect = whole rect.w * whole rect.h
+
+-- what is told of it: the frame, and the notices
+abbrev pub told_of : Form → Game → Pulsed → Told
+told_of form now pulsed =
+    record {
+      text = frame_text form now.frames pulsed.damage (image_in pulsed.frame)
+          ++ notice_lines now.world.names.written pulsed.notices;
+      totals = record {
+        frames = 1;
+        area = sum_by area_of pulsed.damage;
+        notices = notices_in pulsed.notices;
+        pixels = pixel_sum (image_in pulsed.frame);
+      };
+    }

@@ -1,0 +1,3 @@
+pub mod DrawnLemmas
+pub mod ShownLemmas
+pub mod SizeLemmas

@@ -1,0 +1,7 @@
+-- A game as the plain player has it.
+use Rattle.fx_plain_frames.specs.Games.{Game as Played}
+use Rattle.fx_pulse.specs.Rendering.{last_frame}
+use Rattle.fx_play_frames.specs.declared.game.Game.{Game}
+
+abbrev pub game_of : Game → Played
+game_of g = record { world = g.stage; frames = g.frames; last = last_frame g.renderer }

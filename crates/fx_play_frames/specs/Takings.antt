@@ -1,0 +1,62 @@
+-- What taking a line answers, and what is told of it.
+use Rattle.std.specs.Prelude.{◌≤◌, ◌≤ℤ◌, ◌^◌, ℕ, pos, All, List, ◌++◌, Option, Some, None, IsSome}
+use Rattle.std.specs.List.{sum_by}
+use Rattle.fx_base.specs.declared.geometry.Rect.{Rect}
+use Rattle.fx_frame_text.specs.Frames.{Image, frame_text, image_of, pixel_sum}
+use Rattle.fx_frame_text.specs.declared.forms.Form.{Form}
+use Rattle.fx_plain_frames.specs.Games.{Game}
+use Rattle.fx_plain_frames.specs.Pulses.{area_of, image_in}
+use Rattle.fx_plain_steps.specs.Told.{Told, Totals, lines_told}
+use Rattle.fx_pulse_model.specs.Frames.{Framed}
+use Rattle.fx_play_frames.specs.declared.counting.Counts.{Counts}
+use Rattle.fx_play_frames.specs.declared.taking.Shown.{Shown}
+use Rattle.fx_play_frames.specs.declared.taking.Taken.{Taken}
+use Rattle.fx_play_frames.specs.declared.taking.Taken.TheVariants as taken
+
+abbrev pub totals_in : Counts → Totals
+totals_in counts =
+    record { frames = counts.frames; area = counts.area; notices = counts.notices; pixels = counts.pixels }
+
+-- what the last frame shows
+abbrev pub image_last : Option Framed → Image
+image_last None = image_of 0 0 (λ x y. 0)
+image_last (Some frame) = image_in frame
+
+abbrev pub frame_totals : Option Framed → Shown → Totals
+frame_totals last shown =
+    record {
+      frames = 1;
+      area = sum_by area_of shown.damage.items;
+      notices = shown.notices;
+      pixels = pixel_sum (image_last last);
+    }
+
+-- what is told of a line whose own text is this
+abbrev pub told_as : Form → Game → Taken → List ℕ → Told
+told_as form game (taken.Line notices) text = lines_told text notices
+told_as form game (taken.Frame shown) text =
+    record {
+      text = frame_text form game.frames shown.damage.items (image_last game.last) ++ text;
+      totals = frame_totals game.last shown;
+    }
+
+-- where a frame was made there is a last one
+abbrev pub HasFrame : Game → Taken → Type 0
+HasFrame game (taken.Line notices) = Unit {0}
+HasFrame game (taken.Frame shown) = IsSome game.last
+
+-- a rectangle of a window
+pub record IsSmallRect (rect : Rect) : Type 0 where
+  pub wide : rect.w ≤ℤ pos 4096
+  pub high : rect.h ≤ℤ pos 4096
+
+abbrev pub IsSmallTaken : Taken → Type 0
+IsSmallTaken (taken.Line notices) = Unit {0}
+IsSmallTaken (taken.Frame shown) = All IsSmallRect shown.damage.items
+
+-- what a line adds is far below what the totals have room for
+pub record AreSmall (totals : Totals) : Type 0 where
+  pub frames : totals.frames ≤ 1
+  pub area : totals.area ≤ 2 ^ 90
+  pub notices : totals.notices ≤ 2 ^ 64
+  pub pixels : totals.pixels ≤ 2 ^ 64

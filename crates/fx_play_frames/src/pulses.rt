@@ -1,0 +1,141 @@
+//! What a `pulse` does: the next frame, and the sizes that are published behind it.
+ghost use Rattle.std.specs.Prelude.{◌≡◌, ◌<◌, ◌+◌, ◌-◌, ◌^◌, [], All, IfOk, IsSome, IsTrue, OnOk};
+ghost use Rattle.fx_frame_text.specs.declared.forms.Form.{Form as Image};
+ghost use Rattle.fx_plain_frames.specs.Playing.{IsShown};
+ghost use Rattle.fx_plain_frames.specs.Pulses.{IsDrawn, sizes_of as sizes};
+ghost use Rattle.fx_play_frames.specs.Drawn.{IsDrawnAs, pulsed_as};
+ghost use Rattle.fx_play_frames.specs.Games.{game_of};
+ghost use Rattle.fx_play_frames.specs.Takings.{HasFrame, IsSmallRect, IsSmallTaken, told_as};
+ghost use Rattle.fx_pulse.specs.Rendering.{last_frame};
+ghost use Rattle.fx_stage_facts.specs.Publishing.{AreOnce, IsPublished};
+ghost use Rattle.fx_stage_facts.specs.Scenes.{facts_of};
+ghost use Rattle.fx_stage_model.specs.World.{World};
+
+use crate::game::Game;
+use crate::scenes::{is_fit, scene_in, sizes_of};
+use crate::taking::{Shown, Taken};
+use fx_base::{Ledgers, Rect, Work};
+use fx_canvas::Canvas;
+use fx_kinds::BoxFacts;
+use fx_play_steps::told_by;
+use fx_pulse::{Frame, Renderer};
+use fx_stage::Stage;
+use fx_stage_facts::{Facts, publish, read_facts};
+use fx_stage_text::print_notices;
+use fx_store_model::Notices;
+use std::alloc::{AllocError, Global};
+
+/// A frame that was made, and who was told of the sizes that it published.
+#[derive(Drop)]
+struct Pulsed {
+    frame: Frame,
+    notices: Notices,
+}
+
+impl Game {
+    /// Makes the next frame, and appends the notices of the sizes that it published.
+    pub(crate) fn pulse<L: Ledgers>(
+        &mut self,
+        alloc: Global,
+        text: &mut Vec<u8>,
+        work: &mut Work<L>,
+    ) -> Result<Taken, AllocError>
+        requires few { self.old.frames < 2 ^ 64 - 1 }
+        requires empty { text.old.items ≡ [] }
+        ensures shown { IfOk result (λ taken. (form : Image) → IsShown form (game_of self.old) (game_of self.new)
+            (told_as form (game_of self.new) taken text.new.items)) }
+        ensures frame { IfOk result (HasFrame (game_of self.new)) }
+        ensures small { IfOk result IsSmallTaken }
+        ensures count { OnOk result (self.new.frames ≡ self.old.frames + 1) }
+    {
+        let pulsed = drawn(alloc, &mut self.stage, &mut self.renderer, work)?;
+        self.frames += 1;
+        print_notices(alloc, text, &self.stage, &pulsed.notices)?;
+        Ok(Taken::Frame(Shown {
+            notices: told_by(&pulsed.notices),
+            damage: pulsed.frame.damage,
+        }))
+    }
+}
+
+/// Draws the present scene, and publishes the sizes of its nodes.
+fn drawn<L: Ledgers>(
+    alloc: Global,
+    stage: &mut Stage,
+    renderer: &mut Renderer,
+    work: &mut Work<L>,
+) -> Result<Pulsed, AllocError>
+    ensures drawn { IfOk result (λ pulsed. IsDrawn stage.old stage.new (last_frame renderer.old) (last_frame renderer.new)
+        (pulsed_as renderer.new pulsed)) }
+    ensures small { IfOk result (λ pulsed. All IsSmallRect pulsed.frame.damage.items) }
+{
+    let facts = read_facts(alloc, stage, work)?;
+    let frame = draw(alloc, renderer, &facts, work)?;
+    let window = (frame.width, frame.height);
+    let notices = publish_sizes(
+        alloc,
+        stage,
+        window,
+        facts.boxes.as_slice(),
+        renderer.rects(),
+        work,
+    )?;
+    Ok(Pulsed { frame, notices })
+}
+
+/// Draws the scene of these facts. One that can't be drawn counts as want of memory.
+fn draw<L: Ledgers>(
+    alloc: Global,
+    renderer: &mut Renderer,
+    facts: &Facts,
+    work: &mut Work<L>,
+) -> Result<Frame, AllocError>
+    ensures drawn { (world : World) → facts.now ≡ facts_of world
+        → IfOk result (IsDrawnAs world renderer.old renderer.new) }
+    ensures once { OnOk result (AreOnce (sizes facts.now.boxes renderer.new.rects)) }
+    ensures small { IfOk result (λ frame. All IsSmallRect frame.damage.items) }
+{
+    let scene = scene_in(facts);
+    if !is_fit(alloc, scene, facts.window)? {
+        return Err(AllocError);
+    }
+    let frame = renderer.pulse(alloc, scene, facts.window, work)?;
+    if !is_shown(renderer, frame.damage.as_slice()) {
+        return Err(AllocError);
+    }
+    Ok(frame)
+}
+
+/// Whether there is a canvas, and all of the rectangles lie in it.
+fn is_shown(renderer: &Renderer, rects: &[Rect]) -> bool
+    ensures some { IsTrue result → IsSome renderer.now.canvas }
+    ensures small { IsTrue result → All IsSmallRect rects.now }
+{
+    match renderer.canvas() {
+        None => false,
+        Some(canvas) => holds_all(canvas, rects),
+    }
+}
+
+fn holds_all(canvas: &Canvas, rects: &[Rect]) -> bool
+    ensures { IsTrue result → All IsSmallRect rects.now }
+{
+    canvas.laws();
+    canvas.has_all(rects)
+}
+
+/// Publishes the sizes of these nodes, and keeps the window.
+fn publish_sizes<L: Ledgers>(
+    alloc: Global,
+    stage: &mut Stage,
+    window: (u32, u32),
+    boxes: &[BoxFacts],
+    rects: &[Rect],
+    work: &mut Work<L>,
+) -> Result<Notices, AllocError>
+    requires once { AreOnce (sizes boxes.now rects.now) }
+    ensures { OnOk result (IsPublished window (sizes boxes.now rects.now) stage.old stage.new result) }
+{
+    let sizes = sizes_of(alloc, boxes, rects)?;
+    publish(alloc, stage, window, sizes.as_slice(), work)
+}

@@ -1,0 +1,71 @@
+-- A script played on a loaded scene, and what it writes.
+use Rattle.std.specs.Prelude.{◌≡◌, ℕ, Bool, List, Option, Some, None, Result, OnErr, OnOk, Ok, Err, if◌then◌else◌, take}
+use Rattle.fx_frame_text.specs.declared.forms.Form.{Form}
+use Rattle.fx_scene_load.specs.declared.nodes.Node.{Node}
+use Rattle.fx_plain_frames.specs.Games.{Game, begun}
+use Rattle.fx_plain_frames.specs.Playing.{IsPlayed}
+use Rattle.fx_plain_steps.specs.Told.{Told, Totals, summary_line, texts_of, totals_of}
+use Rattle.fx_port.specs.Pieces.{GrewByPrefix, grown}
+use Rattle.fx_scene_first.specs.Plans.{plan_of}
+use Rattle.fx_scene_plan.specs.Plans.{IsPlanBuilt, Standing}
+use Rattle.fx_script_commands.specs.Requests.{Numbered}
+use Rattle.fx_stage_model.specs.World.{World, nowhere}
+use Rattle.fx_stage_types.specs.declared.refusals.Refusal.{Refusal}
+
+-- how a run shows what it does: the window if one is asked for, the form of images, and whether one line of totals stands
+-- in place of all lines
+pub record Manner : Type 0 where
+  pub window : Option (ℕ × ℕ)
+  pub form : Form
+  pub summary : Bool
+
+-- a world in the window that the run has, if it has one
+abbrev pub in_window : Option (ℕ × ℕ) → World → World
+in_window None world = world
+in_window (Some window) world = record world { window = Some window }
+
+-- the scene is built on a bare stage, and no frame was made
+pub record IsBegun (window : Option (ℕ × ℕ)) (nodes : List Node) (first : Game) : Type 0 where
+  pub standing : Standing
+  pub built : IsPlanBuilt (plan_of nodes) nowhere (Ok standing)
+  pub begins : first ≡ begun (in_window window standing.world)
+
+-- a step of the scene is refused
+abbrev pub IsUnbuilt : List Node → Type 0
+IsUnbuilt nodes = (word : Refusal) × IsPlanBuilt (plan_of nodes) nowhere (Err word)
+
+-- what is written of what lines tell: one line behind the other, or the totals of them all
+abbrev pub written_of : Manner → List Told → List ℕ
+written_of manner tolds = if manner.summary then summary_line (totals_of tolds) else texts_of tolds
+
+-- what these lines write
+pub record IsWritten (manner : Manner) (first : Game) (lines : List Numbered) (bytes : List ℕ) : Type 0 where
+  pub tolds : List Told
+  pub played : IsPlayed manner.form first lines tolds
+  pub written : bytes ≡ written_of manner tolds
+
+-- these are the totals of what the lines tell
+pub record AreCounted (manner : Manner) (first : Game) (lines : List Numbered) (totals : Totals) : Type 0 where
+  pub tolds : List Told
+  pub played : IsPlayed manner.form first lines tolds
+  pub counted : totals ≡ totals_of tolds
+
+-- a sink took all that these lines write
+pub record IsPutWhole (manner : Manner) (first : Game) (lines : List Numbered) (old new : Option (List ℕ))
+    : Type 0 where
+  pub bytes : List ℕ
+  pub written : IsWritten manner first lines bytes
+  pub told : new ≡ grown old bytes
+
+-- a sink took a part of what the first of these lines write
+pub record IsPutPart (manner : Manner) (first : Game) (lines : List Numbered) (old new : Option (List ℕ))
+    : Type 0 where
+  pub count : ℕ
+  pub bytes : List ℕ
+  pub written : IsWritten manner first (take count lines) bytes
+  pub part : GrewByPrefix old new bytes
+
+pub record IsPut {E : Type 0} (manner : Manner) (first : Game) (lines : List Numbered) (old new : Option (List ℕ))
+    (result : Result (Unit {0}) E) : Type 0 where
+  pub ok : OnOk result (IsPutWhole manner first lines old new)
+  pub err : OnErr result (IsPutPart manner first lines old new)

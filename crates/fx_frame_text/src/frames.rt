@@ -15,8 +15,8 @@ use fx_canvas::Canvas;
 use fx_port::{PutError, Sink};
 use std::alloc::{AllocError, Global};
 
-/// Writes the frame of this number: the line that tells it, a line for each rectangle of its damage, and what the canvas
-/// shows, in this form. Rows of text are those that the canvas keeps, so none of them may be stale.
+/// Writes the frame of this number: the line that tells it, a line for each rectangle of its damage, and what the
+/// canvas shows, in this form. Rows of text are those that the canvas keeps, so none of them may be stale.
 pub fn put_frame<O: Sink>(
     alloc: Global,
     form: Form,

@@ -41,4 +41,5 @@ IsTold form line before now told = IsToldBy (is_pulse line.request) form line be
 pub data IsPlayed (form : Form) : Game → List Numbered → List Told → Type 0 where
   no_line : (game : Game) → IsPlayed form game [] []
   one_line : (game next : Game) (line : Numbered) (lines : List Numbered) (told : Told) (rest : List Told)
-      → IsTold form line game next told → IsPlayed form next lines rest → IsPlayed form game (line ∷ lines) (told ∷ rest)
+      → IsTold form line game next told → IsPlayed form next lines rest
+      → IsPlayed form game (line ∷ lines) (told ∷ rest)

@@ -12,8 +12,8 @@ use Rattle.fx_script_commands.specs.Requests.{Numbered}
 use Rattle.fx_stage_model.specs.World.{World, nowhere}
 use Rattle.fx_stage_types.specs.declared.refusals.Refusal.{Refusal}
 
--- how a run shows what it does: the window if one is asked for, the form of images, and whether one line of totals stands
--- in place of all lines
+-- how a run shows what it does: the window if one is asked for, the form of images, and whether one line of totals
+-- stands in place of all lines
 pub record Manner : Type 0 where
   pub window : Option (ℕ × ℕ)
   pub form : Form

@@ -46,7 +46,8 @@ impl Game {
         work: &mut Work<L>,
     ) -> Result<Taken, AllocError>
         requires few { self.old.frames < 2 ^ 64 - 1 }
-        ensures told { IfOk result (λ taken. (form : Image) → IsTold form (line_view line) (game_of self.old) (game_of self.new)
+        ensures told { IfOk result (λ taken. (form : Image) →
+            IsTold form (line_view line) (game_of self.old) (game_of self.new)
             (told_as form (game_of self.new) taken text.new.items)) }
         ensures shown { IfOk result (HasFrame (game_of self.new)) }
         ensures small { IfOk result IsSmallTaken }

@@ -65,7 +65,8 @@ fn drawn<L: Ledgers>(
     renderer: &mut Renderer,
     work: &mut Work<L>,
 ) -> Result<Pulsed, AllocError>
-    ensures drawn { IfOk result (λ pulsed. IsDrawn stage.old stage.new (last_frame renderer.old) (last_frame renderer.new)
+    ensures drawn { IfOk result (λ pulsed.
+        IsDrawn stage.old stage.new (last_frame renderer.old) (last_frame renderer.new)
         (pulsed_as renderer.new pulsed)) }
     ensures small { IfOk result (λ pulsed. All IsSmallRect pulsed.frame.damage.items) }
 {

@@ -28,8 +28,8 @@ pub(crate) fn scene_in(facts: &Facts) -> Scene<'_>
     }
 }
 
-/// Whether the scene can be drawn in the window. Every scene of a stage can; this looks, since the stage doesn't promise
-/// it.
+/// Whether the scene can be drawn in the window. No scene of a stage is known that can't; this looks, since the stage
+/// doesn't promise it.
 pub(crate) fn is_fit(
     alloc: Global,
     scene: Scene<'_>,

@@ -86,7 +86,8 @@ impl Game {
     pub fn counts(&self, taken: &Taken) -> Counts
         requires frame { HasFrame (game_of self.now) taken.now }
         requires small { IsSmallTaken taken.now }
-        ensures totals { (form : Image) (text : List ℕ) → totals_in result ≡ (told_as form (game_of self.now) taken.now text).totals }
+        ensures totals { (form : Image) (text : List ℕ) →
+            totals_in result ≡ (told_as form (game_of self.now) taken.now text).totals }
         ensures small { AreSmall (totals_in result) }
     {
         match taken {

@@ -42,7 +42,8 @@ id_steps ordinal node = if list_any is_id node.given then [] else id_of_name ord
 -- a node is made and put where it stands before it has anything
 unfoldable pub node_steps : ℕ → Node → List PlannedStep
 node_steps ordinal node =
-    planned.Node node.class ∷ (place_step ordinal ∷ (id_steps ordinal node ++ flat_map (given_steps ordinal) node.given))
+    planned.Node node.class
+    ∷ (place_step ordinal ∷ (id_steps ordinal node ++ flat_map (given_steps ordinal) node.given))
 
 -- the word at a place of a path
 abbrev pub word_at : List (List ℕ) → ℕ → List ℕ

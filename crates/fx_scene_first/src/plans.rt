@@ -10,8 +10,8 @@ use fx_scene_plan::{PlannedProperty, PlannedStep};
 use fx_stage_types::Spot;
 use std::alloc::{AllocError, Global};
 
-/// The plan of a scene of these nodes, the pane first. Once all nodes are there, properties are bound, and then the names
-/// are given.
+/// The plan of a scene of these nodes, the pane first. Once all nodes are there, properties are bound, and then the
+/// names are given.
 #[tactic(auto, unfolding(crate::specs::Plans::plan_of))]
 pub fn plan_of(alloc: Global, nodes: &[Node]) -> Result<Vec<PlannedStep>, AllocError>
     ensures { IfOk result (λ plan. plan.items ≡ spec.plan_of nodes.now) }
@@ -160,7 +160,8 @@ fn push_bindings(
     plan: &mut Vec<PlannedStep>,
     nodes: &[Node],
 ) -> Result<(), AllocError>
-    ensures ok { OnOk result (plan.new.items ≡ plan.old.items ++ spec.all_from (spec.node_bindings nodes.now) 0 nodes.now) }
+    ensures ok { OnOk result (plan.new.items
+        ≡ plan.old.items ++ spec.all_from (spec.node_bindings nodes.now) 0 nodes.now) }
 {
     for (ordinal, node) in nodes.iter().enumerate() {
         push_bound(alloc, plan, nodes, ordinal, node.given.as_slice())?;

@@ -120,8 +120,8 @@ unbuilt world = standing_of world []
 abbrev pub IsPlanBuilt : List PlannedStep → World → Result Standing Refusal → Type 0
 IsPlanBuilt plan world answer = IsBuiltFrom (unbuilt world) plan answer
 
--- What is answered of a plan: all of it is built, with these nodes, or a step is refused by this word. Of want of memory
--- nothing is said.
+-- What is answered of a plan: all of it is built, with these nodes, or a step is refused by this word. Of want of
+-- memory nothing is said.
 abbrev pub IsScene : List PlannedStep → World → World → Result (Vec NodeKey Global) StageError → Type 0
 IsScene plan before now (Ok keys) = IsPlanBuilt plan before (Ok (standing_of now keys.items))
 IsScene plan before now (Err (Refused word)) = IsPlanBuilt plan before (Err word)

@@ -1,0 +1,5 @@
+pub mod Edges
+pub mod Entries
+pub mod Outlines
+pub mod Pieces
+pub mod Views

@@ -1,0 +1,20 @@
+//! Acts in the order of work.
+use fx_base::Position;
+use fx_scene_flaws::Flaw;
+use fx_scene_plan::PlannedStep;
+
+/// What is done at an act.
+#[derive(Drop)]
+pub enum Deed {
+    /// A step of building the scene.
+    Step(PlannedStep),
+    /// The document is at fault, and nothing behind it is done.
+    Flaw(Flaw),
+}
+
+/// What a place of a document asks for.
+#[derive(Drop)]
+pub struct Act {
+    pub place: Position,
+    pub deed: Deed,
+}

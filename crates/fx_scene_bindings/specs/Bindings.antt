@@ -1,0 +1,119 @@
+-- What a property is bound to by a text between `${` and `}`, or what is wrong with the text.
+use Rattle.std.specs.Prelude.{◌≡◌, ℕ, Bool, true, false, List, [], ◌∷◌, map, Option, Some, None, Result, Ok, Err, is_some, if◌then◌else◌}
+use Rattle.std.specs.List.{list_all}
+use Rattle.std.specs.Option.{option_map}
+use Rattle.std.specs.Str.{chars}
+use Rattle.fx_base.specs.declared.kinds.Kind.{Kind}
+use Rattle.fx_base.specs.declared.kinds.Kind.TheVariants as kind
+use Rattle.fx_base.specs.declared.values.Value.TheVariants as value
+use Rattle.fx_expr.specs.Reading.{reading_of}
+use Rattle.fx_expr.specs.Tree.{Tree, Leaf, Two, tree}
+use Rattle.fx_expr.specs.Typing.{kind_in}
+use Rattle.fx_expr.specs.declared.reading.ExprError.{ExprError}
+use Rattle.fx_expr.specs.declared.reading.ExprError.TheVariants as fault
+use Rattle.fx_expr.specs.declared.tree.BinarySign.TheVariants as binary
+use Rattle.fx_expr.specs.declared.tree.Parsed.{Parsed}
+use Rattle.fx_kinds.specs.Properties.{ListedProperty}
+use Rattle.fx_scene_acts.specs.declared.acts.Deed.{Deed}
+use Rattle.fx_scene_acts.specs.declared.acts.Deed.TheVariants as deed
+use Rattle.fx_scene_bindings.specs.Names.{Name, found}
+use Rattle.fx_scene_flaws.specs.declared.flaws.Flaw.TheVariants as flaw
+use Rattle.fx_scene_plan.specs.declared.steps.PlannedProperty.{PlannedProperty}
+use Rattle.fx_scene_plan.specs.declared.steps.PlannedStep.TheVariants as planned
+use Rattle.fx_scene_values.specs.Properties.{property_named}
+use Rattle.fx_scene_values.specs.Values.{property_of}
+
+-- an operand: a property of the node of an ordinal
+pub record Operand : Type 0 where
+  pub node : ℕ
+  pub property : ListedProperty
+
+-- the node that a path leads to, of a node's name and a property's
+abbrev pub node_of : List Name → List (List ℕ) → Option Name
+node_of names (name ∷ property ∷ []) = found names name
+node_of names _ = None
+
+abbrev pub operand_at : ℕ → ListedProperty → Operand
+operand_at node property = record { node = node; property = property }
+
+abbrev pub operand_in : List ℕ → Option Name → Option Operand
+operand_in property None = None
+operand_in property (Some known) = option_map (operand_at known.node) (property_named known.class property)
+
+abbrev pub operand_of : List Name → List (List ℕ) → Option Operand
+operand_of names (name ∷ property ∷ []) = operand_in property (found names name)
+operand_of names _ = None
+
+abbrev pub with_operand : Option Operand → Option (List Operand) → Option (List Operand)
+with_operand None others = None
+with_operand (Some one) None = None
+with_operand (Some one) (Some others) = Some (one ∷ others)
+
+-- all operands, unless one isn't there
+abbrev pub operands_of : List Name → List (List (List ℕ)) → Option (List Operand)
+operands_of names [] = Some []
+operands_of names (path ∷ paths) = with_operand (operand_of names path) (operands_of names paths)
+
+-- each path leads to a node
+abbrev pub are_named : List Name → List (List (List ℕ)) → Bool
+are_named names paths = list_all (λ path. is_some (node_of names path)) paths
+
+-- a number or a truth is printed where a text is wanted
+abbrev pub is_printed : Option Kind → Bool
+is_printed (Some kind.Int) = true
+is_printed (Some kind.Bool) = true
+is_printed _ = false
+
+abbrev pub is_text : Kind → Bool
+is_text kind.Text = true
+is_text _ = false
+
+abbrev pub kinds_of : List Operand → List Kind
+kinds_of operands = map (λ (o : Operand). o.property.kind) operands
+
+abbrev pub as_text : Tree → Tree
+as_text t = Two binary.Plus (Leaf (value.Text [])) t
+
+abbrev pub formula_of : Kind → Tree → List Operand → Tree
+formula_of want t operands =
+    if is_text want then (if is_printed (kind_in t (kinds_of operands)) then as_text t else t) else t
+
+abbrev pub planned_of : List Operand → List PlannedProperty
+planned_of operands = map (λ (o : Operand). property_of o.node o.property.name) operands
+
+abbrev pub bound_to : ℕ → ListedProperty → Tree → List Operand → Deed
+bound_to node property t operands =
+    deed.Step (planned.Bind (property_of node property.name) (formula_of property.kind t operands) (planned_of operands))
+
+abbrev pub bound_if : ℕ → ListedProperty → Tree → Option (List Operand) → Deed
+bound_if node property t None = deed.Flaw flaw.Property
+bound_if node property t (Some operands) = bound_to node property t operands
+
+abbrev pub bound_over : List Name → ℕ → ListedProperty → Tree → List (List (List ℕ)) → Deed
+bound_over names node property t paths =
+    if are_named names paths then bound_if node property t (operands_of names paths) else deed.Flaw flaw.Name
+
+-- no expression; or one past its own limits; or a name that nothing has, before a property that isn't there
+abbrev pub bound_by : List Name → ℕ → ListedProperty → Result (Tree × List (List (List ℕ))) ExprError → Deed
+bound_by names node property (Ok read) = bound_over names node property read.0 read.1
+bound_by names node property (Err fault.Syntax) = deed.Flaw flaw.Expression
+bound_by names node property (Err other) = deed.Flaw flaw.Limit
+
+-- what binding the property of the node of an ordinal to the text asks for
+unfoldable pub bound_deed : List Name → ℕ → ListedProperty → List ℕ → Deed
+bound_deed names node property text = bound_by names node property (reading_of (chars text))
+
+-- the answer of the reader of expressions; want of memory says nothing
+abbrev pub Reads : Result (Tree × List (List (List ℕ))) ExprError → Result Parsed ExprError → Type 0
+Reads read (Ok p) = read ≡ Ok (tree p.expr, p.paths)
+Reads read (Err fault.Memory) = Unit {0}
+Reads read (Err fault.Syntax) = read ≡ Err fault.Syntax
+Reads read (Err fault.Depth) = read ≡ Err fault.Depth
+Reads read (Err fault.Operands) = read ≡ Err fault.Operands
+
+-- what is wrong where the reader refuses
+abbrev pub IsRefused : ExprError → Deed → Type 0
+IsRefused fault.Memory told = ⊥
+IsRefused fault.Syntax told = told ≡ deed.Flaw flaw.Expression
+IsRefused fault.Depth told = told ≡ deed.Flaw flaw.Limit
+IsRefused fault.Operands told = told ≡ deed.Flaw flaw.Limit

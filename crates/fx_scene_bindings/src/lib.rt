@@ -1,0 +1,10 @@
+//! Expressions of a document: properties bound to what stands between `${` and `}`, over properties of nodes by their names.
+#![tactic(auto)]
+
+mod binding;
+mod names;
+mod operands;
+mod reading;
+
+pub use binding::bound_deed;
+pub use names::{Named, behind, found, names_of, value_at};

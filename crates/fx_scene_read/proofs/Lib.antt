@@ -1,0 +1,3 @@
+pub mod ActLemmas
+pub mod CountLemmas
+pub mod HeldLemmas

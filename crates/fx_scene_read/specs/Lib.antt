@@ -1,0 +1,5 @@
+pub mod Acting
+pub mod Documents
+pub mod Opening
+pub mod Parts
+pub mod Views

@@ -1,0 +1,54 @@
+-- Properties by the names that documents have for them, and what attributes and texts for them ask for.
+use Rattle.std.specs.Prelude.{ℕ, List, codes, Option, Some, None, if◌then◌else◌}
+use Rattle.std.specs.List.{find}
+use Rattle.std.specs.Str.{bytes_eq}
+use Rattle.fx_kinds.specs.Properties.{ListedProperty, properties_of}
+use Rattle.fx_kinds.specs.declared.classes.Class.{Class}
+use Rattle.fx_scene_acts.specs.declared.acts.Deed.{Deed}
+use Rattle.fx_scene_acts.specs.declared.acts.Deed.TheVariants as deed
+use Rattle.fx_scene_flaws.specs.declared.flaws.Flaw.TheVariants as flaw
+use Rattle.fx_scene_plan.specs.declared.steps.PlannedStep.TheVariants as planned
+use Rattle.fx_scene_values.specs.Forms as form
+use Rattle.fx_scene_values.specs.Forms.{Form, form_of}
+use Rattle.fx_scene_values.specs.Values.{literal, property_of, value_in}
+use Rattle.fx_scene_values.specs.declared.values.Given.{Given}
+use Rattle.fx_scene_values.specs.declared.values.Given.TheVariants.{Value, Flaw}
+
+-- documents call the size of the font `font`
+abbrev pub property_name : List ℕ → List ℕ
+property_name name = if bytes_eq name (codes "font") then codes "fontSize" else name
+
+abbrev pub listed : Class → List ℕ → Option ListedProperty
+listed class name = find (λ (p : ListedProperty). bytes_eq p.name name) (properties_of class)
+
+-- the property of the class that documents call so
+unfoldable pub property_named : Class → List ℕ → Option ListedProperty
+property_named class name =
+    if bytes_eq name (codes "fontSize") then None else listed class (property_name name)
+
+-- a property that is only published can't be given
+abbrev pub given_deed : ℕ → ListedProperty → Given → Deed
+given_deed node property (Flaw mistake) = deed.Flaw mistake
+given_deed node property (Value content) =
+    if property.read_only then deed.Flaw flaw.ReadOnly
+    else deed.Step (planned.Code (property_of node property.name) content)
+
+-- an expression is taken once all nodes are there
+abbrev pub bound_deed : ListedProperty → Option Deed
+bound_deed property = if property.read_only then Some (deed.Flaw flaw.ReadOnly) else None
+
+abbrev pub formed_deed : ℕ → ListedProperty → Form → Option Deed
+formed_deed node property (form.Bound text) = bound_deed property
+formed_deed node property other = Some (given_deed node property (value_in property.kind other))
+
+abbrev pub deed_if : ℕ → List ℕ → Option ListedProperty → Option Deed
+deed_if node text None = Some (deed.Flaw flaw.Property)
+deed_if node text (Some property) = formed_deed node property (form_of text)
+
+-- what the attribute of this name and text asks for
+unfoldable pub property_deed : Class → ℕ → List ℕ → List ℕ → Option Deed
+property_deed class node name text = deed_if node text (property_named class name)
+
+-- what the text of a property element asks for; it stands for itself
+abbrev pub property_text : ℕ → ListedProperty → List ℕ → Deed
+property_text node property text = given_deed node property (literal property.kind text)

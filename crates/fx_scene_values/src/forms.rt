@@ -1,0 +1,80 @@
+//! What the text of an attribute is by the signs in front of it.
+ghost use Rattle.std.specs.Prelude.{◌≡◌, ◌<◌};
+ghost use Rattle.std.specs.Option.{option_map};
+ghost use Rattle.fx_script_commands.specs.Braces.{before_sign, behind_sign};
+ghost use Rattle.fx_scene_values.specs.Forms as spec;
+ghost use Rattle.fx_scene_values.specs.Views.{form_view};
+
+/// What the text of an attribute is.
+#[derive(Clone, Copy)]
+pub enum Form<'a> {
+    /// It stands for itself.
+    Literal(&'a str),
+    /// An expression that the property is bound to.
+    Bound(&'a str),
+    /// A value by its name.
+    Named,
+    /// A location.
+    Located,
+    /// It is of no form.
+    Refused,
+}
+
+/// The form of a text: `\` makes the rest literal, `${` and `}` stand around an expression, `$` before a name and `@`
+/// before a location.
+#[tactic(auto, unfolding(crate::specs::Forms::form_of))]
+pub fn form_of(text: &str) -> Form<'_>
+    ensures { form_view result ≡ spec.form_of text.now }
+{
+    if let Some(rest) = behind_sign(text, '\\') {
+        return Form::Literal(rest);
+    }
+    if let Some(rest) = behind_sign(text, '$') {
+        return dollar_form(rest);
+    }
+    unsigned_form(text)
+}
+
+fn unsigned_form(text: &str) -> Form<'_>
+    ensures { form_view result ≡ spec.unsigned_form text.now }
+{
+    match text.as_bytes() {
+        [b'@', ..] => Form::Located,
+        [b'%', ..] => Form::Refused,
+        _ => Form::Literal(text),
+    }
+}
+
+/// What stands behind `$`: an expression between braces, or a name.
+fn dollar_form(rest: &str) -> Form<'_>
+    ensures { form_view result ≡ spec.dollar_form rest.now }
+{
+    match behind_sign(rest, '{') {
+        Some(inside) => brace_form(inside),
+        None => Form::Named,
+    }
+}
+
+fn brace_form(inside: &str) -> Form<'_>
+    ensures { form_view result ≡ spec.brace_form inside.now }
+{
+    match before_sign(inside, '}') {
+        Some(text) => Form::Bound(text),
+        None => Form::Refused,
+    }
+}
+
+/// What stands behind the sign at the front.
+pub(crate) fn behind_sign(text: &str, sign: char) -> Option<&str>
+    requires { sign < 128 }
+    ensures { option_map (λ rest. rest.now) result ≡ behind_sign sign text.now }
+{
+    text.strip_prefix(sign)
+}
+
+fn before_sign(text: &str, sign: char) -> Option<&str>
+    requires { sign < 128 }
+    ensures { option_map (λ front. front.now) result ≡ before_sign sign text.now }
+{
+    text.strip_suffix(sign)
+}

@@ -1,0 +1,17 @@
+//! What the attributes of an instance ask for, each by itself: values of properties and of constraints, style classes and
+//! inline styles, or what is wrong with them.
+#![tactic(auto)]
+
+mod forms;
+mod properties;
+mod roles;
+mod statics;
+mod styles;
+mod values;
+
+pub use forms::{Form, form_of};
+pub use properties::{property_deed, property_given, property_named, property_text};
+pub use roles::{Role, role_of};
+pub use statics::{static_deed, static_given, static_text};
+pub use styles::{add_classes, handler_deed, style_deed};
+pub use values::{Given, planned_property, value_in};

@@ -1,0 +1,125 @@
+//! Properties by the names that documents have for them.
+ghost use Rattle.std.specs.Prelude.{◌≡◌, IfOk};
+ghost use Rattle.std.specs.List.{find};
+ghost use Rattle.std.specs.Option.{option_map};
+ghost use Rattle.std.specs.Str.{bytes_eq};
+ghost use Rattle.fx_kinds.specs.Listing.{listed_property};
+ghost use Rattle.fx_kinds.specs.Properties.{ListedProperty, properties_of};
+ghost use Rattle.fx_scene_values.specs.Properties as spec;
+ghost use Rattle.fx_scene_values.specs.Views.{form_view};
+
+use crate::forms::{Form, form_of};
+use crate::values::{Given, literal, planned_property, value_in};
+use fx_kinds::{Class, Property, properties};
+use fx_scene_acts::Deed;
+use fx_scene_flaws::Flaw;
+use fx_scene_plan::PlannedStep;
+use std::alloc::{AllocError, Global};
+
+/// The property of the class that documents call so.
+#[tactic(auto, unfolding(crate::specs::Properties::property_named))]
+pub fn property_named(class: Class, name: &str) -> Option<&'static Property>
+    ensures { option_map (λ p. listed_property p.now) result ≡ spec.property_named class name.now }
+{
+    if name == "fontSize" {
+        return None;
+    }
+    listed(class, property_name(name))
+}
+
+/// The size of the font is called `font`.
+fn property_name(name: &str) -> &str
+    ensures { result.now ≡ spec.property_name name.now }
+{
+    if name == "font" { "fontSize" } else { name }
+}
+
+fn listed(class: Class, name: &str) -> Option<&'static Property>
+    ensures { option_map (λ p. listed_property p.now) result ≡ spec.listed class name.now }
+{
+    first_named(properties(class), name)
+}
+
+fn first_named<'a>(list: &'a [Property], name: &str) -> Option<&'a Property>
+    ensures { option_map (λ p. p.now) result ≡ find (λ p. bytes_eq p.name.now name.now) list.now }
+{
+    list.iter().find(|p| p.name == name)
+}
+
+/// What the attribute of this name and text asks for. An expression asks for nothing yet.
+#[tactic(auto, unfolding(crate::specs::Properties::property_deed))]
+pub fn property_deed(
+    alloc: Global,
+    class: Class,
+    node: usize,
+    name: &str,
+    text: &str,
+) -> Result<Option<Deed>, AllocError>
+    ensures { IfOk result (λ deed. deed ≡ spec.property_deed class node name.now text.now) }
+{
+    match property_named(class, name) {
+        Some(property) => formed_deed(alloc, node, property, form_of(text)),
+        None => Ok(Some(Deed::Flaw(Flaw::Property))),
+    }
+}
+
+fn formed_deed(
+    alloc: Global,
+    node: usize,
+    property: &Property,
+    form: Form<'_>,
+) -> Result<Option<Deed>, AllocError>
+    ensures { IfOk result (λ deed. deed ≡ spec.formed_deed node (listed_property property.now) (form_view form.entry)) }
+{
+    match form {
+        Form::Bound(_) => Ok(bound_deed(property)),
+        _ => {
+            let given = value_in(alloc, property.kind, form)?;
+            Ok(Some(property_given(alloc, node, property, given)?))
+        }
+    }
+}
+
+fn bound_deed(property: &Property) -> Option<Deed>
+    ensures { result ≡ spec.bound_deed (listed_property property.now) }
+{
+    if property.read_only {
+        Some(Deed::Flaw(Flaw::ReadOnly))
+    } else {
+        None
+    }
+}
+
+/// What giving the property a value asks for.
+pub fn property_given(
+    alloc: Global,
+    node: usize,
+    property: &Property,
+    given: Given,
+) -> Result<Deed, AllocError>
+    ensures { IfOk result (λ deed. deed ≡ spec.given_deed node (listed_property property.now) given) }
+{
+    match given {
+        Given::Flaw(flaw) => Ok(Deed::Flaw(flaw)),
+        Given::Value(value) => {
+            if property.read_only {
+                return Ok(Deed::Flaw(Flaw::ReadOnly));
+            }
+            let property = planned_property(alloc, node, property.name)?;
+            Ok(Deed::Step(PlannedStep::Code(property, value)))
+        }
+    }
+}
+
+/// What the text of a property element asks for. It stands for itself.
+pub fn property_text(
+    alloc: Global,
+    node: usize,
+    property: &Property,
+    text: &str,
+) -> Result<Deed, AllocError>
+    ensures { IfOk result (λ deed. deed ≡ spec.property_text node (listed_property property.now) text.now) }
+{
+    let given = literal(alloc, property.kind, text)?;
+    property_given(alloc, node, property, given)
+}

@@ -1,0 +1,142 @@
+//! Style classes, inline styles and handlers.
+ghost use Rattle.std.specs.Prelude.{◌≡◌, ◌++◌, IfOk, OnOk, map};
+ghost use Rattle.std.specs.List.{flat_map, slice_split};
+ghost use Rattle.fx_text.specs.Trimming.{trimmed};
+ghost use Rattle.fx_scene_values.specs.Styles as spec;
+ghost use Rattle.fx_scene_values.specs.Views.{form_view};
+
+use crate::forms::{Form, behind_sign, form_of};
+use fx_base::Text;
+use fx_css_types::Sheet;
+use fx_scene_acts::Deed;
+use fx_scene_flaws::Flaw;
+use fx_scene_plan::PlannedStep;
+use fx_stage_words::read_style;
+use fx_text::{is_identifier, trimmed};
+use std::alloc::{AllocError, Global};
+use std::str;
+
+/// What the attribute `style` of this text asks for.
+#[tactic(auto, unfolding(crate::specs::Styles::style_deed))]
+pub fn style_deed(alloc: Global, node: usize, text: &str) -> Result<Deed, AllocError>
+    ensures { IfOk result (λ deed. deed ≡ spec.style_deed node text.now) }
+{
+    match form_of(text) {
+        Form::Literal(style) => literal_style(alloc, node, style),
+        other => Ok(Deed::Flaw(unplain(other))),
+    }
+}
+
+/// What is wrong with a text that doesn't stand for itself, where no expression may stand. Locations aren't read yet.
+fn unplain(form: Form<'_>) -> Flaw
+    ensures { result ≡ spec.unplain (form_view form.entry) }
+{
+    match form {
+        Form::Named => Flaw::Name,
+        Form::Located => Flaw::NotBuilt,
+        _ => Flaw::Value,
+    }
+}
+
+fn literal_style(alloc: Global, node: usize, style: &str) -> Result<Deed, AllocError>
+    ensures { IfOk result (λ deed. deed ≡ spec.literal_style node style.now) }
+{
+    match read_style(alloc, style)? {
+        Some(sheet) => Ok(whole_style(node, sheet)),
+        None => Ok(Deed::Flaw(Flaw::Limit)),
+    }
+}
+
+/// A style of which something is dropped isn't read yet.
+fn whole_style(node: usize, sheet: Sheet) -> Deed
+    ensures { result ≡ spec.whole_style node sheet }
+{
+    match sheet.warnings.as_slice() {
+        [] => Deed::Step(PlannedStep::Inline(node, sheet)),
+        [_, ..] => Deed::Flaw(Flaw::NotBuilt),
+    }
+}
+
+/// Adds what the attribute `styleClass` of this text asks for: a style class for each part between commas.
+#[tactic(auto, unfolding(crate::specs::Styles::class_deeds))]
+pub fn add_classes(
+    alloc: Global,
+    node: usize,
+    text: &str,
+    deeds: &mut Vec<Deed>,
+) -> Result<(), AllocError>
+    ensures ok { OnOk result (deeds.new.items ≡ deeds.old.items ++ spec.class_deeds node text.now) }
+{
+    let items = items_of(alloc, text)?;
+    add_items(alloc, node, items.as_slice(), deeds)
+}
+
+fn add_items(
+    alloc: Global,
+    node: usize,
+    items: &[&str],
+    deeds: &mut Vec<Deed>,
+) -> Result<(), AllocError>
+    ensures ok { OnOk result (deeds.new.items
+        ≡ deeds.old.items ++ spec.item_deeds node (map (λ item. item.now) items.now)) }
+{
+    for item in items {
+        deeds.push(class_deed(alloc, node, trim_white(item))?)?;
+    }
+    Ok(())
+}
+
+fn items_of<'a>(alloc: Global, text: &'a str) -> Result<Vec<&'a str>, AllocError>
+    ensures { IfOk result (λ items. map (λ item. item.now) items.items ≡ slice_split spec.is_comma text.now) }
+{
+    text.split(',').collect(alloc)
+}
+
+fn class_deed(alloc: Global, node: usize, text: &str) -> Result<Deed, AllocError>
+    ensures { IfOk result (λ deed. deed ≡ spec.class_deed node text.now) }
+{
+    match form_of(text) {
+        Form::Literal(name) => literal_class(alloc, node, name),
+        other => Ok(Deed::Flaw(unplain(other))),
+    }
+}
+
+fn literal_class(alloc: Global, node: usize, name: &str) -> Result<Deed, AllocError>
+    ensures { IfOk result (λ deed. deed ≡ spec.literal_class node name.now) }
+{
+    match Text::from_str(alloc, name) {
+        Ok(name) => Ok(Deed::Step(PlannedStep::Class(node, name))),
+        Err(_) => Err(AllocError),
+    }
+}
+
+/// The text without the white at its ends.
+fn trim_white(text: &str) -> &str
+    ensures { result.now ≡ trimmed text.now }
+{
+    match str::from_utf8(trimmed(text.as_bytes())) {
+        Ok(middle) => middle,
+        Err(_) => unreachable!(),
+    }
+}
+
+/// What a handler's attribute of this text asks for: handlers aren't read yet.
+#[tactic(auto, unfolding(crate::specs::Styles::handler_deed))]
+pub fn handler_deed(text: &str) -> Deed
+    ensures { result ≡ spec.handler_deed text.now }
+{
+    match behind_sign(text, '#') {
+        Some(name) => Deed::Flaw(handler_flaw(name)),
+        None => Deed::Flaw(Flaw::Value),
+    }
+}
+
+fn handler_flaw(name: &str) -> Flaw
+    ensures { result ≡ spec.handler_flaw name.now }
+{
+    if is_identifier(name) {
+        Flaw::NotBuilt
+    } else {
+        Flaw::Value
+    }
+}

@@ -33,7 +33,7 @@ pub fn build_scene<L: Ledgers>(
 
 /// Makes one step, and keeps the key of the node that it makes.
 #[tactic(auto, unfolding(fx_scene_plan::specs::Plans::stepped))]
-fn take_step<L: Ledgers>(
+pub fn take_step<L: Ledgers>(
     alloc: Global,
     stage: &mut Stage,
     keys: &mut Vec<NodeKey>,

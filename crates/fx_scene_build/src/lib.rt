@@ -4,4 +4,4 @@
 mod building;
 mod resolving;
 
-pub use building::build_scene;
+pub use building::{build_scene, take_step};

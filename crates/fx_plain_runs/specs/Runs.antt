@@ -1,16 +1,16 @@
 -- A script played on a loaded scene, and what it writes.
 use Rattle.std.specs.Prelude.{◌≡◌, ℕ, Bool, List, Option, Some, None, Result, OnErr, OnOk, Ok, Err, if◌then◌else◌, take}
 use Rattle.fx_frame_text.specs.declared.forms.Form.{Form}
-use Rattle.fx_scene_load.specs.declared.nodes.Node.{Node}
 use Rattle.fx_plain_frames.specs.Games.{Game, begun}
 use Rattle.fx_plain_frames.specs.Playing.{IsPlayed}
 use Rattle.fx_plain_steps.specs.Told.{Told, Totals, summary_line, texts_of, totals_of}
 use Rattle.fx_port.specs.Pieces.{GrewByPrefix, grown}
-use Rattle.fx_scene_first.specs.Plans.{plan_of}
-use Rattle.fx_scene_plan.specs.Plans.{IsPlanBuilt, Standing}
+use Rattle.fx_scene_acts.specs.Acts.{IsActed}
+use Rattle.fx_scene_acts.specs.declared.acts.Act.{Act}
+use Rattle.fx_scene_flaws.specs.declared.flaws.Fault.{Fault}
+use Rattle.fx_scene_plan.specs.Plans.{Standing}
 use Rattle.fx_script_commands.specs.Requests.{Numbered}
 use Rattle.fx_stage_model.specs.World.{World, nowhere}
-use Rattle.fx_stage_types.specs.declared.refusals.Refusal.{Refusal}
 
 -- how a run shows what it does: the window if one is asked for, the form of images, and whether one line of totals
 -- stands in place of all lines
@@ -24,15 +24,15 @@ abbrev pub in_window : Option (ℕ × ℕ) → World → World
 in_window None world = world
 in_window (Some window) world = record world { window = Some window }
 
--- the scene is built on a bare stage, and no frame was made
-pub record IsBegun (window : Option (ℕ × ℕ)) (nodes : List Node) (first : Game) : Type 0 where
+-- the acts of a scene are done on a bare stage, and no frame was made
+pub record IsBegun (window : Option (ℕ × ℕ)) (acts : List Act) (first : Game) : Type 0 where
   pub standing : Standing
-  pub built : IsPlanBuilt (plan_of nodes) nowhere (Ok standing)
+  pub built : IsActed acts nowhere (Ok standing)
   pub begins : first ≡ begun (in_window window standing.world)
 
--- a step of the scene is refused
-abbrev pub IsUnbuilt : List Node → Type 0
-IsUnbuilt nodes = (word : Refusal) × IsPlanBuilt (plan_of nodes) nowhere (Err word)
+-- this is the first fault of the acts
+abbrev pub IsFaulty : List Act → Fault → Type 0
+IsFaulty acts fault = IsActed acts nowhere (Err fault)
 
 -- what is written of what lines tell: one line behind the other, or the totals of them all
 abbrev pub written_of : Manner → List Told → List ℕ

@@ -1,0 +1,72 @@
+-- Loading: the files of a run, in the order of work, and the first fault.
+use Rattle.std.specs.Prelude.{◌≡◌, ℕ, List, ◌++◌, None, Result, Ok, Err, length, map, take}
+use Rattle.fx_base.specs.Positions.{after_all, start}
+use Rattle.fx_css_types.specs.declared.sheets.Sheet.{Sheet}
+use Rattle.fx_doc_grammar.specs.Judgements.{Judgement, NoText, Judged, document_text, judgement}
+use Rattle.fx_doc_grammar.specs.Verdicts.{Verdict, Reads, Stops, Deep, Long}
+use Rattle.fx_load_parts.specs.Faults.{Fault, fault_at, nowhere}
+use Rattle.fx_load_parts.specs.Files.{Run, fetched}
+use Rattle.fx_load_parts.specs.Scripts.{script_in}
+use Rattle.fx_load_parts.specs.Sheets.{AreSheets}
+use Rattle.fx_load_parts.specs.Warnings.{warnings_of}
+use Rattle.fx_load_parts.specs.declared.files.FaultKind.TheVariants.{NotUtf8, Markup, Flawed}
+use Rattle.fx_port.specs.Files.{Files}
+use Rattle.fx_scene_acts.specs.Acts.{act_of}
+use Rattle.fx_scene_acts.specs.declared.acts.Act.{Act}
+use Rattle.fx_scene_acts.specs.declared.acts.Deed.TheVariants.{Step}
+use Rattle.fx_scene_flaws.specs.declared.flaws.Flaw.TheVariants.{Limit}
+use Rattle.fx_scene_plan.specs.declared.steps.PlannedStep.TheVariants as planned
+use Rattle.fx_scene_read.specs.Documents.{acts_of}
+use Rattle.fx_script_commands.specs.Requests.{Numbered}
+
+-- a document that is read asks for its acts; every other verdict has its fault at its place
+abbrev pub acts_of_verdict : List ℕ → Verdict → Result (List Act) Fault
+acts_of_verdict name (Reads document) = Ok (acts_of document)
+acts_of_verdict name (Stops position) = Err (fault_at Markup name position)
+acts_of_verdict name (Deep position) = Err (fault_at (Flawed Limit) name position)
+acts_of_verdict name (Long position) = Err (fault_at (Flawed Limit) name position)
+
+-- the first byte that is no text stands behind the characters before it
+abbrev pub acts_of_judgement : List ℕ → List ℕ → Judgement → Result (List Act) Fault
+acts_of_judgement name bytes (NoText n) =
+    Err (fault_at NotUtf8 name (after_all start (document_text (take n bytes))))
+acts_of_judgement name bytes (Judged verdict) = acts_of_verdict name verdict
+
+-- what a scene file asks for
+unfoldable pub acts_of_scene : List ℕ → List ℕ → Result (List Act) Fault
+acts_of_scene name bytes = acts_of_judgement name bytes (judgement bytes)
+
+abbrev pub acts_of_bytes : List ℕ → Result (List ℕ) Fault → Result (List Act) Fault
+acts_of_bytes name (Err fault) = Err fault
+acts_of_bytes name (Ok bytes) = acts_of_scene name bytes
+
+-- what the scene of this name asks for, the file of this number behind the script
+abbrev pub scene_in : Files → ℕ → List ℕ → Result (List Act) Fault
+scene_in files file name = acts_of_bytes name (fetched files file name)
+
+-- a sheet of the words is one of the scene
+abbrev pub sheet_act : Sheet → Act
+sheet_act sheet = act_of nowhere (Step (planned.Sheet None sheet))
+
+-- what builds the scene, the lines that are played on it, and what is told before them of what was dropped of sheets
+pub record Loaded : Type 0 where
+  pub acts : List Act
+  pub lines : List Numbered
+  pub warnings : List ℕ
+
+abbrev pub loaded_with : Run → List Numbered → List Sheet → List Act → Loaded
+loaded_with run lines sheets acts =
+    record { acts = map sheet_act sheets ++ acts; lines = lines; warnings = warnings_of run.sheets sheets }
+
+-- the script is fetched and read first, then the sheets in their order, then the scene
+pub data IsElaborated (run : Run) (files : Files) : Result Loaded Fault → Type 0 where
+  script_refused : (fault : Fault) → script_in files run.script ≡ Err fault → IsElaborated run files (Err fault)
+  sheet_refused : (lines : List Numbered) (fault : Fault) → script_in files run.script ≡ Ok lines
+      → AreSheets files run.sheets (Err fault) → IsElaborated run files (Err fault)
+  scene_refused : (lines : List Numbered) (sheets : List Sheet) (fault : Fault)
+      → script_in files run.script ≡ Ok lines → AreSheets files run.sheets (Ok sheets)
+      → scene_in files (length run.sheets) run.scene ≡ Err fault → IsElaborated run files (Err fault)
+  all_read : (lines : List Numbered) (sheets : List Sheet) (acts : List Act)
+      → script_in files run.script ≡ Ok lines → AreSheets files run.sheets (Ok sheets)
+      → scene_in files (length run.sheets) run.scene ≡ Ok acts
+      → IsElaborated run files (Ok (loaded_with run lines sheets acts))

@@ -1,3 +1,0 @@
-pub mod AttributeLemmas
-pub mod SceneLemmas
-pub mod ScriptLemmas

@@ -1,9 +1,0 @@
-pub mod Attributes
-pub mod Faults
-pub mod Nodes
-pub mod Loading
-pub mod Loads
-pub mod Parts
-pub mod Says
-pub mod Scene
-pub mod Views

@@ -2,7 +2,7 @@
 ghost use Rattle.std.specs.Prelude.{◌≡◌, IfOk, IfSome, IsTrue, true};
 ghost use Rattle.fx_canvas.specs.Surfaces.{is_size};
 ghost use Rattle.fx_plain_frames.specs.Pulses.{scene_of, sizes_of};
-ghost use Rattle.fx_pulse.specs.Drawing.{seen};
+ghost use Rattle.fx_pulse_touched.specs.Sights.{seen};
 ghost use Rattle.fx_pulse_model.specs.Scenes.{IsScene};
 ghost use Rattle.fx_stage_facts.specs.Scenes.{facts_of};
 ghost use Rattle.fx_stage_model.specs.World.{World};

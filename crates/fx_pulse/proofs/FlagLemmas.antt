@@ -1,4 +1,4 @@
--- A node shows where its parent does and it is visible, and is disabled where its parent is or it is so itself.
+-- A node shows where its parent does and it is visible.
 use Rattle.std.proofs.Common.{refl, sym, ap, ◌∙◌, ◌≡◌, ℕ, ◌<◌, ◌&&◌, ◌||◌, Bool, true, false, length, Option, None, Some, slice_index_or, arith}
 use Rattle.std.specs.List.{list_all, list_any}
 use Rattle.std.proofs.lemmas.List.{length-map}
@@ -7,9 +7,8 @@ use Rattle.fx_layout_sweeps.specs.Nodes.{IsTree, Parents, look_at, node_at, pare
 use Rattle.fx_pulse_model.specs.Lines.{line_to}
 use Rattle.fx_pulse_model.specs.Pictures.{Drawn, is_disabled, shows}
 use Rattle.fx_pulse_model.proofs.LineLemmas.{all_child, all_root, any_child, any_root, before}
-use Rattle.fx_pulse.specs.Drawing.{told, told_above}
-use Rattle.fx_pulse.proofs.ToldLemmas.{told_at}
-use Rattle.fx_pulse.proofs.PathLemmas.{read}
+use Rattle.fx_pulse_touched.specs.Marks.{told, told_above}
+use Rattle.fx_pulse_touched.proofs.ToldLemmas.{read, told_at}
 
 pub all_next : (ups : Parents) (test : ℕ → Bool) (k : ℕ) → IsTree ups → k < length ups
     → list_all test (line_to ups k)
@@ -27,33 +26,9 @@ all_next ups test k tree within = by (parent_at ups k) refl
         ∙ (sym (ap (λ b. b && test k) (told_at all k p false (before ups k p tree within is)))
         ∙ sym (ap (λ o. told_above (told all k) o true && test k) is))
 
-pub any_next : (ups : Parents) (test : ℕ → Bool) (k : ℕ) → IsTree ups → k < length ups
-    → list_any test (line_to ups k)
-    ≡ (told_above (told (λ j. list_any test (line_to ups j)) k) (parent_at ups k) false || test k)
-any_next ups test k tree within = by (parent_at ups k) refl
-  where
-    some : ℕ → Bool
-    some j = list_any test (line_to ups j)
-
-    by : (o : Option ℕ) → parent_at ups k ≡ o
-        → list_any test (line_to ups k) ≡ (told_above (told some k) (parent_at ups k) false || test k)
-    by None is = any_root ups test k is ∙ sym (ap (λ o. told_above (told some k) o false || test k) is)
-    by (Some p) is =
-        any_child ups test k p tree within is
-        ∙ (sym (ap (λ b. b || test k) (told_at some k p false (before ups k p tree within is)))
-        ∙ sym (ap (λ o. told_above (told some k) o false || test k) is))
-
 pub shows_next : (d : Drawn) (k : ℕ) → IsTree (parents d.boxes) → k < length d.boxes
     → shows d k ≡ (told_above (told (shows d) k) (node_at d.boxes k).parent true && (look_at d.looks k).visibility)
 shows_next d k tree within =
     let long = length-map d.boxes (λ (n : BoxFacts). n.parent) in
     all_next (parents d.boxes) (λ p. (look_at d.looks p).visibility) k tree (omega (arith, within, long))
     ∙ ap (λ o. told_above (told (shows d) k) o true && (look_at d.looks k).visibility) (read d.boxes k within)
-
-pub disabled_next : (d : Drawn) (k : ℕ) → IsTree (parents d.boxes) → k < length d.boxes
-    → is_disabled d k
-    ≡ (told_above (told (is_disabled d) k) (node_at d.boxes k).parent false || slice_index_or d.disabled k false)
-disabled_next d k tree within =
-    let long = length-map d.boxes (λ (n : BoxFacts). n.parent) in
-    any_next (parents d.boxes) (λ p. slice_index_or d.disabled p false) k tree (omega (arith, within, long))
-    ∙ ap (λ o. told_above (told (is_disabled d) k) o false || slice_index_or d.disabled k false) (read d.boxes k within)

@@ -6,15 +6,10 @@ use Rattle.fx_kinds.specs.declared.facts.BoxFacts.{BoxFacts}
 use Rattle.fx_layout_sweeps.specs.Nodes.{IsTree, no_node, node_at, parent_at, parents}
 use Rattle.fx_pulse_model.specs.Lines.{path_of}
 use Rattle.fx_pulse_model.proofs.LineLemmas.{before, path_child, path_root}
-use Rattle.fx_pulse.specs.Drawing.{AreCounts, told}
+use Rattle.fx_pulse.specs.Drawing.{AreCounts}
+use Rattle.fx_pulse_touched.specs.Marks.{told}
 use Rattle.fx_pulse.proofs.CountLemmas.{counts_few, counts_none, counts_some}
-use Rattle.fx_pulse.proofs.ToldLemmas.{told_at}
-
-pub long : (boxes : List BoxFacts) → length (parents boxes) ≡ length boxes
-long boxes = length-map boxes (λ (n : BoxFacts). n.parent)
-
-pub read : (boxes : List BoxFacts) (k : ℕ) → k < length boxes → parent_at (parents boxes) k ≡ (node_at boxes k).parent
-read boxes k within = get_or-map (λ (n : BoxFacts). n.parent) boxes k no_node None within
+use Rattle.fx_pulse_touched.proofs.ToldLemmas.{long, read, told_at}
 
 pub parent_before : (boxes : List BoxFacts) (k p : ℕ) → IsTree (parents boxes) → k < length boxes
     → (node_at boxes k).parent ≡ Some p → p < k

@@ -1,6 +1,6 @@
 -- What is shown after a frame: the canvas follows the pictures.
 use Rattle.std.proofs.Common.{sym, ap, subst, ◌∙◌, ◌≡◌, ℕ, ◌&&◌, Bool, true, false, cond, List, max, min, nat_eq, nat_le, Option, Some, None, arith}
-use Rattle.std.specs.Prelude.{IfSome}
+use Rattle.std.specs.Prelude.{Err, IfOk, IfSome, OnOk, Ok, Result}
 use Rattle.std.specs.Option.{option_map}
 use Rattle.std.specs.List.{list_all}
 use Rattle.std.proofs.lemmas.Bool.{and_from, true≢false}
@@ -71,7 +71,7 @@ pub wide : (r : Rendering) (w h : ℕ) → has_size (last_frame r) w h ≡ true 
 wide r w h = by r.canvas
   where
     by : (canvas : Option Surface)
-        → has_size (last_frame (record { canvas = canvas; picture = r.picture; rects = r.rects })) w h ≡ true
+        → has_size (last_frame (record r { canvas = canvas })) w h ≡ true
         → (surface_of canvas).width ≡ w
     by None e = absurd (true≢false (sym e))
     by (Some s) e = (equal s.width w s.height h e).0
@@ -80,7 +80,7 @@ pub high : (r : Rendering) (w h : ℕ) → has_size (last_frame r) w h ≡ true 
 high r w h = by r.canvas
   where
     by : (canvas : Option Surface)
-        → has_size (last_frame (record { canvas = canvas; picture = r.picture; rects = r.rects })) w h ≡ true
+        → has_size (last_frame (record r { canvas = canvas })) w h ≡ true
         → (surface_of canvas).height ≡ h
     by None e = absurd (true≢false (sym e))
     by (Some s) e = (equal s.width w s.height h e).1
@@ -91,9 +91,9 @@ pub damage_next : (r : Rendering) (nows : List Entry) (w h : ℕ) → has_size (
 damage_next r nows w h = by r.canvas
   where
     by : (canvas : Option Surface)
-        → has_size (last_frame (record { canvas = canvas; picture = r.picture; rects = r.rects })) w h ≡ true
+        → has_size (last_frame (record r { canvas = canvas })) w h ≡ true
         → damage (Some r.picture) nows w h
-        ≡ frame_damage (last_frame (record { canvas = canvas; picture = r.picture; rects = r.rects })) nows w h
+        ≡ frame_damage (last_frame (record r { canvas = canvas })) nows w h
     by None e = absurd (true≢false (sym e))
     by (Some s) e = sym (ap (λ b. damage (cond b (Some r.picture) None) nows w h) e)
 
@@ -128,3 +128,9 @@ shown_first before after nows rects w h p q is painted =
     shows_anew nows before after
     (subst (λ l. IsRepainted before nows l after)
     (is ∙ (ap (λ n. damage None nows n h) (sym p) ∙ ap (λ n. damage None nows before.width n) (sym q))) painted)
+
+-- ---- what is said of two answers at once
+pub both_ok : {T E : Type 0} (r : Result T E) (P : T → Type 0) (Q R : Type 0) → ((x : T) → P x → Q → R) → IfOk r P
+    → OnOk r Q → OnOk r R
+both_ok (Ok x) P Q R goes one two = goes x one two
+both_ok (Err e) P Q R goes one two = tt

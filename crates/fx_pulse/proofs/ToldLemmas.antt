@@ -1,4 +1,4 @@
--- What is told of each node in turn.
+-- The paths of the nodes, one after another, rise where the nodes are in order.
 use Rattle.std.proofs.Common.{subst, ◌≡◌, ℕ, suc, ◌+◌, ◌<◌, ◌++◌, ◌∷◌, [], get_or, length, arith, zero-add}
 use Rattle.std.specs.List.{range_with_len}
 use Rattle.std.proofs.lemmas.Bool.{cases_lt}
@@ -9,16 +9,9 @@ use Rattle.std.specs.declared.cmp.Ordering.TheVariants.{Less}
 use Rattle.std.proofs.lemmas.List.FromFn.{get_or-map-range_with_len, length-map-range_with_len, map-range_with_len_more}
 use Rattle.fx_layout_sweeps.specs.Nodes.{Parents}
 use Rattle.fx_pulse_model.specs.Lines.{AreInOrder, path_of}
-use Rattle.fx_pulse.specs.Drawing.{DoRise, told}
-
-pub told_at : {A : Type 0} (tell : ℕ → A) (n k : ℕ) (d : A) → k < n → get_or (told tell n) k d ≡ tell k
-told_at tell n k d within = get_or-map-range_with_len tell 0 n k k d within (zero-add k)
-
-pub told_long : {A : Type 0} (tell : ℕ → A) (n : ℕ) → length (told tell n) ≡ n
-told_long tell n = length-map-range_with_len tell 0 n
-
-pub told_more : {A : Type 0} (tell : ℕ → A) (n : ℕ) → told tell (n + 1) ≡ told tell n ++ tell n ∷ []
-told_more tell n = map-range_with_len_more tell 0 n n (zero-add n)
+use Rattle.fx_pulse.specs.Drawing.{DoRise}
+use Rattle.fx_pulse_touched.specs.Marks.{told}
+use Rattle.fx_pulse_touched.proofs.ToldLemmas.{told_at, told_long}
 
 pub in_order : (ups : Parents) (n : ℕ) → n ≡ length ups → DoRise (told (path_of ups) n) → AreInOrder ups
 in_order ups n long rise k within =
@@ -42,15 +35,6 @@ rise_more paths n rise last k within = elim (cases_lt (suc k) n) [
       subst (λ j. slice_cmp nat_cmp (get_or paths j []) (get_or paths (suc k) []) ≡ Less) before
       (subst (λ j. slice_cmp nat_cmp (get_or paths (n - 1) []) (get_or paths j []) ≡ Less) here last))
 ]
-
-pub range_more : (n : ℕ) → range_with_len 0 (n + 1) ≡ range_with_len 0 n ++ n ∷ []
-range_more n =
-    sym (same (range_with_len 0 (n + 1)))
-    ∙ (told_more (λ k. k) n ∙ ap (λ l. l ++ n ∷ []) (same (range_with_len 0 n)))
-  where
-    same : (ks : List ℕ) → map (λ k. k) ks ≡ ks
-    same [] = refl
-    same (k ∷ ks) = ap (λ l. k ∷ l) (same ks)
 
 pub order_rise : (ups : Parents) (n : ℕ) → n ≡ length ups → AreInOrder ups → DoRise (told (path_of ups) n)
 order_rise ups n long order k within =

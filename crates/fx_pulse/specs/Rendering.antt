@@ -6,13 +6,16 @@ use Rattle.fx_canvas.specs.Surfaces.{Surface}
 use Rattle.fx_canvas_laws.specs.Frames.{Shows}
 use Rattle.fx_picture.specs.Entries.{HasDistinctBirths, Rises}
 use Rattle.fx_picture.specs.declared.entries.Entry.{Entry}
+use Rattle.fx_pulse_kept.specs.Keeping.{Keeping}
 use Rattle.fx_pulse_model.specs.Frames.{Framed}
 
--- the canvas, if there was a frame, the last picture, and the rectangle of each node of the last scene, in its order
+-- the canvas, if there was a frame, the last picture, the rectangle of each node of its scene, in order, and what is
+-- kept of the last scene
 pub record Rendering : Type 0 where
   pub canvas : Option Surface
   pub picture : List Entry
   pub rects : List Rect
+  pub kept : Keeping
 
 -- the last frame, if there was one
 abbrev pub last_frame : Rendering → Option Framed

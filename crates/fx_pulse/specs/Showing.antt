@@ -12,6 +12,7 @@ pub record IsShowing (made : Made) (old new : Rendering) (frame : Frame) : Type 
   pub height : frame.height ≡ made.height
   pub picture : new.picture ≡ made.picture.entries
   pub rects : new.rects ≡ made.rects.items
+  pub kept : new.kept ≡ old.kept
   pub columns : (surface_of new.canvas).width ≡ made.width
   pub rows : (surface_of new.canvas).height ≡ made.height
   pub shows : Shows (surface_of new.canvas) made.picture.entries

@@ -10,15 +10,16 @@ ghost use Rattle.fx_cascade.specs.Tables.{AreRows};
 ghost use Rattle.fx_layout_sweeps.specs.Nodes.{IsTree, keys, parents};
 ghost use Rattle.fx_pulse_model.specs.Lines.{AreInOrder};
 ghost use Rattle.fx_pulse_model.specs.Scenes.{IsScene, births};
-ghost use Rattle.fx_pulse.specs.Drawing.{DoRise, seen};
+ghost use Rattle.fx_pulse.specs.Drawing.{DoRise};
+ghost use Rattle.fx_pulse_touched.specs.Sights.{seen};
 ghost use Rattle.fx_style.specs.Rules.{HaveRows};
 
 use crate::paths::{path_at, paths_of};
-use crate::scenes::Scene;
 use fx_base::List;
 use fx_kinds::{BoxFacts, StyleFacts};
 use fx_layout::can_be_laid;
 use fx_look::CodeValue;
+use fx_pulse_touched::Scene;
 use std::alloc::{AllocError, Global};
 use std::cmp::Ordering;
 

@@ -6,7 +6,8 @@ ghost use Rattle.fx_layout.specs.Updates.{rect_at};
 ghost use Rattle.fx_layout_sweeps.specs.Nodes.{IsTree, parents};
 ghost use Rattle.fx_pulse_model.specs.Lines.{path_of};
 ghost use Rattle.fx_pulse_model.specs.Pictures.{IsEntry, IsPicture, is_disabled, shows, text_of};
-ghost use Rattle.fx_pulse.specs.Drawing.{drawn, shown_below, told};
+ghost use Rattle.fx_pulse.specs.Drawing.{drawn, shown_below};
+ghost use Rattle.fx_pulse_touched.specs.Marks.{told};
 ghost use Rattle.fx_shapes.specs.Rects.{IsNear};
 
 use crate::flags::{disabled_flags, flag_at, shown_flags};

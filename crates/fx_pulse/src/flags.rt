@@ -2,15 +2,16 @@
 ghost use Rattle.std.specs.Prelude.{◌≡◌, ◌&&◌, ◌||◌, true, false, IfOk, length, slice_index_or};
 ghost use Rattle.fx_layout_sweeps.specs.Nodes.{IsTree, look_at, node_at, parents};
 ghost use Rattle.fx_pulse_model.specs.Pictures.{is_disabled, shows};
-ghost use Rattle.fx_pulse.specs.Drawing.{drawn, told, told_above};
+ghost use Rattle.fx_pulse.specs.Drawing.{drawn};
+ghost use Rattle.fx_pulse_touched.specs.Marks.{told, told_above};
 
 use crate::entries::Laid;
 use fx_kinds::BoxFacts;
 use fx_look::Look;
+use fx_pulse_touched::marked_below;
 use std::alloc::{AllocError, Global};
 
 /// Whether each node shows.
-
 pub(crate) fn shown_flags(alloc: Global, laid: Laid<'_>) -> Result<Vec<bool>, AllocError>
     requires { IsTree (parents laid.boxes.now) }
     ensures { IfOk result (λ flags. flags.items ≡ told (shows (drawn laid.entry)) (length laid.entry.boxes.now)) }
@@ -23,17 +24,12 @@ pub(crate) fn shown_flags(alloc: Global, laid: Laid<'_>) -> Result<Vec<bool>, Al
 }
 
 /// Whether each node is disabled.
-
 pub(crate) fn disabled_flags(alloc: Global, laid: Laid<'_>) -> Result<Vec<bool>, AllocError>
     requires { IsTree (parents laid.boxes.now) }
     ensures { IfOk result (λ flags. flags.items
         ≡ told (is_disabled (drawn laid.entry)) (length laid.entry.boxes.now)) }
 {
-    let mut flags = Vec::with_capacity(alloc, laid.boxes.len())?;
-    for place in 0..laid.boxes.len() {
-        flags.push(is_disabled(flags.as_slice(), laid, place))?;
-    }
-    Ok(flags)
+    marked_below(alloc, laid.boxes, laid.disabled)
 }
 
 fn shows(flags: &[bool], laid: Laid<'_>, place: usize) -> bool
@@ -41,13 +37,6 @@ fn shows(flags: &[bool], laid: Laid<'_>, place: usize) -> bool
         && (look_at laid.entry.looks.now place).visibility) }
 {
     flag_above(flags, laid.boxes, place, true) && is_visible(laid.looks, place)
-}
-
-fn is_disabled(flags: &[bool], laid: Laid<'_>, place: usize) -> bool
-    ensures { result ≡ (told_above flags.now (node_at laid.entry.boxes.now place).parent false
-        || slice_index_or laid.entry.disabled.now place false) }
-{
-    flag_above(flags, laid.boxes, place, false) || flag_at(laid.disabled, place)
 }
 
 /// What is told of the parent of a node, and for the root what is given.

@@ -8,8 +8,7 @@ mod flags;
 mod frames;
 mod paths;
 mod renderer;
-mod scenes;
 
 pub use checking::is_scene;
+pub use fx_pulse_touched::Scene;
 pub use renderer::{Frame, Renderer};
-pub use scenes::Scene;

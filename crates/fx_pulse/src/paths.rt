@@ -2,7 +2,8 @@
 ghost use Rattle.std.specs.Prelude.{◌≡◌, ◌≤◌, ◌<◌, ◌+◌, ◌++◌, ◌∷◌, [], IfOk, OnOk, count_by, length, replicate, slice_index, slice_index_or, slice_set, take};
 ghost use Rattle.fx_layout_sweeps.specs.Nodes.{IsTree, is_place, parents};
 ghost use Rattle.fx_pulse_model.specs.Lines.{path_of};
-ghost use Rattle.fx_pulse.specs.Drawing.{AreCounts, told};
+ghost use Rattle.fx_pulse.specs.Drawing.{AreCounts};
+ghost use Rattle.fx_pulse_touched.specs.Marks.{told};
 
 use crate::flags::parent_at;
 use fx_base::List;

@@ -1,5 +1,5 @@
 //! Frame by frame.
-ghost use Rattle.std.specs.Prelude.{ℕ, ◌≡◌, ◌≤◌, ◌<◌, ◌+◌, ◌*◌, length, [], None, true, false, IfOk, IfSome, OnErr, OnOk, is_some};
+ghost use Rattle.std.specs.Prelude.{ℕ, ◌≡◌, ◌≤◌, ◌<◌, ◌+◌, ◌*◌, length, [], None, Some, true, false, IfOk, IfSome, OnErr, OnOk, is_some};
 ghost use Rattle.std.specs.List.{list_all, sum_by};
 ghost use Rattle.std.specs.Option.{option_copied};
 ghost use Rattle.fx_canvas.specs.Painting.{most_writes};
@@ -7,29 +7,35 @@ ghost use Rattle.fx_canvas.specs.Surfaces.{is_size, lies_in, row_at};
 ghost use Rattle.fx_canvas_laws.specs.Frames.{IsRepainted, Shows};
 ghost use Rattle.fx_picture.specs.Entries.{HasDistinctBirths, Rises};
 ghost use Rattle.fx_damage.specs.Damage.{damage as damage_of};
+ghost use Rattle.fx_layout.specs.Updates.{root_size};
+ghost use Rattle.fx_pulse_kept.specs.Costs.{AreFew};
 ghost use Rattle.fx_pulse_model.specs.Frames.{IsFrame, frame_damage, has_size};
 ghost use Rattle.fx_pulse_model.specs.Scenes.{IsScene};
-ghost use Rattle.fx_pulse.specs.Drawing.{seen};
+ghost use Rattle.fx_pulse_touched.specs.Sights.{seen};
+ghost use Rattle.fx_pulse_touched.specs.Touched.{IsUntouched};
 ghost use Rattle.fx_pulse.specs.Rendering.{IsShown, last_frame, surface_of};
 ghost use Rattle.fx_pulse.specs.Showing.{IsShowing};
 ghost use Rattle.fx_row_text.specs.Rows.{row_text};
 
 use crate::frames::{Made, made_of};
-use crate::scenes::Scene;
 use fx_base::{Ledgers, Rect, Work};
 use fx_canvas::Canvas;
 use fx_damage::damage;
 use fx_picture::Picture;
+use fx_pulse_kept::KeptScene;
+use fx_pulse_touched::Scene;
 use std::alloc::{AllocError, Global};
 use std::marker::Model;
 
-/// What is kept from one frame to the next: the last picture, the canvas that shows it, and where each node of the last
-/// scene stood. Before the first frame the picture is empty and there is no canvas.
+/// What is kept from one frame to the next: the last picture, the canvas that shows it, where each node of its scene
+/// stood, and the looks and the layout of the last scene. Before the first frame the picture is empty and there is no
+/// canvas.
 #[derive(Drop)]
 pub struct Renderer {
     picture: Picture,
     canvas: Option<Canvas>,
     rects: Vec<Rect>,
+    kept: KeptScene,
 }
 
 impl Model for Renderer {
@@ -37,12 +43,18 @@ impl Model for Renderer {
 
     ghost Value = { Rendering };
 
-    ghost view = { λ r. record { canvas = r.canvas; picture = r.picture.entries; rects = r.rects.items } };
+    ghost view = { λ r. record {
+      canvas = r.canvas;
+      picture = r.picture.entries;
+      rects = r.rects.items;
+      kept = r.kept;
+    } };
 
     ghost invariant = { λ r. IsShown (record {
       canvas = r.canvas;
       picture = r.picture.entries;
       rects = r.rects.items;
+      kept = r.kept;
     }) };
 }
 
@@ -57,18 +69,24 @@ pub struct Frame {
 impl Renderer {
     /// Nothing was shown.
     pub fn new(alloc: Global) -> Renderer
-        ensures { result ≡ record { canvas = None; picture = []; rects = [] } }
+        ensures canvas { result.canvas ≡ None }
+        ensures picture { result.picture ≡ [] }
+        ensures rects { result.rects ≡ [] }
+        ensures last { result.kept.last ≡ None }
     {
         Renderer {
             picture: Picture::new(alloc),
             canvas: None,
             rects: Vec::new(alloc),
+            kept: KeptScene::new(alloc),
         }
     }
 
-    /// Makes the frame of a scene and shows it. `window` is the size of the window in pixels; without one it is as
-    /// large as the root, which has its preferred size. Memory is taken before anything that is kept is changed. Slow:
-    /// every node is styled and laid out anew, and the whole picture made.
+    /// Makes the frame of a scene and shows it: the frame that the scene has from nothing. `window` is the size of the
+    /// window in pixels; without one it is as large as the root, which has its preferred size. Only nodes that were
+    /// touched since the last frame are styled anew, with all below them, and measured, with all above them; the
+    /// facts and the sheets are compared with those of the last scene for that. The picture is made whole. After want
+    /// of memory the last picture still shows, and the next frame may be made afresh.
     pub fn pulse<L: Ledgers>(
         &mut self,
         alloc: Global,
@@ -85,14 +103,21 @@ impl Renderer {
         ensures width { IfOk result (λ frame. (surface_of self.new.canvas).width ≡ frame.width) }
         ensures height { IfOk result (λ frame. (surface_of self.new.canvas).height ≡ frame.height) }
         ensures pixels { OnOk result (Shows (surface_of self.new.canvas) self.new.picture) }
-        ensures err { OnErr result (self.new ≡ self.old) }
+        ensures err { OnErr result (self.new ≡ record self.old { kept = self.new.kept }) }
+        ensures last { OnOk result (self.new.kept.last ≡ Some (seen scene.entry)) }
+        ensures size { IfOk result (λ frame. root_size self.new.kept.layout ≡ (frame.width, frame.height)) }
         ensures evaluated { OnOk result (work.new.evaluated ≡ work.old.evaluated) }
+        ensures few { OnOk result (AreFew self.old.kept.last (seen scene.entry) self.old.kept.layout
+            self.new.kept.layout work.old.styled work.new.styled work.old.laid work.new.laid) }
+        ensures still { OnOk result (IsUntouched self.old.kept.last (seen scene.entry)
+            → root_size self.old.kept.layout ≡ root_size self.new.kept.layout
+            → (work.new.styled ≤ work.old.styled) × (work.new.laid ≤ work.old.laid)) }
         ensures styled { OnOk result (work.new.styled ≤ work.old.styled + length scene.entry.styles.now) }
         ensures laid { OnOk result (work.new.laid ≤ work.old.laid + 7 * length scene.entry.boxes.now) }
         ensures painted { IfOk result (λ frame. work.new.painted
             ≤ work.old.painted + sum_by (most_writes self.new.picture) frame.damage.items) }
     {
-        let made = made_of(alloc, scene, window, work)?;
+        let made = made_of(alloc, scene, window, &mut self.kept, work)?;
         if self.has_size(made.width, made.height) {
             self.show_next(alloc, made, work)
         } else {
@@ -106,6 +131,13 @@ impl Renderer {
         ensures { IsShown self.now }
     {
         let _picture = &self.picture;
+    }
+
+    /// What is kept of the last scene.
+    pub fn kept(&self) -> &KeptScene
+        ensures { result.now ≡ self.now.kept }
+    {
+        &self.kept
     }
 
     /// The last picture.
@@ -151,6 +183,7 @@ impl Renderer {
         ensures some { is_some self.new.canvas ≡ is_some self.old.canvas }
         ensures picture { self.new.picture ≡ self.old.picture }
         ensures rects { self.new.rects ≡ self.old.rects }
+        ensures kept { self.new.kept ≡ self.old.kept }
     {
         match &mut self.canvas {
             Some(canvas) => canvas.refresh(),
@@ -232,11 +265,9 @@ impl Renderer {
     {
         let damage = damage(alloc, None, &made.picture, made.width, made.height)?;
         let canvas = painted(alloc, &made, damage.as_slice(), work)?;
-        *self = Renderer {
-            picture: made.picture,
-            canvas: Some(canvas),
-            rects: made.rects,
-        };
+        self.picture = made.picture;
+        self.canvas = Some(canvas);
+        self.rects = made.rects;
         Ok(Frame {
             width: made.width,
             height: made.height,

@@ -1,8 +1,9 @@
-//! Frames of a label, one after another.
+//! Frames of a label, alone and in a pane, one after another.
 ghost use Rattle.std.specs.Prelude.{◌≡◌, true, IfSome};
 ghost use Rattle.fx_canvas.specs.Surfaces.{is_size};
+ghost use Rattle.fx_css_types.specs.Limits.{AreWithinLimits};
 
-use crate::scenes::{label_box, label_style};
+use crate::scenes::{label_box, label_style, pane_box, pane_style};
 use fx_base::{Ledgers, Work};
 use fx_pulse::{Renderer, Scene, is_scene};
 use std::alloc::Global;
@@ -21,14 +22,45 @@ fn show<L: Ledgers>(
 ) -> Result<(u32, u32, usize), Fail>
     requires { IfSome window (λ size. is_size size.0 size.1 ≡ true) }
 {
-    let styles = [label_style(alloc, 1)?];
-    let boxes = [label_box(alloc, 1, text)?];
+    let styles = [label_style(alloc, 1, None)?];
+    let boxes = [label_box(alloc, 1, None, text)?];
     let scene = Scene {
         sheets: &[],
         styles: &styles,
         boxes: &boxes,
         disabled: &[false],
     };
+    show_scene(alloc, renderer, scene, window, work)
+}
+
+/// How many rectangles the frame of a label in a pane damages.
+fn show_in_pane<L: Ledgers>(
+    alloc: Global,
+    renderer: &mut Renderer,
+    text: &str,
+    work: &mut Work<L>,
+) -> Result<(u32, u32, usize), Fail> {
+    let styles = [pane_style(alloc, 1), label_style(alloc, 2, Some(0))?];
+    let boxes = [pane_box(alloc, 1), label_box(alloc, 2, Some(0), text)?];
+    let scene = Scene {
+        sheets: &[],
+        styles: &styles,
+        boxes: &boxes,
+        disabled: &[false, false],
+    };
+    show_scene(alloc, renderer, scene, None, work)
+}
+
+fn show_scene<L: Ledgers>(
+    alloc: Global,
+    renderer: &mut Renderer,
+    scene: Scene<'_>,
+    window: Option<(u32, u32)>,
+    work: &mut Work<L>,
+) -> Result<(u32, u32, usize), Fail>
+    requires sheets { AreWithinLimits scene.sheets.now }
+    requires window { IfSome window (λ size. is_size size.0 size.1 ≡ true) }
+{
     if !is_scene(alloc, scene)? {
         return Err(Fail::from("this is no scene"));
     }
@@ -53,6 +85,19 @@ fn shows_letters<L: Ledgers, R: Abort + AllocGlobal>(
     Ok(())
 }
 
+/// A letter in a pane, the same again, and a wider text, of which the pane has to know.
+fn shows_a_child<L: Ledgers, R: Abort + AllocGlobal>(
+    rt: &R,
+    renderer: &mut Renderer,
+    work: &mut Work<L>,
+) -> Result<(), Fail> {
+    let alloc = rt.alloc();
+    assert_eq!(rt; show_in_pane(alloc, renderer, "I", work)?, (4, 6, 1));
+    assert_eq!(rt; show_in_pane(alloc, renderer, "I", work)?, (4, 6, 0));
+    assert_eq!(rt; show_in_pane(alloc, renderer, "IL", work)?, (8, 6, 1));
+    Ok(())
+}
+
 fn frames<L: Ledgers, R: Abort + AllocGlobal>(
     rt: &R,
     evaluated: Blank,
@@ -67,7 +112,8 @@ fn frames<L: Ledgers, R: Abort + AllocGlobal>(
 {
     let mut work: Work<L> = Work::new(evaluated, styled, laid, painted);
     let mut renderer = Renderer::new(rt.alloc());
-    shows_letters(rt, &mut renderer, &mut work)
+    shows_letters(rt, &mut renderer, &mut work)?;
+    shows_a_child(rt, &mut renderer, &mut work)
 }
 
 #[test]

@@ -1,7 +1,7 @@
 use Rattle.std.proofs.Common.{length, sym, subst, ◌∙◌}
 use Rattle.fx_layout_sweeps.specs.Nodes.{parents}
 use Rattle.fx_pulse.specs.Drawing.{DoRise}
-use Rattle.fx_pulse.proofs.PathLemmas.{long}
+use Rattle.fx_pulse_touched.proofs.ToldLemmas.{long}
 use Rattle.fx_pulse.proofs.ToldLemmas.{in_order, order_rise}
 use Rattle.fx_pulse.proofs.checking.are_in_order.Goals as goal
 

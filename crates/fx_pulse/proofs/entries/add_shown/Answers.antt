@@ -3,7 +3,7 @@ use Rattle.std.specs.List.{AllZip}
 use Rattle.fx_pulse_model.specs.Pictures.{IsEntry, shows}
 use Rattle.fx_pulse.specs.Drawing.{drawn, shown_below}
 use Rattle.fx_pulse.proofs.EntryLemmas.{entries_more, entries_skip}
-use Rattle.fx_pulse.proofs.ToldLemmas.{told_at}
+use Rattle.fx_pulse_touched.proofs.ToldLemmas.{told_at}
 use Rattle.fx_pulse.proofs.entries.add_shown.Goals as goal
 
 pub returns-then-not-flag_at : goal.returns-then-not-flag_at

@@ -6,7 +6,7 @@ use Rattle.fx_pulse_model.specs.Lines.{path_of}
 use Rattle.fx_pulse_model.specs.Pictures.{is_disabled}
 use Rattle.fx_pulse.specs.Drawing.{drawn}
 use Rattle.fx_pulse.proofs.EntryLemmas.{entry_is}
-use Rattle.fx_pulse.proofs.ToldLemmas.{told_at}
+use Rattle.fx_pulse_touched.proofs.ToldLemmas.{told_at}
 use Rattle.fx_pulse.proofs.entries.entry_of.Goals as goal
 
 pub returns : goal.returns

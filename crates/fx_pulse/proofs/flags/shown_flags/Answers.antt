@@ -1,8 +1,9 @@
 use Rattle.std.proofs.Common.{sym, ap, ◌∙◌, ◌++◌, ◌∷◌, [], ◌&&◌, true}
 use Rattle.fx_layout_sweeps.specs.Nodes.{look_at, node_at}
 use Rattle.fx_pulse_model.specs.Pictures.{shows}
-use Rattle.fx_pulse.specs.Drawing.{drawn, told, told_above}
-use Rattle.fx_pulse.proofs.ToldLemmas.{told_more}
+use Rattle.fx_pulse.specs.Drawing.{drawn}
+use Rattle.fx_pulse_touched.specs.Marks.{told, told_above}
+use Rattle.fx_pulse_touched.proofs.ToldLemmas.{told_more}
 use Rattle.fx_pulse.proofs.FlagLemmas.{shows_next}
 use Rattle.fx_pulse.proofs.flags.shown_flags.Goals as goal
 

@@ -1,7 +1,8 @@
 -- the flags of the nodes so far
 use Rattle.std.proofs.Common.{◌≡◌}
 use Rattle.fx_pulse_model.specs.Pictures.{shows}
-use Rattle.fx_pulse.specs.Drawing.{drawn, told}
+use Rattle.fx_pulse.specs.Drawing.{drawn}
+use Rattle.fx_pulse_touched.specs.Marks.{told}
 use Rattle.fx_pulse.proofs.flags.shown_flags.Given as goal
 
 abbrev pub invariant-loop-place : goal.invariant-loop-place

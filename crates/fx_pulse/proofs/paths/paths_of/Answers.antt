@@ -1,8 +1,8 @@
 use Rattle.std.proofs.Common.{sym, ap, ◌∙◌, ◌++◌, ◌∷◌, []}
 use Rattle.fx_layout_sweeps.specs.Nodes.{parents}
 use Rattle.fx_pulse_model.specs.Lines.{path_of}
-use Rattle.fx_pulse.specs.Drawing.{told}
-use Rattle.fx_pulse.proofs.ToldLemmas.{told_more}
+use Rattle.fx_pulse_touched.specs.Marks.{told}
+use Rattle.fx_pulse_touched.proofs.ToldLemmas.{told_more}
 use Rattle.fx_pulse.proofs.paths.paths_of.Goals as goal
 
 pub loop-place-preserved : goal.loop-place-preserved

@@ -1,5 +1,10 @@
-use Rattle.fx_pulse.specs.Drawing.{seen}
-use Rattle.fx_pulse.proofs.ShowLemmas.{births_of, rises_of}
+use Rattle.std.proofs.Common.{ap, subst, sym, ◌∙◌, ◌≤◌}
+use Rattle.fx_layout.specs.Updates.{root_size}
+use Rattle.fx_pulse_kept.specs.Keeping.{Keeping}
+use Rattle.fx_pulse_touched.specs.Sights.{seen}
+use Rattle.fx_pulse_touched.specs.Touched.{IsUntouched}
+use Rattle.fx_pulse.specs.Rendering.{Rendering}
+use Rattle.fx_pulse.proofs.ShowLemmas.{births_of, both_ok, rises_of}
 use Rattle.fx_pulse.proofs.renderer.Renderer.pulse.Goals as goal
 
 pub show_next-requires-clause-rises : goal.show_next-requires-clause-rises
@@ -25,3 +30,29 @@ show_first-requires-clause-births g c =
     let made = c.in_ok-made.made in
     births_of (seen c.args.scene) c.args.window made.width made.height made.rects.items made.picture.entries
     c.requires.scene c.in_ok-made.ensures.frame
+
+pub returns-then-has_size-clause-still : goal.returns-then-has_size-clause-still
+returns-then-has_size-clause-still g c =
+    both_ok c.show_next.result _ _ _
+    (λ frame shown same untouched size.
+    let few = c.in_ok-made.ensures.still
+    (subst (λ (v : Rendering). IsUntouched v.kept.last (seen c.args.scene)) (sym c.self.view_is) untouched)
+    (ap (λ (v : Rendering). root_size v.kept.layout) c.self.view_is
+    ∙ (size ∙ ap (λ (k : Keeping). root_size k.layout) shown.kept)) in (
+      subst (λ n. n ≤ c.args.work.now.styled) (sym (ap (λ w. w.styled) same)) few.0,
+      subst (λ n. n ≤ c.args.work.now.laid) (sym (ap (λ w. w.laid) same)) few.1,
+    ))
+    c.show_next.ensures.frame c.show_next.ensures.work
+
+pub returns-else-has_size-clause-still : goal.returns-else-has_size-clause-still
+returns-else-has_size-clause-still g c =
+    both_ok c.show_first.result _ _ _
+    (λ frame shown same untouched size.
+    let few = c.in_ok-made.ensures.still
+    (subst (λ (v : Rendering). IsUntouched v.kept.last (seen c.args.scene)) (sym c.self.view_is) untouched)
+    (ap (λ (v : Rendering). root_size v.kept.layout) c.self.view_is
+    ∙ (size ∙ ap (λ (k : Keeping). root_size k.layout) shown.kept)) in (
+      subst (λ n. n ≤ c.args.work.now.styled) (sym (ap (λ w. w.styled) same)) few.0,
+      subst (λ n. n ≤ c.args.work.now.laid) (sym (ap (λ w. w.laid) same)) few.1,
+    ))
+    c.show_first.ensures.frame c.show_first.ensures.work

@@ -1,4 +1,4 @@
-use Rattle.std.proofs.Common.{refl, sym, subst, ◌∙◌, ◌≡◌, true, Some}
+use Rattle.std.proofs.Common.{refl, sym, ap, subst, ◌∙◌, ◌≡◌, true, Some}
 use Rattle.fx_pulse_model.specs.Frames.{frame_damage, has_size}
 use Rattle.fx_pulse.specs.Rendering.{Rendering, last_frame, surface_of}
 use Rattle.fx_pulse.proofs.ShowLemmas.{damage_next, high, lies, shown_next, wide}
@@ -11,6 +11,7 @@ repaint_in-requires g c =
       canvas = c.self.inside.canvas;
       picture = c.self.inside.picture.entries;
       rects = c.self.inside.rects.items;
+      kept = c.self.inside.kept;
     } in
     let size : has_size (last_frame r) made.width made.height ≡ true =
     subst (λ (v : Rendering). has_size (last_frame v) made.width made.height ≡ true) (sym c.self.view_is)
@@ -26,6 +27,7 @@ invariant_of-self g c =
       canvas = c.self.inside.canvas;
       picture = c.self.inside.picture.entries;
       rects = c.self.inside.rects.items;
+      kept = c.self.inside.kept;
     } in
     let size : has_size (last_frame r) made.width made.height ≡ true =
     subst (λ (v : Rendering). has_size (last_frame v) made.width made.height ≡ true) (sym c.self.view_is)
@@ -46,6 +48,7 @@ returns-clause-frame g c =
       canvas = c.self.inside.canvas;
       picture = c.self.inside.picture.entries;
       rects = c.self.inside.rects.items;
+      kept = c.self.inside.kept;
     } in
     let size : has_size (last_frame r) made.width made.height ≡ true =
     subst (λ (v : Rendering). has_size (last_frame v) made.width made.height ≡ true) (sym c.self.view_is)
@@ -55,6 +58,7 @@ returns-clause-frame g c =
       height = refl;
       picture = refl;
       rects = refl;
+      kept = ap (λ (v : Rendering). v.kept) c.self.view_is;
       columns = c.repaint_in.ensures.repainted.width ∙ wide r made.width made.height size;
       rows = c.repaint_in.ensures.repainted.height ∙ high r made.width made.height size;
       shows = shown_next r made.picture.entries c.as_slice.result.now made.width made.height

@@ -1,0 +1,32 @@
+-- What is kept of the last scene from one frame to the next, and that it is what the scene gives from nothing.
+use Rattle.std.specs.Prelude.{◌≡◌, ℕ, length, slice_get, Option, Some, IfSome}
+use Rattle.std.specs.Option.{option_map}
+use Rattle.fx_kinds.specs.declared.facts.StyleFacts.{StyleFacts}
+use Rattle.fx_style.specs.Kept.{Kept as Styled, entry, entry_in}
+use Rattle.fx_style.specs.Rules.{style_of}
+use Rattle.fx_layout.specs.Layouts.{IsLayout}
+use Rattle.fx_layout.specs.Updates.{Kept as Laid}
+use Rattle.fx_pulse_model.specs.Scenes.{IsScene, Scene, looks_of}
+
+-- styles and layout, and the scene that they are of; without one they are made afresh
+pub record Keeping : Type 0 where
+  pub styles : Styled
+  pub layout : Laid
+  pub last : Option Scene
+
+-- each node has its key and its style from nothing
+pub record AreStyled (scene : Scene) (kept : Styled) : Type 0 where
+  pub looks : length kept.looks ≡ length scene.styles
+  pub rest : length kept.rest ≡ length scene.styles
+  pub each : (at : ℕ) (node : StyleFacts) → slice_get scene.styles at ≡ Some node
+      → entry_in kept.looks kept.rest at ≡ option_map (entry node.key) (style_of scene.sheets scene.styles at)
+
+-- styles and layout are those of a scene from nothing, in some window
+pub record AreOf (scene : Scene) (styles : Styled) (layout : Laid) : Type 0 where
+  pub drawable : IsScene scene
+  pub styled : AreStyled scene styles
+  pub window : Option (ℕ × ℕ)
+  pub laid : IsLayout scene.boxes (looks_of scene) window layout
+
+abbrev pub Agrees : Keeping → Type 0
+Agrees k = IfSome k.last (λ (scene : Scene). AreOf scene k.styles k.layout)

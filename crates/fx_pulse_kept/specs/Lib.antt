@@ -1,0 +1,4 @@
+pub mod Costs
+pub mod Keeping
+pub mod Lasts
+pub mod Measuring

@@ -1,0 +1,191 @@
+//! What is kept of the last scene.
+ghost use Rattle.std.specs.Prelude.{◌≡◌, ◌≤◌, ◌+◌, ◌*◌, [], IfOk, OnErr, OnOk, Option as Maybe, Some, None, length};
+ghost use Rattle.fx_layout.specs.Layouts.{IsLayout};
+ghost use Rattle.fx_layout.specs.Updates.{root_size};
+ghost use Rattle.fx_layout_sweeps.specs.Nodes.{parents};
+ghost use Rattle.fx_pulse_kept.specs.Costs.{AreFew, IsBrought};
+ghost use Rattle.fx_pulse_kept.specs.Keeping.{Agrees};
+ghost use Rattle.fx_pulse_model.specs.Scenes.{IsScene, Scene as SceneValue, looks_of};
+ghost use Rattle.fx_pulse_touched.specs.Marks.{places_of, told};
+ghost use Rattle.fx_pulse_touched.specs.Sights.{seen};
+ghost use Rattle.fx_pulse_touched.specs.Touched.{AreTouched, IsUntouched, is_restyled};
+ghost use Rattle.fx_style.specs.Rules.{IsUpdate, KeepsOthers, kept_of, needs, worked};
+
+use crate::last::{LastScene, lent, next_scene};
+use crate::measuring::measured_marks;
+use fx_base::{Ledgers, Rect, Work};
+use fx_layout::Layouts;
+use fx_look::Look;
+use fx_pulse_touched::{Scene, Touched, marked_below, marked_places, touched_since};
+use fx_select::RuleIndex;
+use fx_style::{Scene as Styled, Styles};
+use std::alloc::{AllocError, Global};
+use std::marker::Model;
+
+/// The styles and the layout of the last scene, and its facts. Where these are missing, all is made afresh.
+#[derive(Drop)]
+pub struct KeptScene {
+    styles: Styles,
+    layouts: Layouts,
+    last: Option<LastScene>,
+}
+
+impl Model for KeptScene {
+    ghost use Rattle.fx_pulse_kept.specs.Keeping.{Agrees, Keeping};
+    ghost use Rattle.fx_pulse_kept.specs.Lasts.{last_of};
+
+    ghost Value = { Keeping };
+
+    ghost view = { λ k. record { styles = k.styles; layout = k.layouts; last = last_of k.last } };
+
+    ghost invariant = { λ k. Agrees (record { styles = k.styles; layout = k.layouts; last = last_of k.last }) };
+}
+
+impl KeptScene {
+    /// Nothing is kept.
+    pub fn new(alloc: Global) -> KeptScene
+        ensures { result.last ≡ None }
+    {
+        KeptScene {
+            styles: Styles::new(alloc),
+            layouts: Layouts::new(alloc),
+            last: None,
+        }
+    }
+
+    /// What is true at all times: what is kept is what the last scene gives from nothing, if there is one.
+    pub fn laws(&self)
+        ensures { Agrees self.now }
+    {
+        let _styles = &self.styles;
+    }
+
+    /// The look of each node of the last scene.
+    pub fn looks(&self) -> &[Look]
+        ensures { result.now ≡ self.now.styles.looks }
+    {
+        self.styles.looks()
+    }
+
+    /// The rectangle of each node of the last scene in the window, in pixels.
+    pub fn rects(&self) -> &[Rect]
+        ensures { result.now ≡ self.now.layout.rects }
+    {
+        self.layouts.rects()
+    }
+
+    /// Brings what is kept up to this scene in a window, and answers the size of the root in pixels. The facts are
+    /// compared with those of the last scene, place by place, and so are the sheets. Styled anew are the nodes of which
+    /// the facts for style are others, and all below them; measured anew are those that are laid out by other facts or
+    /// another look, and all above them. All nodes are where there was no last scene, where other nodes stood or hung
+    /// elsewhere, or where the sheets are others. After want of memory nothing is kept: the next scene is made afresh.
+    pub fn update<L: Ledgers>(
+        &mut self,
+        alloc: Global,
+        scene: Scene<'_>,
+        window: Option<(u32, u32)>,
+        work: &mut Work<L>,
+    ) -> Result<(u32, u32), AllocError>
+        requires { IsScene (seen scene) }
+        ensures looks { OnOk result (self.new.styles.looks ≡ looks_of (seen scene.entry)) }
+        ensures layout { OnOk result
+            (IsLayout scene.entry.boxes.now (looks_of (seen scene.entry)) window self.new.layout) }
+        ensures size { IfOk result (λ size. size ≡ root_size self.new.layout) }
+        ensures last { OnOk result (self.new.last ≡ Some (seen scene.entry)) }
+        ensures err { OnErr result (self.new.last ≡ None) }
+        ensures evaluated { OnOk result (work.new.evaluated ≡ work.old.evaluated) }
+        ensures painted { OnOk result (work.new.painted ≡ work.old.painted) }
+        ensures still { OnOk result (IsUntouched self.old.last (seen scene.entry)
+            → root_size self.old.layout ≡ root_size self.new.layout
+            → (work.new.styled ≤ work.old.styled) × (work.new.laid ≤ work.old.laid)) }
+        ensures few { OnOk result (AreFew self.old.last (seen scene.entry) self.old.layout self.new.layout
+            work.old.styled work.new.styled work.old.laid work.new.laid) }
+    {
+        let last = self.last.take();
+        let touched = touched_since(alloc, lent(&last), scene)?;
+        let next = next_scene(alloc, last, scene, &touched)?;
+        let size = bring_up(
+            alloc,
+            &mut self.styles,
+            &mut self.layouts,
+            scene,
+            touched,
+            window,
+            work,
+        )?;
+        self.last = Some(next);
+        Ok(size)
+    }
+}
+
+/// Brings styles and layout of the last scene up to this one, and answers the size of the root.
+fn bring_up<L: Ledgers>(
+    alloc: Global,
+    styles: &mut Styles,
+    layouts: &mut Layouts,
+    scene: Scene<'_>,
+    touched: Touched,
+    window: Option<(u32, u32)>,
+    work: &mut Work<L>,
+) -> Result<(u32, u32), AllocError>
+    requires scene { IsScene (seen scene) }
+    requires each { length touched.boxes.items ≡ length scene.boxes.now }
+    ensures brought { (last : Maybe SceneValue)
+        → Agrees (record { styles = styles.old; layout = layouts.old; last = last })
+        → AreTouched last (seen scene.entry) touched.styles.items touched.boxes.items
+        → OnOk result (IsBrought last (seen scene.entry) window layouts.old styles.new layouts.new work.old.styled
+        work.new.styled work.old.laid work.new.laid) }
+    ensures size { IfOk result (λ size. size ≡ root_size layouts.new) }
+    ensures evaluated { OnOk result (work.new.evaluated ≡ work.old.evaluated) }
+    ensures painted { OnOk result (work.new.painted ≡ work.old.painted) }
+{
+    let restyled = restyle(alloc, styles, scene, touched.styles.as_slice(), work)?;
+    let marks = measured_marks(
+        scene.boxes,
+        touched.boxes,
+        restyled.as_slice(),
+        styles.changed(),
+    );
+    let places = marked_places(alloc, marks.as_slice())?;
+    let size = layouts.update(
+        alloc,
+        scene.boxes,
+        styles.looks(),
+        window,
+        places.as_slice(),
+        work,
+    )?;
+    Ok(size)
+}
+
+/// Styles the touched nodes anew and all below them, and answers marks of these.
+fn restyle<L: Ledgers>(
+    alloc: Global,
+    kept: &mut Styles,
+    scene: Scene<'_>,
+    touched: &[bool],
+    work: &mut Work<L>,
+) -> Result<Vec<bool>, AllocError>
+    requires { IsScene (seen scene) }
+    ensures marks { IfOk result (λ marks. marks.items
+        ≡ told (is_restyled (parents scene.entry.boxes.now) touched.now) (length scene.entry.boxes.now)) }
+    ensures update { IfOk result (λ marks.
+        IsUpdate scene.entry.sheets.now scene.entry.styles.now (places_of marks.items) kept.old kept.new) }
+    ensures others { OnOk result (KeepsOthers kept.old kept.new) }
+    ensures cost { IfOk result (λ marks. work.new ≡ record work.old {
+      styled = work.old.styled
+          + worked (needs (places_of marks.items) (kept_of kept.old scene.entry.styles.now))
+          (length scene.entry.styles.now);
+    }) }
+{
+    let marks = marked_below(alloc, scene.boxes, touched)?;
+    let places = marked_places(alloc, marks.as_slice())?;
+    let index = RuleIndex::build(alloc, scene.sheets)?;
+    let nodes = Styled {
+        index: &index,
+        sheets: scene.sheets,
+        facts: scene.styles,
+    };
+    kept.update(alloc, nodes, places.as_slice(), work)?;
+    Ok(marks)
+}

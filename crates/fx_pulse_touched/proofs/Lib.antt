@@ -1,0 +1,4 @@
+pub mod ToldLemmas
+pub mod UpLemmas
+pub mod HeadLemmas
+pub mod PlaceLemmas

@@ -1,5 +1,5 @@
 -- What is told of a run: its lines of output, or one line of totals in their place.
-use Rattle.std.specs.Prelude.{ℕ, ◌+◌, List, [], ◌∷◌, ◌++◌, codes, length}
+use Rattle.std.specs.Prelude.{ℕ, ◌≤◌, ◌+◌, ◌^◌, List, [], ◌∷◌, ◌++◌, codes, length}
 use Rattle.std.specs.Fmt.{decimal}
 use Rattle.fx_text.specs.Characters.{line_feed, space}
 use Rattle.fx_store_model.specs.declared.changes.Notices.{Notices}
@@ -22,6 +22,13 @@ added one other =
       notices = one.notices + other.notices;
       pixels = one.pixels + other.pixels;
     }
+
+-- what a line adds is far below what a count of 128 bits has room for
+pub record AreSmall (totals : Totals) : Type 0 where
+  pub frames : totals.frames ≤ 1
+  pub area : totals.area ≤ 2 ^ 90
+  pub notices : totals.notices ≤ 2 ^ 64
+  pub pixels : totals.pixels ≤ 2 ^ 64
 
 -- what is told of a line: its lines of output, and what they add to the totals
 pub record Told : Type 0 where

@@ -1,5 +1,5 @@
 -- What taking a line answers, and what is told of it.
-use Rattle.std.specs.Prelude.{◌≤◌, ◌≤ℤ◌, ◌^◌, ℕ, pos, All, List, ◌++◌, Option, Some, None, IsSome}
+use Rattle.std.specs.Prelude.{◌≤ℤ◌, ℕ, pos, All, List, ◌++◌, Option, Some, None, IsSome}
 use Rattle.std.specs.List.{sum_by}
 use Rattle.fx_base.specs.declared.geometry.Rect.{Rect}
 use Rattle.fx_frame_text.specs.Frames.{Image, frame_text, image_of, pixel_sum}
@@ -53,10 +53,3 @@ pub record IsSmallRect (rect : Rect) : Type 0 where
 abbrev pub IsSmallTaken : Taken → Type 0
 IsSmallTaken (taken.Line notices) = Unit {0}
 IsSmallTaken (taken.Frame shown) = All IsSmallRect shown.damage.items
-
--- what a line adds is far below what the totals have room for
-pub record AreSmall (totals : Totals) : Type 0 where
-  pub frames : totals.frames ≤ 1
-  pub area : totals.area ≤ 2 ^ 90
-  pub notices : totals.notices ≤ 2 ^ 64
-  pub pixels : totals.pixels ≤ 2 ^ 64

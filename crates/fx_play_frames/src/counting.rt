@@ -2,8 +2,8 @@
 ghost use Rattle.std.specs.Prelude.{◌≡◌, ◌≤◌, ◌<◌, ◌+◌, ◌*◌, ◌^◌, All};
 ghost use Rattle.std.specs.List.{sum_by};
 ghost use Rattle.fx_plain_frames.specs.Pulses.{area_of};
-ghost use Rattle.fx_plain_steps.specs.Told.{Totals, added, no_totals};
-ghost use Rattle.fx_play_frames.specs.Takings.{AreSmall, IsSmallRect, totals_in};
+ghost use Rattle.fx_plain_steps.specs.Told.{AreSmall, Totals, added, no_totals};
+ghost use Rattle.fx_play_frames.specs.Takings.{IsSmallRect, totals_in};
 
 use fx_base::Rect;
 

@@ -12,3 +12,4 @@ mod telling;
 pub use counting::Counts;
 pub use game::Game;
 pub use taking::{Shown, Taken};
+pub use telling::put_told;

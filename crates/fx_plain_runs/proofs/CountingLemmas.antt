@@ -1,20 +1,14 @@
 -- Lines that are taken and counted one by one.
-use Rattle.std.proofs.Common.{◌≡◌, ◌≤◌, ◌+◌, ◌*◌, ◌^◌, true, List, [], ◌∷◌, ◌++◌, length, append_assoc, append-nil, length-append, ap, sym, ◌∙◌, subst, refl, arith}
+use Rattle.std.proofs.Common.{◌≡◌, ◌≤◌, ◌+◌, ◌*◌, ◌^◌, ℕ, true, List, [], ◌∷◌, ◌++◌, length, append_assoc, append-nil, length-append, ap, sym, ◌∙◌, subst, refl, arith}
 use Rattle.fx_frame_text.specs.declared.forms.Form.{Form}
-use Rattle.fx_plain_runs.specs.Runs.{AreCounted, IsWritten, Manner, written_of}
+use Rattle.fx_plain_runs.specs.Runs.{AreCounted, IsWritten, written_of}
+use Rattle.fx_plain_runs.specs.declared.manners.Manner.{Manner}
 use Rattle.fx_plain_frames.specs.Games.{Game}
 use Rattle.fx_plain_frames.specs.Playing.{IsPlayed, IsTold}
 use Rattle.fx_plain_frames.proofs.PlayedLemmas.{IsUnderway, done_played, line_done, not_begun}
-use Rattle.fx_plain_steps.specs.Told.{Told, Totals, added, no_totals, summary_line, totals_of}
+use Rattle.fx_plain_steps.specs.Told.{AreSmall, Told, Totals, added, no_totals, summary_line, totals_of}
 use Rattle.fx_plain_steps.proofs.ToldLemmas.{totals-snoc}
 use Rattle.fx_script_commands.specs.Requests.{Numbered}
-
--- what a line adds is far below what the totals have room for
-pub record AreSmall (totals : Totals) : Type 0 where
-  pub frames : totals.frames ≤ 1
-  pub area : totals.area ≤ 2 ^ 90
-  pub notices : totals.notices ≤ 2 ^ 64
-  pub pixels : totals.pixels ≤ 2 ^ 64
 
 -- some lines were played and counted, and these are left
 pub record IsCounting (form : Form) (first now : Game) (all left : List Numbered) (totals : Totals) : Type 0 where
@@ -59,23 +53,24 @@ goes_on {form} {first} {now} {next} {all} {left} {totals} line told more so is s
       pixels = omega (arith, so.pixels, small.pixels, longer);
     }
 
-pub ends : {manner : Manner} {first now : Game} {all : List Numbered} {totals : Totals}
-    → IsCounting manner.form first now all [] totals → AreCounted manner first all totals
-ends {manner} {first} {now} {all} {totals} so = record {
+pub ends : {form : Form} {first now : Game} {all : List Numbered} {totals : Totals}
+    → IsCounting form first now all [] totals → AreCounted form first all totals
+ends {form} {first} {now} {all} {totals} so = record {
   tolds = so.tolds;
-  played = subst (λ (ls : List Numbered). IsPlayed manner.form first ls so.tolds) (sym (append-nil so.done) ∙ so.joins)
+  played = subst (λ (ls : List Numbered). IsPlayed form first ls so.tolds) (sym (append-nil so.done) ∙ so.joins)
       (done_played so.done so.tolds so.under);
   counted = so.counted;
 }
 
--- the summary is what the lines write
-pub summed : {manner : Manner} {first : Game} {all : List Numbered} {totals : Totals} → manner.summary ≡ true
-    → AreCounted manner first all totals → IsWritten manner first all (summary_line totals)
-summed {manner} {first} {all} {totals} h so = record {
+-- the summary is what is written of the lines
+pub summed : {manner : Manner} {first : Game} {all : List Numbered} {totals : Totals} (warnings : List ℕ)
+    → manner.summary ≡ true → AreCounted manner.form first all totals
+    → IsWritten manner warnings first all (summary_line totals)
+summed {manner} {first} {all} {totals} warnings h so = record {
   tolds = so.tolds;
   played = so.played;
   written = ap summary_line so.counted ∙ short so.tolds;
 }
   where
-    short : (tolds : List Told) → summary_line (totals_of tolds) ≡ written_of manner tolds
+    short : (tolds : List Told) → summary_line (totals_of tolds) ≡ written_of manner warnings tolds
     short tolds = rw h refl

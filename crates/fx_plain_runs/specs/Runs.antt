@@ -1,5 +1,5 @@
 -- A script played on a loaded scene, and what it writes.
-use Rattle.std.specs.Prelude.{◌≡◌, ℕ, Bool, List, Option, Some, None, Result, OnErr, OnOk, Ok, Err, if◌then◌else◌, take}
+use Rattle.std.specs.Prelude.{◌≡◌, ℕ, List, ◌++◌, Option, Some, None, Result, OnErr, OnOk, Ok, Err, if◌then◌else◌, take}
 use Rattle.fx_frame_text.specs.declared.forms.Form.{Form}
 use Rattle.fx_plain_frames.specs.Games.{Game, begun}
 use Rattle.fx_plain_frames.specs.Playing.{IsPlayed}
@@ -11,13 +11,7 @@ use Rattle.fx_scene_flaws.specs.declared.flaws.Fault.{Fault}
 use Rattle.fx_scene_plan.specs.Plans.{Standing}
 use Rattle.fx_script_commands.specs.Requests.{Numbered}
 use Rattle.fx_stage_model.specs.World.{World, nowhere}
-
--- how a run shows what it does: the window if one is asked for, the form of images, and whether one line of totals
--- stands in place of all lines
-pub record Manner : Type 0 where
-  pub window : Option (ℕ × ℕ)
-  pub form : Form
-  pub summary : Bool
+use Rattle.fx_plain_runs.specs.declared.manners.Manner.{Manner}
 
 -- a world in the window that the run has, if it has one
 abbrev pub in_window : Option (ℕ × ℕ) → World → World
@@ -34,38 +28,41 @@ pub record IsBegun (window : Option (ℕ × ℕ)) (acts : List Act) (first : Gam
 abbrev pub IsFaulty : List Act → Fault → Type 0
 IsFaulty acts fault = IsActed acts nowhere (Err fault)
 
--- what is written of what lines tell: one line behind the other, or the totals of them all
-abbrev pub written_of : Manner → List Told → List ℕ
-written_of manner tolds = if manner.summary then summary_line (totals_of tolds) else texts_of tolds
+-- what is written of what lines tell: what was dropped of sheets, and then one line behind the other; or the totals of
+-- them all
+abbrev pub written_of : Manner → List ℕ → List Told → List ℕ
+written_of manner warnings tolds =
+    if manner.summary then summary_line (totals_of tolds) else warnings ++ texts_of tolds
 
--- what these lines write
-pub record IsWritten (manner : Manner) (first : Game) (lines : List Numbered) (bytes : List ℕ) : Type 0 where
+-- what is written of these lines
+pub record IsWritten (manner : Manner) (warnings : List ℕ) (first : Game) (lines : List Numbered) (bytes : List ℕ)
+    : Type 0 where
   pub tolds : List Told
   pub played : IsPlayed manner.form first lines tolds
-  pub written : bytes ≡ written_of manner tolds
+  pub written : bytes ≡ written_of manner warnings tolds
 
 -- these are the totals of what the lines tell
-pub record AreCounted (manner : Manner) (first : Game) (lines : List Numbered) (totals : Totals) : Type 0 where
+pub record AreCounted (form : Form) (first : Game) (lines : List Numbered) (totals : Totals) : Type 0 where
   pub tolds : List Told
-  pub played : IsPlayed manner.form first lines tolds
+  pub played : IsPlayed form first lines tolds
   pub counted : totals ≡ totals_of tolds
 
--- a sink took all that these lines write
-pub record IsPutWhole (manner : Manner) (first : Game) (lines : List Numbered) (old new : Option (List ℕ))
-    : Type 0 where
+-- a sink took all that is written of these lines
+pub record IsPutWhole (manner : Manner) (warnings : List ℕ) (first : Game) (lines : List Numbered)
+    (old new : Option (List ℕ)) : Type 0 where
   pub bytes : List ℕ
-  pub written : IsWritten manner first lines bytes
+  pub written : IsWritten manner warnings first lines bytes
   pub told : new ≡ grown old bytes
 
--- a sink took a part of what the first of these lines write
-pub record IsPutPart (manner : Manner) (first : Game) (lines : List Numbered) (old new : Option (List ℕ))
-    : Type 0 where
+-- a sink took a part of what is written of the first of these lines
+pub record IsPutPart (manner : Manner) (warnings : List ℕ) (first : Game) (lines : List Numbered)
+    (old new : Option (List ℕ)) : Type 0 where
   pub count : ℕ
   pub bytes : List ℕ
-  pub written : IsWritten manner first (take count lines) bytes
+  pub written : IsWritten manner warnings first (take count lines) bytes
   pub part : GrewByPrefix old new bytes
 
-pub record IsPut {E : Type 0} (manner : Manner) (first : Game) (lines : List Numbered) (old new : Option (List ℕ))
-    (result : Result (Unit {0}) E) : Type 0 where
-  pub ok : OnOk result (IsPutWhole manner first lines old new)
-  pub err : OnErr result (IsPutPart manner first lines old new)
+pub record IsPut {E : Type 0} (manner : Manner) (warnings : List ℕ) (first : Game) (lines : List Numbered)
+    (old new : Option (List ℕ)) (result : Result (Unit {0}) E) : Type 0 where
+  pub ok : OnOk result (IsPutWhole manner warnings first lines old new)
+  pub err : OnErr result (IsPutPart manner warnings first lines old new)

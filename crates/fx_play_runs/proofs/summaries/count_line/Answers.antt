@@ -1,0 +1,12 @@
+-- what the line tells is counted
+use Rattle.fx_play_frames.specs.Games.{game_of}
+use Rattle.fx_play_frames.specs.Takings.{told_as}
+use Rattle.fx_play_runs.proofs.summaries.count_line.Goals as goal
+
+pub returns-clause-counted : goal.returns-clause-counted
+returns-clause-counted g c =
+    λ form. record {
+      told = told_as form (game_of c.take.new.self) c.in_ok-taken.taken c.take.new.text.items;
+      is = c.in_ok-taken.ensures.told form;
+      adds = c.counts.ensures.totals form c.take.new.text.items;
+    }

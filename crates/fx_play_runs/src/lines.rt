@@ -1,0 +1,85 @@
+//! Lines that are taken and written one by one.
+ghost use Rattle.std.specs.Prelude.{◌≡◌, ◌≤◌, ◌<◌, ◌+◌, ◌-◌, ◌^◌, ℕ, List, OnErr, OnOk, Option, false, map, vec_len};
+ghost use Rattle.fx_plain_runs.specs.Runs.{IsPut};
+ghost use Rattle.fx_play_frames.specs.Games.{game_of};
+ghost use Rattle.fx_play_runs.specs.Lines.{IsLinePart, IsLineWhole};
+ghost use Rattle.fx_port.specs.Causes.{HasCause};
+ghost use Rattle.fx_port.specs.Pieces.{grown};
+ghost use Rattle.fx_port.specs.declared.pieces.PutError.TheVariants.{Failed};
+ghost use Rattle.fx_script_commands.specs.Requests.{line_view};
+
+use fx_base::{Ledgers, Work};
+use fx_frame_text::Form;
+use fx_plain_runs::Manner;
+use fx_play_frames::{Game, put_told};
+use fx_port::{PutError, Sink};
+use fx_script_commands::Line;
+use std::alloc::Global;
+
+/// Writes what was dropped of sheets, and then what each of the lines tells.
+pub(crate) fn put_lines<O: Sink, L: Ledgers>(
+    alloc: Global,
+    manner: Manner,
+    game: &mut Game,
+    warnings: &[u8],
+    lines: Vec<Line>,
+    out: &mut O,
+    work: &mut Work<L>,
+) -> Result<(), PutError>
+    requires few { vec_len lines ≤ 100000 }
+    requires fresh { game.old.frames ≡ 0 }
+    requires long { manner.summary ≡ false }
+    ensures cause { HasCause Failed (O.faults out.old) (O.faults out.new) result }
+    ensures put { IsPut manner warnings.now (game_of game.old) (map line_view lines.items) (O.written out.old)
+        (O.written out.new) result }
+{
+    out.put(warnings)?;
+    put_each(alloc, manner, game, lines, out, work)
+}
+
+/// Writes what each of the lines tells, behind what was dropped of sheets.
+fn put_each<O: Sink, L: Ledgers>(
+    alloc: Global,
+    manner: Manner,
+    game: &mut Game,
+    lines: Vec<Line>,
+    out: &mut O,
+    work: &mut Work<L>,
+) -> Result<(), PutError>
+    requires few { vec_len lines ≤ 100000 }
+    requires fresh { game.old.frames ≡ 0 }
+    requires long { manner.summary ≡ false }
+    ensures cause { HasCause Failed (O.faults out.old) (O.faults out.new) result }
+    ensures put { (warnings : List ℕ) (begun : Option (List ℕ)) → O.written out.old ≡ grown begun warnings →
+        IsPut manner warnings (game_of game.old) (map line_view lines.items) begun (O.written out.new) result }
+{
+    let mut text = Vec::new(alloc);
+    let mut left = lines;
+    left.reverse();
+    while let Some(line) = left.pop() {
+        put_line(alloc, manner.form, game, line, &mut text, out, work)?;
+    }
+    Ok(())
+}
+
+/// Takes a line and writes what it tells; the text is a buffer for that.
+fn put_line<O: Sink, L: Ledgers>(
+    alloc: Global,
+    form: Form,
+    game: &mut Game,
+    line: Line,
+    text: &mut Vec<u8>,
+    out: &mut O,
+    work: &mut Work<L>,
+) -> Result<(), PutError>
+    requires few { game.old.frames < 2 ^ 64 - 1 }
+    ensures cause { HasCause Failed (O.faults out.old) (O.faults out.new) result }
+    ensures done { OnOk result (IsLineWhole form (line_view line) (game_of game.old) (game_of game.new)
+        (O.written out.old) (O.written out.new)) }
+    ensures cut { OnErr result (IsLinePart form (line_view line) (game_of game.old) (O.written out.old)
+        (O.written out.new)) }
+    ensures frames { OnOk result (game.new.frames ≤ game.old.frames + 1) }
+{
+    let taken = game.take(alloc, line, text, work)?;
+    put_told(alloc, form, game, &taken, text.as_slice(), out)
+}

@@ -1,0 +1,47 @@
+//! The game of a scene before the first line of its script.
+ghost use Rattle.std.specs.Prelude.{◌≡◌, IfOk, Some};
+ghost use Rattle.fx_plain_frames.specs.Games.{begun};
+ghost use Rattle.fx_plain_runs.specs.Runs.{in_window};
+ghost use Rattle.fx_play_frames.specs.Games.{game_of};
+ghost use Rattle.fx_play_runs.specs.Staging.{IsStaged};
+
+use fx_base::{Ledgers, Work};
+use fx_play_frames::Game;
+use fx_scene_acts::Act;
+use fx_scene_raise::{RaiseError, raise};
+use fx_stage::Stage;
+use std::alloc::Global;
+
+/// Raises a scene on a bare stage, in a window of this width and this height in pixels if one is asked for, or answers
+/// the first fault of what it asks for.
+pub fn staged<L: Ledgers>(
+    alloc: Global,
+    window: Option<(u32, u32)>,
+    acts: Vec<Act>,
+    work: &mut Work<L>,
+) -> Result<Game, RaiseError>
+    ensures staged { IsStaged window acts.items result }
+    ensures fresh { IfOk result (λ game. game.frames ≡ 0) }
+{
+    let mut stage = Stage::new(alloc);
+    raise(alloc, &mut stage, acts, work)?;
+    Ok(game_in(alloc, window, stage))
+}
+
+/// The game of a stage in this window, if there is one.
+fn game_in(alloc: Global, window: Option<(u32, u32)>, stage: Stage) -> Game
+    ensures { game_of result ≡ begun (in_window window stage) }
+{
+    match window {
+        Some(window) => windowed_game(alloc, window, stage),
+        None => Game::new(alloc, stage),
+    }
+}
+
+fn windowed_game(alloc: Global, window: (u32, u32), stage: Stage) -> Game
+    ensures { game_of result ≡ begun (in_window (Some window) stage) }
+{
+    let mut stage = stage;
+    stage.keep_window(window);
+    Game::new(alloc, stage)
+}

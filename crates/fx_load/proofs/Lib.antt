@@ -1,1 +1,1 @@
-pub mod SceneLemmas
+pub mod LoadLemmas

@@ -1,91 +1,72 @@
 -- Loading: the files of a run, in the order of work, and the first fault.
-use Rattle.std.specs.Prelude.{ℕ, ◌&&◌, List, [], ◌∷◌, Option, Some, None, Result, Ok, Err, length, map, take, nat_le, if◌then◌else◌}
-use Rattle.std.specs.Char.{is_ascii}
-use Rattle.std.specs.List.{list_all}
-use Rattle.std.specs.Str.Lines.{lines}
+use Rattle.std.specs.Prelude.{◌≡◌, ℕ, List, ◌++◌, None, Result, Ok, Err, length, map, take}
+use Rattle.fx_base.specs.Positions.{after_all, start}
+use Rattle.fx_css_types.specs.declared.sheets.Sheet.{Sheet}
 use Rattle.fx_doc_grammar.specs.Judgements.{Judgement, NoText, Judged, document_text, judgement}
-use Rattle.fx_base.specs.Positions.{start, after_all}
-use Rattle.fx_doc_grammar.specs.Verdicts.{Verdict, Reads, Stops, Deep, Long as TooLong}
-use Rattle.fx_port.specs.Files.{Files, Found, found_in, whole, absent, longer}
-use Rattle.fx_load.specs.Faults.{Fault, fault_at, whole_fault}
-use Rattle.fx_load.specs.Scene.{scene_of}
-use Rattle.fx_script.specs.Script.{line_of}
-use Rattle.fx_load.specs.declared.files.FaultKind.TheVariants.{Missing, TooLarge, NotUtf8, Markup, Limit, NotBuilt}
-use Rattle.fx_script.specs.declared.commands.Line.{Line}
-use Rattle.fx_world.specs.declared.nodes.Node.{Node}
+use Rattle.fx_doc_grammar.specs.Verdicts.{Verdict, Reads, Stops, Deep, Long}
+use Rattle.fx_load_parts.specs.Faults.{Fault, fault_at, nowhere}
+use Rattle.fx_load_parts.specs.Files.{Run, fetched}
+use Rattle.fx_load_parts.specs.Scripts.{script_in}
+use Rattle.fx_load_parts.specs.Sheets.{AreSheets}
+use Rattle.fx_load_parts.specs.Warnings.{warnings_of}
+use Rattle.fx_load_parts.specs.declared.files.FaultKind.TheVariants.{NotUtf8, Markup, Flawed}
+use Rattle.fx_port.specs.Files.{Files}
+use Rattle.fx_scene_acts.specs.Acts.{act_of}
+use Rattle.fx_scene_acts.specs.declared.acts.Act.{Act}
+use Rattle.fx_scene_acts.specs.declared.acts.Deed.TheVariants.{Step}
+use Rattle.fx_scene_flaws.specs.declared.flaws.Flaw.TheVariants.{Limit}
+use Rattle.fx_scene_plan.specs.declared.steps.PlannedStep.TheVariants as planned
+use Rattle.fx_scene_read.specs.Documents.{acts_of}
+use Rattle.fx_script_commands.specs.Requests.{Numbered}
 
--- a run over files, by their names
-pub record Run : Type 0 where
-  pub scene : List ℕ
-  pub script : List ℕ
-  pub sheets : List (List ℕ)
-
--- the most bytes of a file
-abbrev pub file_limit : ℕ
-file_limit = 4194304
-
-abbrev pub bytes_found : List ℕ → Found → Result (List ℕ) Fault
-bytes_found name (whole bytes) = Ok bytes
-bytes_found name absent = Err (whole_fault Missing name)
-bytes_found name longer = Err (whole_fault TooLarge name)
-
--- the bytes of a file
-abbrev pub bytes_of : Files → List ℕ → Result (List ℕ) Fault
-bytes_of files name = bytes_found name (found_in files name file_limit)
-
--- a script is ASCII and has at most 100,000 lines
-abbrev pub script_of : List ℕ → List ℕ → Result (List Line) Fault
-script_of name bytes =
-    if list_all is_ascii bytes && nat_le (length (lines bytes)) 100000
-    then Ok (map line_of (lines bytes)) else Err (whole_fault NotBuilt name)
-
-abbrev pub nodes_or_fault : List ℕ → Option (List Node) → Result (List Node) Fault
-nodes_or_fault name None = Err (whole_fault NotBuilt name)
-nodes_or_fault name (Some nodes) = Ok nodes
-
--- a document that is read is a scene of this form or not; every other verdict has its fault at its place
-abbrev pub nodes_of_verdict : List ℕ → Verdict → Result (List Node) Fault
-nodes_of_verdict name (Reads reading) = nodes_or_fault name (scene_of reading)
-nodes_of_verdict name (Stops position) = Err (fault_at Markup name position)
-nodes_of_verdict name (Deep position) = Err (fault_at Limit name position)
-nodes_of_verdict name (TooLong position) = Err (fault_at Limit name position)
+-- a document that is read asks for its acts; every other verdict has its fault at its place
+abbrev pub acts_of_verdict : List ℕ → Verdict → Result (List Act) Fault
+acts_of_verdict name (Reads document) = Ok (acts_of document)
+acts_of_verdict name (Stops position) = Err (fault_at Markup name position)
+acts_of_verdict name (Deep position) = Err (fault_at (Flawed Limit) name position)
+acts_of_verdict name (Long position) = Err (fault_at (Flawed Limit) name position)
 
 -- the first byte that is no text stands behind the characters before it
-abbrev pub nodes_of_judgement : List ℕ → List ℕ → Judgement → Result (List Node) Fault
-nodes_of_judgement name bytes (NoText n) =
+abbrev pub acts_of_judgement : List ℕ → List ℕ → Judgement → Result (List Act) Fault
+acts_of_judgement name bytes (NoText n) =
     Err (fault_at NotUtf8 name (after_all start (document_text (take n bytes))))
-nodes_of_judgement name bytes (Judged verdict) = nodes_of_verdict name verdict
+acts_of_judgement name bytes (Judged verdict) = acts_of_verdict name verdict
 
--- the nodes of a scene file
-unfoldable pub nodes_of_scene : List ℕ → List ℕ → Result (List Node) Fault
-nodes_of_scene name bytes = nodes_of_judgement name bytes (judgement bytes)
+-- what a scene file asks for
+unfoldable pub acts_of_scene : List ℕ → List ℕ → Result (List Act) Fault
+acts_of_scene name bytes = acts_of_judgement name bytes (judgement bytes)
 
--- a scene and a script that can be played
+abbrev pub acts_of_bytes : List ℕ → Result (List ℕ) Fault → Result (List Act) Fault
+acts_of_bytes name (Err fault) = Err fault
+acts_of_bytes name (Ok bytes) = acts_of_scene name bytes
+
+-- what the scene of this name asks for, the file of this number behind the script
+abbrev pub scene_in : Files → ℕ → List ℕ → Result (List Act) Fault
+scene_in files file name = acts_of_bytes name (fetched files file name)
+
+-- a sheet of the words is one of the scene
+abbrev pub sheet_act : Sheet → Act
+sheet_act sheet = act_of nowhere (Step (planned.Sheet None sheet))
+
+-- what builds the scene, the lines that are played on it, and what is told before them of what was dropped of sheets
 pub record Loaded : Type 0 where
-  pub nodes : List Node
-  pub lines : List Line
+  pub acts : List Act
+  pub lines : List Numbered
+  pub warnings : List ℕ
 
-abbrev pub loaded_with_nodes : List Line → Result (List Node) Fault → Result Loaded Fault
-loaded_with_nodes lines (Err fault) = Err fault
-loaded_with_nodes lines (Ok nodes) = Ok (record { nodes = nodes; lines = lines })
-
-abbrev pub loaded_with_scene : List ℕ → List Line → Result (List ℕ) Fault → Result Loaded Fault
-loaded_with_scene scene lines (Err fault) = Err fault
-loaded_with_scene scene lines (Ok bytes) = loaded_with_nodes lines (nodes_of_scene scene bytes)
-
--- no sheet is read yet: the first one is refused before it is fetched
-abbrev pub loaded_with_sheets : Run → Files → List Line → List (List ℕ) → Result Loaded Fault
-loaded_with_sheets run files lines [] = loaded_with_scene run.scene lines (bytes_of files run.scene)
-loaded_with_sheets run files lines (sheet ∷ sheets) = Err (whole_fault NotBuilt sheet)
-
-abbrev pub loaded_with_lines : Run → Files → Result (List Line) Fault → Result Loaded Fault
-loaded_with_lines run files (Err fault) = Err fault
-loaded_with_lines run files (Ok lines) = loaded_with_sheets run files lines run.sheets
-
-abbrev pub loaded_with_script : Run → Files → Result (List ℕ) Fault → Result Loaded Fault
-loaded_with_script run files (Err fault) = Err fault
-loaded_with_script run files (Ok bytes) = loaded_with_lines run files (script_of run.script bytes)
+abbrev pub loaded_with : Run → List Numbered → List Sheet → List Act → Loaded
+loaded_with run lines sheets acts =
+    record { acts = map sheet_act sheets ++ acts; lines = lines; warnings = warnings_of run.sheets sheets }
 
 -- the script is fetched and read first, then the sheets in their order, then the scene
-abbrev pub elaborate : Run → Files → Result Loaded Fault
-elaborate run files = loaded_with_script run files (bytes_of files run.script)
+pub data IsElaborated (run : Run) (files : Files) : Result Loaded Fault → Type 0 where
+  script_refused : (fault : Fault) → script_in files run.script ≡ Err fault → IsElaborated run files (Err fault)
+  sheet_refused : (lines : List Numbered) (fault : Fault) → script_in files run.script ≡ Ok lines
+      → AreSheets files run.sheets (Err fault) → IsElaborated run files (Err fault)
+  scene_refused : (lines : List Numbered) (sheets : List Sheet) (fault : Fault)
+      → script_in files run.script ≡ Ok lines → AreSheets files run.sheets (Ok sheets)
+      → scene_in files (length run.sheets) run.scene ≡ Err fault → IsElaborated run files (Err fault)
+  all_read : (lines : List Numbered) (sheets : List Sheet) (acts : List Act)
+      → script_in files run.script ≡ Ok lines → AreSheets files run.sheets (Ok sheets)
+      → scene_in files (length run.sheets) run.scene ≡ Ok acts
+      → IsElaborated run files (Ok (loaded_with run lines sheets acts))

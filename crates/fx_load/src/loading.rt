@@ -1,37 +1,35 @@
 //! Loading a run: the script first, then the sheets, and then the scene.
-ghost use Rattle.std.specs.Prelude.{◌≡◌, ◌≤◌, Err, IfOk, Some, Vec, length, vec_len};
-ghost use Rattle.std.specs.Global.{Global};
-ghost use Rattle.fx_doc.specs.Judgements.{Tells};
-ghost use Rattle.fx_doc_grammar.specs.Judgements.{Judgement};
-ghost use Rattle.fx_doc.specs.Reads.{HasFault};
-ghost use Rattle.fx_doc.specs.Views.{reading};
-ghost use Rattle.fx_doc_grammar.specs.Verdicts.{Reads};
-ghost use Rattle.fx_load.specs.Loading.{elaborate, nodes_of_judgement, nodes_of_scene, nodes_of_verdict};
-ghost use Rattle.fx_world.specs.declared.nodes.Node.{Node};
+ghost use Rattle.std.specs.Prelude.{◌≡◌, ◌≤◌, ◌++◌, IfOk, Some, map, vec_len};
+ghost use Rattle.fx_load.specs.Loading as spec;
+ghost use Rattle.fx_load.specs.Loading.{IsElaborated};
+ghost use Rattle.fx_load.specs.Loads.{loaded_of};
+ghost use Rattle.fx_load_parts.specs.Says.{LoadSays, SaysSuch};
+ghost use Rattle.fx_load_parts.specs.Scripts.{script_in};
+ghost use Rattle.fx_load_parts.specs.Views.{run_of};
+ghost use Rattle.fx_load_parts.specs.declared.files.LoadError.TheVariants.{Failed};
 ghost use Rattle.fx_port.specs.Causes.{HasCause};
 ghost use Rattle.fx_port.specs.Files.{Files};
-ghost use Rattle.fx_load.specs.Loads.{loaded_of};
-ghost use Rattle.fx_load.specs.Says.{LoadSays};
-ghost use Rattle.fx_load.specs.Views.{run_of};
-ghost use Rattle.fx_load.specs.declared.files.LoadError.TheVariants.{Failed};
+ghost use Rattle.fx_script_commands.specs.Requests.{line_view};
 
-use crate::files::{FaultKind, FileFault, LoadError, Run, read_file};
-use crate::scene::scene_nodes;
-use crate::scripts::read_script;
-use fx_doc::{DocError, Document, place_behind, read_document};
+use crate::scene::read_scene;
+use fx_base::Position;
+use fx_css_types::Sheet;
+use fx_load_parts::{LoadError, Run, read_file, read_script, read_sheets, warning_text};
 use fx_port::Shelf;
-use fx_script::Line;
-use fx_world::Node;
-use std::alloc::Global;
+use fx_scene_acts::{Act, Deed};
+use fx_scene_plan::PlannedStep;
+use fx_script_commands::Line;
+use std::alloc::{AllocError, Global};
 
-/// A scene and a script that can be played.
+/// What builds the scene of a run, the lines of its script, and the lines that tell what was dropped of its sheets.
 #[derive(Drop)]
 pub struct Loaded {
-    pub nodes: Vec<Node>,
+    pub acts: Vec<Act>,
     pub lines: Vec<Line>,
+    pub warnings: Vec<u8>,
 }
 
-/// The scene and the script of a run, or the first fault in the order of work.
+/// The script, the sheets and the scene of a run, or the first fault in the order of work.
 pub fn load<'a, F: Shelf>(
     alloc: Global,
     run: &Run<'a>,
@@ -39,65 +37,57 @@ pub fn load<'a, F: Shelf>(
 ) -> Result<Loaded, LoadError<'a>>
     ensures held { F.held shelf.new ≡ F.held shelf.old }
     ensures cause { HasCause Failed (F.faults shelf.old) (F.faults shelf.new) result }
-    ensures says { (files : Files) → F.held shelf.old ≡ Some files → LoadSays loaded_of result
-        (elaborate (run_of run.now) files) }
+    ensures says { (files : Files) → F.held shelf.old ≡ Some files
+        → SaysSuch loaded_of (IsElaborated (run_of run.now) files) result }
     ensures few { IfOk result (λ loaded. vec_len loaded.lines ≤ 100000) }
 {
-    let script = read_file(alloc, shelf, run.script)?;
-    let lines = read_script(alloc, run.script, script.as_slice())?;
-    if let Some(sheet) = run.sheets.first() {
-        return Err(LoadError::Fault(FileFault::whole(FaultKind::NotBuilt, sheet.as_str())));
-    }
-    let scene = read_file(alloc, shelf, run.scene)?;
-    let nodes = read_scene(alloc, run.scene, scene.as_slice())?;
-    Ok(Loaded { nodes, lines })
+    let lines = read_lines(alloc, shelf, run.script)?;
+    let sheets = read_sheets(alloc, shelf, run.sheets)?;
+    let acts = read_scene(alloc, shelf, run.sheets.len(), run.scene)?;
+    let warnings = warning_text(alloc, run.sheets, sheets.as_slice())?;
+    let acts = with_sheets(alloc, sheets, acts)?;
+    Ok(Loaded {
+        acts,
+        lines,
+        warnings,
+    })
 }
 
-/// The nodes of a scene file, or why it is refused.
-fn read_scene<'a>(alloc: Global, name: &'a str, bytes: &[u8]) -> Result<Vec<Node>, LoadError<'a>>
-    requires { length bytes.now ≤ 4194304 }
-    ensures says { LoadSays (λ nodes. nodes.items) result (nodes_of_scene name.now bytes.now) }
-    ensures fetches_nothing { ¬ (result ≡ Err LoadError.Failed) }
-{
-    match read_document(alloc, bytes) {
-        Ok(document) => nodes_in(alloc, name, &document),
-        Err(error) => Err(refused(name, bytes, error)),
-    }
-}
-
-fn nodes_in<'a>(
+/// The lines of the script of this name.
+fn read_lines<'a, F: Shelf>(
     alloc: Global,
+    shelf: &mut F,
     name: &'a str,
-    document: &Document,
-) -> Result<Vec<Node>, LoadError<'a>>
-    ensures says { LoadSays (λ nodes. nodes.items) result (nodes_of_verdict name.now (Reads (reading document.now))) }
-    ensures fetches_nothing { ¬ (result ≡ Err LoadError.Failed) }
+) -> Result<Vec<Line>, LoadError<'a>>
+    ensures held { F.held shelf.new ≡ F.held shelf.old }
+    ensures cause { HasCause Failed (F.faults shelf.old) (F.faults shelf.new) result }
+    ensures says { (files : Files) → F.held shelf.old ≡ Some files
+        → LoadSays (λ lines. map line_view lines.items) result (script_in files name.now) }
+    ensures few { IfOk result (λ lines. vec_len lines ≤ 100000) }
 {
-    match scene_nodes(alloc, document)? {
-        Some(nodes) => Ok(nodes),
-        None => Err(LoadError::Fault(FileFault::whole(FaultKind::NotBuilt, name))),
-    }
+    let bytes = read_file(alloc, shelf, name)?;
+    read_script(alloc, name, bytes.as_slice())
 }
 
-/// The refusal of a file that is no document.
-fn refused<'a>(name: &'a str, bytes: &[u8], error: DocError) -> LoadError<'a>
-    requires size { length bytes.now ≤ 4194304 }
-    requires fault { HasFault bytes.now error }
-    ensures says { (j : Judgement) → Tells (Err error) j →
-        LoadSays (λ (nodes : Vec Node Global). nodes.items) (Err result) (nodes_of_judgement name.now bytes.now j) }
-    ensures fetches_nothing { ¬ (result ≡ LoadError.Failed) }
+/// The acts that give the scene these sheets, in front of others.
+fn with_sheets(alloc: Global, sheets: Vec<Sheet>, acts: Vec<Act>) -> Result<Vec<Act>, AllocError>
+    ensures { IfOk result (λ all. all.items ≡ map spec.sheet_act sheets.items ++ acts.items) }
 {
-    match error {
-        DocError::NotUtf8(valid) => {
-            let position = place_behind(bytes.split_at(valid).0);
-            LoadError::Fault(FileFault::at(FaultKind::NotUtf8, name, position))
-        }
-        DocError::Markup(position) => {
-            LoadError::Fault(FileFault::at(FaultKind::Markup, name, position))
-        }
-        DocError::Depth(position) | DocError::Long(position) => {
-            LoadError::Fault(FileFault::at(FaultKind::Limit, name, position))
-        }
-        DocError::Memory => LoadError::Memory,
+    let mut all = Vec::with_capacity(alloc, sheets.len())?;
+    for sheet in sheets {
+        all.push(sheet_act(sheet))?;
+    }
+    for act in acts {
+        all.push(act)?;
+    }
+    Ok(all)
+}
+
+fn sheet_act(sheet: Sheet) -> Act
+    ensures { result ≡ spec.sheet_act sheet }
+{
+    Act {
+        place: Position { line: 0, column: 0 },
+        deed: Deed::Step(PlannedStep::Sheet(None, sheet)),
     }
 }

@@ -1,27 +1,29 @@
 -- What is played for the run that the words ask for.
 use Rattle.std.specs.Prelude.{ℕ, List, Option, Some, None, codes}
 use Rattle.std.specs.Option.{option_map}
-use Rattle.fx_load.specs.Faults.{Fault, whole_fault}
-use Rattle.fx_load.specs.Loading.{Run}
-use Rattle.fx_load.specs.declared.files.FaultKind.TheVariants as kind
-use Rattle.fx_paint.specs.declared.forms.Form.{Form}
-use Rattle.fx_paint.specs.declared.forms.Form.TheVariants as form
-use Rattle.fx_plain.specs.declared.manners.Manner.{Manner}
+use Rattle.fx_frame_text.specs.declared.forms.Form.{Form}
+use Rattle.fx_frame_text.specs.declared.forms.Form.TheVariants as form
+use Rattle.fx_load_parts.specs.Faults.{Fault, whole_fault}
+use Rattle.fx_load_parts.specs.Files.{Run}
+use Rattle.fx_load_parts.specs.declared.files.FaultKind.TheVariants.{Flawed}
+use Rattle.fx_plain_runs.specs.declared.manners.Manner.{Manner}
+use Rattle.fx_scene_flaws.specs.declared.flaws.Flaw.TheVariants.{NotBuilt}
+use Rattle.fx_words.specs.Reading.{accept}
 use Rattle.fx_words.specs.declared.runs.Frames.{Frames}
 use Rattle.fx_words.specs.declared.runs.Frames.TheVariants as frames
 use Rattle.fx_words.specs.declared.runs.Run.{Run as Asked}
-use Rattle.fx_words.specs.declared.runs.Size.{Size as AskedSize}
+use Rattle.fx_words.specs.declared.runs.Size.{Size}
 use Rattle.fx_words.specs.declared.runs.Source.{Source}
 use Rattle.fx_words.specs.declared.runs.Source.TheVariants as source
-use Rattle.fx_world.specs.declared.nodes.Size.{Size}
 
--- a run over files is played in some manner, or something of it isn't built
+-- a run over files is played in some manner, or something of it isn't built, or no run is asked for
 pub data Plan : Type 0 where
   Plays : Run → Manner → Plan
   Refuses : Fault → Plan
+  ShowsUsage : Plan
 
-abbrev pub size_of : AskedSize → Size
-size_of size = record { width = size.width; height = size.height }
+abbrev pub window_of : Size → ℕ × ℕ
+window_of size = (size.width, size.height)
 
 -- the forms that are built
 abbrev pub form_of : Frames → Option Form
@@ -41,19 +43,27 @@ scene_name (source.Demo number) = codes "demo.fxml"
 scene_name (source.Files scene script sheets) = scene
 
 abbrev pub manner_of : Asked → Form → Manner
-manner_of run form = record { window = option_map size_of run.size; form = form; summary = run.summary }
+manner_of run form = record { window = option_map window_of run.size; form = form; summary = run.summary }
 
 -- what isn't built is told at the scene, before any file is fetched
 abbrev pub not_built : Source → Plan
-not_built source = Refuses (whole_fault kind.NotBuilt (scene_name source))
+not_built source = Refuses (whole_fault (Flawed NotBuilt) (scene_name source))
 
 abbrev pub plan_with : Asked → Option Run → Option Form → Plan
 plan_with run None form = not_built run.source
 plan_with run (Some files) None = not_built run.source
 plan_with run (Some files) (Some form) = Plays files (manner_of run form)
 
-abbrev pub plan_of : Asked → Plan
-plan_of run = plan_with run (files_of run.source) (form_of run.frames)
+abbrev pub plan_of_run : Asked → Plan
+plan_of_run run = plan_with run (files_of run.source) (form_of run.frames)
+
+abbrev pub plan_of : Option Asked → Plan
+plan_of None = ShowsUsage
+plan_of (Some run) = plan_of_run run
+
+-- what is played for the words behind the program's name
+abbrev pub plan_in : List (List ℕ) → Plan
+plan_in words = plan_of (accept words)
 
 unfoldable pub usage_line : List ℕ
 usage_line =

@@ -1,4 +1,2 @@
 pub mod CommandLine
 pub mod PlainPlayer
-pub mod Playing
-pub mod Summary

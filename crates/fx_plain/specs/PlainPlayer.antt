@@ -1,58 +1,72 @@
--- The plain player: all that a run writes, and how it ends.
-use Rattle.std.specs.Prelude.{◌≡◌, ℕ, List, Option, Some, None, Result, Ok, Err, if◌then◌else◌}
+-- The plain player: all that a run writes, and how it ends. It is a relation, since a frame is told by equations; of a
+-- run over the first so many lines of a script it tells a beginning of all that is written.
+use Rattle.std.specs.Prelude.{◌≡◌, ℕ, List, Option, Some, Ok, Err, take}
+use Rattle.fx_load.specs.Loading.{IsElaborated, Loaded}
+use Rattle.fx_load_parts.specs.Faults.{Fault, fault_at, fault_line}
+use Rattle.fx_load_parts.specs.Files.{Run}
+use Rattle.fx_load_parts.specs.declared.files.FaultKind.TheVariants.{Flawed}
+use Rattle.fx_plain_frames.specs.Games.{Game}
+use Rattle.fx_plain_runs.specs.Runs.{IsBegun, IsFaulty, IsWritten}
+use Rattle.fx_plain_runs.specs.declared.manners.Manner.{Manner}
 use Rattle.fx_port.specs.Files.{Files}
-use Rattle.fx_port.specs.Pieces.{grown}
-use Rattle.fx_plain.specs.CommandLine.{Plan, Plays, Refuses, plan_of, usage_line}
-use Rattle.fx_load.specs.Faults.{Fault, fault_line}
-use Rattle.fx_load.specs.Loading.{Loaded, elaborate}
-use Rattle.fx_script.specs.declared.commands.Line.{Line}
-use Rattle.fx_world.specs.World.{World, first_world}
-use Rattle.fx_words.specs.Reading.{accept}
-use Rattle.fx_words.specs.declared.runs.Run.{Run}
-use Rattle.fx_plain.specs.Playing.{written_by_all}
-use Rattle.fx_plain.specs.Summary.{frames_by_all, summary_of}
-use Rattle.fx_plain.specs.declared.manners.Manner.{Manner}
+use Rattle.fx_port.specs.Pieces.{GrewByPrefix, grown}
+use Rattle.fx_scene_flaws.specs.declared.flaws.Fault.{Fault as SceneFault}
+use Rattle.fx_script_commands.specs.Requests.{Numbered}
+use Rattle.fx_plain.specs.CommandLine.{Plan, Plays, Refuses, ShowsUsage, usage_line}
 use Rattle.fx_plain.specs.declared.answers.Status.{Status}
 use Rattle.fx_plain.specs.declared.answers.Status.TheVariants.{Done, Usage, Refused, ReadFault, WriteFault, NoMemory}
 
+-- what is written, and how the run ends
 pub record Output : Type 0 where
   pub bytes : List ℕ
   pub status : Status
 
--- what a fault ends: it is told in one line
+-- a fault ends the run: it is told in one line
 abbrev pub refused_with : Fault → Output
 refused_with fault = record { bytes = fault_line fault; status = Refused }
 
--- what the lines of a script print, one by one, or the summary of them all
-abbrev pub played : Manner → World → List Line → List ℕ
-played manner world lines =
-    if manner.summary then summary_of (frames_by_all world lines) else written_by_all world manner.form 1 lines
+abbrev pub usage_told : Output
+usage_told = record { bytes = usage_line; status = Usage }
 
-abbrev pub output_of_loaded : Manner → Result Loaded Fault → Output
-output_of_loaded manner (Err fault) = refused_with fault
-output_of_loaded manner (Ok loaded) =
-    record { bytes = played manner (first_world manner.window loaded.nodes) loaded.lines; status = Done }
+-- which lines of the script are played: all of them, or so many of the first
+pub data Extent : Type 0 where
+  all_lines : Extent
+  first_lines : ℕ → Extent
 
-abbrev pub output_of_plan : Plan → Files → Output
-output_of_plan (Refuses fault) files = refused_with fault
-output_of_plan (Plays run manner) files = output_of_loaded manner (elaborate run files)
+abbrev pub lines_in : Extent → List Numbered → List Numbered
+lines_in all_lines lines = lines
+lines_in (first_lines count) lines = take count lines
 
-abbrev pub output_of_run : Option Run → Files → Output
-output_of_run None files = record { bytes = usage_line; status = Usage }
-output_of_run (Some run) files = output_of_plan (plan_of run) files
+-- a fault of what a document asks for, told of its file
+abbrev pub scene_fault : Run → SceneFault → Fault
+scene_fault run fault = fault_at (Flawed fault.flaw) run.scene fault.place
 
--- what the plain player writes for these words over these files
-abbrev pub output : List (List ℕ) → Files → Output
-output words files = output_of_run (accept words) files
+-- what is written of a run whose files were loaded
+pub data IsOutputOfLoaded (run : Run) (manner : Manner) (extent : Extent) (loaded : Loaded) : Output → Type 0 where
+  scene_at_fault : (fault : SceneFault) → IsFaulty loaded.acts fault
+      → IsOutputOfLoaded run manner extent loaded (refused_with (scene_fault run fault))
+  script_played : (first : Game) (bytes : List ℕ) → IsBegun manner.window loaded.acts first
+      → IsWritten manner loaded.warnings first (lines_in extent loaded.lines) bytes
+      → IsOutputOfLoaded run manner extent loaded (record { bytes = bytes; status = Done })
+
+-- what is written of a run over files
+pub data IsOutputOfRun (run : Run) (manner : Manner) (files : Files) (extent : Extent) : Output → Type 0 where
+  files_at_fault : (fault : Fault) → IsElaborated run files (Err fault)
+      → IsOutputOfRun run manner files extent (refused_with fault)
+  files_loaded : (loaded : Loaded) (out : Output) → IsElaborated run files (Ok loaded)
+      → IsOutputOfLoaded run manner extent loaded out → IsOutputOfRun run manner files extent out
+
+-- what the plain player writes over these files
+abbrev pub IsOutput : Plan → Files → Extent → Output → Type 0
+IsOutput (Plays run manner) files extent out = IsOutputOfRun run manner files extent out
+IsOutput (Refuses fault) files extent out = out ≡ refused_with fault
+IsOutput ShowsUsage files extent out = out ≡ usage_told
 
 -- the files that a run is over: those that the shelf tells, and any where nothing is fetched
-abbrev pub IsOverPlan : Option Files → Plan → Files → Type 0
-IsOverPlan told (Refuses fault) files = Unit {0}
-IsOverPlan told (Plays run manner) files = told ≡ Some files
-
-abbrev pub IsOver : Option Files → Option Run → Files → Type 0
-IsOver told None files = Unit {0}
-IsOver told (Some run) files = IsOverPlan told (plan_of run) files
+abbrev pub IsOver : Option Files → Plan → Files → Type 0
+IsOver told (Plays run manner) files = told ≡ Some files
+IsOver told (Refuses fault) files = Unit {0}
+IsOver told ShowsUsage files = Unit {0}
 
 -- the run came to its end
 abbrev pub IsAnswer : Status → Type 0
@@ -64,6 +78,14 @@ IsAnswer WriteFault = ⊥
 IsAnswer NoMemory = ⊥
 
 -- what was written grew by exactly the plain player's bytes, and the answer is its status
-pub record Answers (old new : Option (List ℕ)) (answer : Status) (plain : Output) : Type 0 where
-  pub bytes : new ≡ grown old plain.bytes
-  pub status : answer ≡ plain.status
+pub record Answers (plan : Plan) (files : Files) (old new : Option (List ℕ)) (answer : Status) : Type 0 where
+  pub out : Output
+  pub plain : IsOutput plan files all_lines out
+  pub bytes : new ≡ grown old out.bytes
+  pub status : answer ≡ out.status
+
+-- nothing was written, or a beginning of what the plain player writes of all lines, or of the first so many
+pub data IsWithin (plan : Plan) (files : Files) (old new : Option (List ℕ)) : Type 0 where
+  nothing_written : new ≡ old → IsWithin plan files old new
+  part_written : (extent : Extent) (out : Output) → IsOutput plan files extent out → GrewByPrefix old new out.bytes
+      → IsWithin plan files old new

@@ -1,11 +1,7 @@
-//! The plain player: all that a run writes, defined on lists, with no flags, caches or buffers. It folds the lines of a
-//! script over the world; what is judged stands beside what judges it, in the crates below.
+//! The plain player: all that a run writes for words and files, defined on lists and relations, with no flags, caches or
+//! dirty regions.
 #![tactic(auto)]
 
 mod answers;
-mod laws;
-mod manners;
 
 pub use answers::Status;
-pub use laws::refused_lines_change_nothing;
-pub use manners::Manner;

@@ -1,12 +1,85 @@
--- How a run ends.
-use Rattle.std.specs.Prelude.{Result, Ok, Err}
+-- How a run ends, and what is said of it.
+use Rattle.std.specs.Prelude.{◌≡◌, ◌⊎◌, ℕ, List, Option, Result, Ok, Err}
+use Rattle.fx_load.specs.Loading.{Loaded}
+use Rattle.fx_load_parts.specs.Faults.{fault_at}
+use Rattle.fx_load_parts.specs.Files.{Run}
+use Rattle.fx_load_parts.specs.Views.{fault_of}
+use Rattle.fx_load_parts.specs.declared.files.FaultKind.TheVariants.{Flawed}
+use Rattle.fx_load_parts.specs.declared.files.LoadError.{LoadError}
+use Rattle.fx_load_parts.specs.declared.files.LoadError.TheVariants as load
+use Rattle.fx_plain.specs.CommandLine.{Plan, ShowsUsage}
+use Rattle.fx_plain.specs.PlainPlayer.{Answers, Extent, IsAnswer, IsOutputOfLoaded, IsOver, IsWithin, Output, all_lines, refused_with}
 use Rattle.fx_plain.specs.declared.answers.Status.{Status}
-use Rattle.fx_plain.specs.declared.answers.Status.TheVariants.{WriteFault, NoMemory}
+use Rattle.fx_plain.specs.declared.answers.Status.TheVariants.{Done, Usage, Refused, ReadFault, WriteFault, NoMemory}
+use Rattle.fx_plain_runs.specs.declared.manners.Manner.{Manner}
+use Rattle.fx_port.specs.Causes.{HasCause, Rose}
+use Rattle.fx_port.specs.Files.{Files}
+use Rattle.fx_port.specs.Pieces.{GrewByPrefix, Writes, grown}
 use Rattle.fx_port.specs.declared.pieces.PutError.{PutError}
-use Rattle.fx_port.specs.declared.pieces.PutError.TheVariants.{Failed, Memory}
+use Rattle.fx_port.specs.declared.pieces.PutError.TheVariants as put
+use Rattle.fx_scene_raise.specs.declared.errors.RaiseError.{RaiseError}
+use Rattle.fx_scene_raise.specs.declared.errors.RaiseError.TheVariants as raise
 
 -- as it should, or as its writing failed
 abbrev pub ended_as : Result (Unit {0}) PutError → Status → Status
 ended_as (Ok written) status = status
-ended_as (Err Failed) status = WriteFault
-ended_as (Err Memory) status = NoMemory
+ended_as (Err put.Failed) status = WriteFault
+ended_as (Err put.Memory) status = NoMemory
+
+-- an output was told, or a part of it
+pub record IsTold (out : Output) (puts_old puts_new : ℕ) (old new : Option (List ℕ)) (answer : Status) : Type 0 where
+  pub written : Result (Unit {0}) PutError
+  pub cause : HasCause put.Failed puts_old puts_new written
+  pub writes : Writes old new written out.bytes
+  pub ends : answer ≡ ended_as written out.status
+
+-- this is the answer, and nothing was written
+pub record IsSilent (status : Status) (old new : Option (List ℕ)) (answer : Status) : Type 0 where
+  pub same : new ≡ old
+  pub ends : answer ≡ status
+
+-- why the files weren't loaded is told
+abbrev pub IsUnloadedTold : LoadError → ℕ → ℕ → Option (List ℕ) → Option (List ℕ) → Status → Type 0
+IsUnloadedTold (load.Fault fault) puts_old puts_new old new answer =
+    IsTold (refused_with (fault_of fault)) puts_old puts_new old new answer
+IsUnloadedTold load.Failed puts_old puts_new old new answer = IsSilent ReadFault old new answer
+IsUnloadedTold load.Memory puts_old puts_new old new answer = IsSilent NoMemory old new answer
+
+-- why the scene of this name wasn't raised is told
+abbrev pub IsUnstagedTold : List ℕ → RaiseError → ℕ → ℕ → Option (List ℕ) → Option (List ℕ) → Status → Type 0
+IsUnstagedTold scene (raise.Fault fault) puts_old puts_new old new answer =
+    IsTold (refused_with (fault_at (Flawed fault.flaw) scene fault.place)) puts_old puts_new old new answer
+IsUnstagedTold scene raise.Memory puts_old puts_new old new answer = IsSilent NoMemory old new answer
+
+-- a beginning of what is written of loaded files
+pub data IsWithinLoaded (run : Run) (manner : Manner) (loaded : Loaded) (old new : Option (List ℕ)) : Type 0 where
+  none_written : new ≡ old → IsWithinLoaded run manner loaded old new
+  some_written : (extent : Extent) (out : Output) → IsOutputOfLoaded run manner extent loaded out
+      → GrewByPrefix old new out.bytes → IsWithinLoaded run manner loaded old new
+
+-- all that is written of loaded files
+pub record AnswersLoaded (run : Run) (manner : Manner) (loaded : Loaded) (old new : Option (List ℕ)) (answer : Status)
+    : Type 0 where
+  pub out : Output
+  pub plain : IsOutputOfLoaded run manner all_lines loaded out
+  pub bytes : new ≡ grown old out.bytes
+  pub status : answer ≡ out.status
+
+-- what is said of a run whose files are loaded
+pub record IsLoadedPlayed (run : Run) (manner : Manner) (loaded : Loaded) (puts_old puts_new : ℕ)
+    (old new : Option (List ℕ)) (answer : Status) : Type 0 where
+  pub answers : IsAnswer answer → AnswersLoaded run manner loaded old new answer
+  pub within : IsWithinLoaded run manner loaded old new
+  pub write : answer ≡ WriteFault → Rose puts_old puts_new
+  pub usage : ¬ (answer ≡ Usage)
+  pub read : ¬ (answer ≡ ReadFault)
+
+-- what is said of a call that plays
+pub record IsPlayed (plan : Plan) (told : Option Files) (fetches_old fetches_new puts_old puts_new : ℕ)
+    (old new : Option (List ℕ)) (answer : Status) : Type 0 where
+  pub answers : (files : Files) → IsOver told plan files → IsAnswer answer → Answers plan files old new answer
+  pub within : (files : Files) → IsOver told plan files → IsWithin plan files old new
+  pub read : answer ≡ ReadFault → Rose fetches_old fetches_new × (new ≡ old)
+  pub write : answer ≡ WriteFault → Rose puts_old puts_new
+  pub usage : answer ≡ Usage → plan ≡ ShowsUsage
+  pub runs : (answer ≡ Done) ⊎ ((answer ≡ Refused) ⊎ (answer ≡ ReadFault)) → ¬ (plan ≡ ShowsUsage)

@@ -1,4 +1,2 @@
 pub mod Ends
 pub mod Plans
-pub mod Totals
-pub mod Worlds

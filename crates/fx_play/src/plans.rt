@@ -2,25 +2,35 @@
 //! Between the words and the files: what isn't built yet is told here.
 ghost use Rattle.std.specs.Prelude.{◌≡◌};
 ghost use Rattle.std.specs.Option.{option_map};
-ghost use Rattle.fx_load.specs.Views.{run_of};
+ghost use Rattle.fx_load_parts.specs.Views.{run_of};
 ghost use Rattle.fx_plain.specs.CommandLine as spec;
 ghost use Rattle.fx_play.specs.Plans.{plan_view};
 
-use fx_load::{FaultKind, FileFault, Run};
-use fx_paint::Form;
-use fx_plain::Manner;
-use fx_words::{Frames, Source};
-use fx_world::Size;
+use fx_frame_text::Form;
+use fx_load_parts::{FaultKind, FileFault, Run};
+use fx_plain_runs::Manner;
+use fx_scene_flaws::Flaw;
+use fx_words::{Frames, Size, Source};
 
-/// A run over files, and how it shows what it does; or what of it isn't built.
+/// A run over files, and how it shows what it does; or what of it isn't built; or no run.
 pub(crate) enum Plan<'a> {
     Plays(Run<'a>, Manner),
     Refuses(FileFault<'a>),
+    ShowsUsage,
 }
 
-/// What is played for this run.
-pub(crate) fn plan_of(run: &fx_words::Run) -> Plan<'_>
-    ensures { plan_view result ≡ spec.plan_of run.now }
+/// What is played where the words ask for this run, if they ask for one.
+pub(crate) fn plan_of(asked: &Option<fx_words::Run>) -> Plan<'_>
+    ensures { plan_view result ≡ spec.plan_of asked.now }
+{
+    match asked {
+        Some(run) => plan_of_run(run),
+        None => Plan::ShowsUsage,
+    }
+}
+
+fn plan_of_run(run: &fx_words::Run) -> Plan<'_>
+    ensures { plan_view result ≡ spec.plan_of_run run.now }
 {
     let Some(files) = files_of(&run.source) else {
         return not_built(&run.source);
@@ -41,14 +51,11 @@ fn manner_of(run: &fx_words::Run, form: Form) -> Manner
     }
 }
 
-fn window_of(size: Option<fx_words::Size>) -> Option<Size>
-    ensures { result ≡ option_map spec.size_of size }
+fn window_of(size: Option<Size>) -> Option<(u32, u32)>
+    ensures { result ≡ option_map spec.window_of size }
 {
     match size {
-        Some(size) => Some(Size {
-            width: size.width,
-            height: size.height,
-        }),
+        Some(size) => Some((size.width, size.height)),
         None => None,
     }
 }
@@ -56,7 +63,7 @@ fn window_of(size: Option<fx_words::Size>) -> Option<Size>
 fn not_built(source: &Source) -> Plan<'_>
     ensures { plan_view result ≡ spec.not_built source.now }
 {
-    Plan::Refuses(FileFault::whole(FaultKind::NotBuilt, scene_name(source)))
+    Plan::Refuses(FileFault::whole(FaultKind::Flawed(Flaw::NotBuilt), scene_name(source)))
 }
 
 fn form_of(frames: Frames) -> Option<Form>

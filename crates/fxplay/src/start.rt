@@ -1,11 +1,11 @@
 //! One run with counters of its own.
 //! The counters are made here, so that no caller has to know of them.
 ghost use Rattle.std.specs.Prelude.{◌≡◌, ◌⊎◌, IsSome, None};
-ghost use Rattle.fx_plain.specs.PlainPlayer.{Answers, IsAnswer, IsOver, output};
+ghost use Rattle.fx_plain.specs.CommandLine.{plan_in};
+ghost use Rattle.fx_plain.specs.PlainPlayer.{Answers, IsAnswer, IsOver, IsWithin};
 ghost use Rattle.fx_plain.specs.declared.answers.Status.TheVariants as status;
 ghost use Rattle.fx_port.specs.Causes.{Rose};
 ghost use Rattle.fx_port.specs.Files.{Files};
-ghost use Rattle.fx_port.specs.Pieces.{GrewByPrefix};
 ghost use Rattle.fx_words.specs.Reading.{accept, texts};
 
 use fx_base::{Ledgers, Work};
@@ -31,18 +31,16 @@ pub fn start<F: Shelf, O: Sink, L: Ledgers>(
     requires painted { (painted.name ≡ L.painted_name) × (painted.parts ≡ 1) }
 
     // what is printed, and the status, are the plain player's
-    ensures answers { (files : Files) → IsOver (F.held shelf.old) (accept (texts words.now)) files →
-        IsAnswer result → Answers (O.written out.old) (O.written out.new) result (output (texts words.now) files) }
-    ensures prefix { (files : Files) → IsOver (F.held shelf.old) (accept (texts words.now)) files →
-        GrewByPrefix (O.written out.old) (O.written out.new) (output (texts words.now) files).bytes }
-    ensures complete { (files : Files) → IsOver (F.held shelf.old) (accept (texts words.now)) files →
-        ¬ (Rose (F.faults shelf.old) (F.faults shelf.new)) → ¬ (Rose (O.faults out.old) (O.faults out.new)) →
-        (result ≡ (output (texts words.now) files).status) ⊎ (result ≡ status.NoMemory) }
+    ensures answers { (files : Files) → IsOver (F.held shelf.old) (plan_in (texts words.now)) files → IsAnswer result →
+        Answers (plan_in (texts words.now)) files (O.written out.old) (O.written out.new) result }
+    ensures within { (files : Files) → IsOver (F.held shelf.old) (plan_in (texts words.now)) files →
+        IsWithin (plan_in (texts words.now)) files (O.written out.old) (O.written out.new) }
+    ensures complete { ¬ (Rose (F.faults shelf.old) (F.faults shelf.new)) →
+        ¬ (Rose (O.faults out.old) (O.faults out.new)) → IsAnswer result ⊎ (result ≡ status.NoMemory) }
 
     // each answer's cause, over any shelf and any sink
-    ensures read { result ≡ status.ReadFault →
-        (Rose (F.faults shelf.old) (F.faults shelf.new)) × (IsSome (accept (texts words.now)) × (O.written out.new ≡
-        O.written out.old)) }
+    ensures read { result ≡ status.ReadFault → (Rose (F.faults shelf.old) (F.faults shelf.new)) ×
+        (IsSome (accept (texts words.now)) × (O.written out.new ≡ O.written out.old)) }
     ensures write { result ≡ status.WriteFault → Rose (O.faults out.old) (O.faults out.new) }
     ensures usage { result ≡ status.Usage → accept (texts words.now) ≡ None }
     ensures played { (result ≡ status.Done) ⊎ (result ≡ status.Refused) → IsSome (accept (texts words.now)) }

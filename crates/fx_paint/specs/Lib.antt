@@ -1,4 +1,0 @@
-pub mod Frame
-pub mod Painting
-pub mod Picture
-pub mod Runs

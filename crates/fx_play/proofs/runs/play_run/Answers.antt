@@ -1,0 +1,23 @@
+-- files that weren't loaded, and a run whose files are
+use Rattle.fx_load.specs.Loads.{loaded_of}
+use Rattle.fx_load_parts.specs.Views.{run_of}
+use Rattle.fx_play.proofs.RunLemmas.{loaded_played, not_loaded}
+use Rattle.fx_play.proofs.runs.play_run.Goals as goal
+
+pub returns-in-Err-clause-played : goal.returns-in-Err-clause-played
+returns-in-Err-clause-played g c =
+    let shelf = g.F.Shelf in
+    let sink = g.O.Sink in
+    not_loaded (run_of c.args.run.now) c.args.manner (shelf.held c.args.shelf.now) (shelf.faults c.args.shelf.now)
+    (shelf.faults c.load.new.shelf) (sink.faults c.args.out.now) (sink.faults c.tell_unloaded.new.out)
+    (sink.written c.args.out.now) (sink.written c.tell_unloaded.new.out) c.tell_unloaded.result c.in-Err.error
+    c.in-Err.ensures.says c.in-Err.ensures.cause c.tell_unloaded.ensures
+
+pub returns-clause-played : goal.returns-clause-played
+returns-clause-played g c =
+    let shelf = g.F.Shelf in
+    let sink = g.O.Sink in
+    loaded_played (run_of c.args.run.now) c.args.manner (shelf.held c.args.shelf.now)
+    (shelf.faults c.args.shelf.now) (shelf.faults c.load.new.shelf) (loaded_of c.in-Ok.loaded)
+    (sink.faults c.args.out.now) (sink.faults c.play_loaded.new.out) (sink.written c.args.out.now)
+    (sink.written c.play_loaded.new.out) c.play_loaded.result c.in-Ok.ensures.says c.play_loaded.ensures

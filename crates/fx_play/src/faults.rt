@@ -1,0 +1,40 @@
+//! Why a run isn't played.
+ghost use Rattle.fx_play.specs.Ends.{IsUnloadedTold, IsUnstagedTold};
+
+use crate::endings::tell_fault;
+use fx_load_parts::{FaultKind, FileFault, LoadError};
+use fx_plain::Status;
+use fx_port::Sink;
+use fx_scene_raise::RaiseError;
+use std::alloc::Global;
+
+/// Ends a run whose files weren't loaded.
+pub(crate) fn tell_unloaded<O: Sink>(alloc: Global, error: LoadError<'_>, out: &mut O) -> Status
+    ensures { IsUnloadedTold error.entry (O.faults out.old) (O.faults out.new) (O.written out.old) (O.written out.new)
+        result }
+{
+    match error {
+        LoadError::Fault(fault) => tell_fault(alloc, &fault, out),
+        LoadError::Failed => Status::ReadFault,
+        LoadError::Memory => Status::NoMemory,
+    }
+}
+
+/// Ends a run whose scene, in the file of this name, wasn't raised.
+pub(crate) fn tell_unstaged<O: Sink>(
+    alloc: Global,
+    scene: &str,
+    error: RaiseError,
+    out: &mut O,
+) -> Status
+    ensures { IsUnstagedTold scene.now error (O.faults out.old) (O.faults out.new) (O.written out.old)
+        (O.written out.new) result }
+{
+    match error {
+        RaiseError::Fault(fault) => {
+            let told = FileFault::at(FaultKind::Flawed(fault.flaw), scene, fault.place);
+            tell_fault(alloc, &told, out)
+        }
+        RaiseError::Memory => Status::NoMemory,
+    }
+}

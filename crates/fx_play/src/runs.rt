@@ -1,0 +1,73 @@
+//! Playing a run over files.
+ghost use Rattle.std.specs.Prelude.{◌≡◌, ◌≤◌, vec_len};
+ghost use Rattle.fx_load.specs.Loads.{loaded_of};
+ghost use Rattle.fx_load_parts.specs.Views.{run_of};
+ghost use Rattle.fx_plain.specs.CommandLine.{Plays};
+ghost use Rattle.fx_play.specs.Ends.{IsLoadedPlayed, IsPlayed};
+
+use crate::endings::ended;
+use crate::faults::{tell_unloaded, tell_unstaged};
+use fx_base::{Ledgers, Work};
+use fx_load::{Loaded, load};
+use fx_load_parts::Run;
+use fx_plain::Status;
+use fx_plain_runs::Manner;
+use fx_play_runs::{put_played, staged};
+use fx_port::{Shelf, Sink};
+use std::alloc::Global;
+
+/// Plays a run over files.
+pub(crate) fn play_run<F: Shelf, O: Sink, L: Ledgers>(
+    alloc: Global,
+    run: &Run<'_>,
+    manner: Manner,
+    shelf: &mut F,
+    out: &mut O,
+    work: &mut Work<L>,
+) -> Status
+    ensures held { F.held shelf.new ≡ F.held shelf.old }
+    ensures played { IsPlayed (Plays (run_of run.now) manner) (F.held shelf.old) (F.faults shelf.old)
+        (F.faults shelf.new) (O.faults out.old) (O.faults out.new) (O.written out.old) (O.written out.new) result }
+{
+    let loaded = match load(alloc, run, shelf) {
+        Ok(loaded) => loaded,
+        Err(error) => return tell_unloaded(alloc, error, out),
+    };
+    play_loaded(alloc, run, manner, loaded, out, work)
+}
+
+/// Plays a run whose files are loaded.
+fn play_loaded<O: Sink, L: Ledgers>(
+    alloc: Global,
+    run: &Run<'_>,
+    manner: Manner,
+    loaded: Loaded,
+    out: &mut O,
+    work: &mut Work<L>,
+) -> Status
+    requires few { vec_len loaded.lines ≤ 100000 }
+    ensures { IsLoadedPlayed (run_of run.now) manner (loaded_of loaded) (O.faults out.old) (O.faults out.new)
+        (O.written out.old) (O.written out.new) result }
+{
+    let Loaded {
+        acts,
+        lines,
+        warnings,
+    } = loaded;
+    let mut game = match staged(alloc, manner.window, acts, work) {
+        Ok(game) => game,
+        Err(error) => return tell_unstaged(alloc, run.scene, error, out),
+    };
+    ended(
+        put_played(
+            alloc,
+            manner,
+            &mut game,
+            warnings.as_slice(),
+            lines,
+            out,
+            work,
+        ),
+        Status::Done,
+    )
+}

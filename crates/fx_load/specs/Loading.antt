@@ -4,6 +4,7 @@ use Rattle.fx_base.specs.Positions.{after_all, start}
 use Rattle.fx_css_types.specs.declared.sheets.Sheet.{Sheet}
 use Rattle.fx_doc_grammar.specs.Judgements.{Judgement, NoText, Judged, document_text, judgement}
 use Rattle.fx_doc_grammar.specs.Verdicts.{Verdict, Reads, Stops, Deep, Long}
+use Rattle.fx_load.specs.Telling.{style_warnings}
 use Rattle.fx_load_parts.specs.Faults.{Fault, fault_at, nowhere}
 use Rattle.fx_load_parts.specs.Files.{Run, fetched}
 use Rattle.fx_load_parts.specs.Scripts.{script_in}
@@ -54,9 +55,13 @@ pub record Loaded : Type 0 where
   pub lines : List Numbered
   pub warnings : List ℕ
 
+-- what is told of the sheets, and behind it what is told of the inline styles of the scene
+abbrev pub all_warnings : Run → List Sheet → List Act → List ℕ
+all_warnings run sheets acts = warnings_of run.sheets sheets ++ style_warnings run.scene acts
+
 abbrev pub loaded_with : Run → List Numbered → List Sheet → List Act → Loaded
 loaded_with run lines sheets acts =
-    record { acts = map sheet_act sheets ++ acts; lines = lines; warnings = warnings_of run.sheets sheets }
+    record { acts = map sheet_act sheets ++ acts; lines = lines; warnings = all_warnings run sheets acts }
 
 -- the script is fetched and read first, then the sheets in their order, then the scene
 pub data IsElaborated (run : Run) (files : Files) : Result Loaded Fault → Type 0 where

@@ -4,5 +4,6 @@
 
 mod loading;
 mod scene;
+mod telling;
 
 pub use loading::{Loaded, load};

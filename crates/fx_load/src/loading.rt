@@ -12,6 +12,7 @@ ghost use Rattle.fx_port.specs.Files.{Files};
 ghost use Rattle.fx_script_commands.specs.Requests.{line_view};
 
 use crate::scene::read_scene;
+use crate::telling::with_styles;
 use fx_base::Position;
 use fx_css_types::Sheet;
 use fx_load_parts::{LoadError, Run, read_file, read_script, read_sheets, warning_text};
@@ -21,7 +22,8 @@ use fx_scene_plan::PlannedStep;
 use fx_script_commands::Line;
 use std::alloc::{AllocError, Global};
 
-/// What builds the scene of a run, the lines of its script, and the lines that tell what was dropped of its sheets.
+/// What builds the scene of a run, the lines of its script, and the lines that tell what was dropped of its sheets
+/// and of the inline styles of its scene.
 #[derive(Drop)]
 pub struct Loaded {
     pub acts: Vec<Act>,
@@ -44,7 +46,8 @@ pub fn load<'a, F: Shelf>(
     let lines = read_lines(alloc, shelf, run.script)?;
     let sheets = read_sheets(alloc, shelf, run.sheets)?;
     let acts = read_scene(alloc, shelf, run.sheets.len(), run.scene)?;
-    let warnings = warning_text(alloc, run.sheets, sheets.as_slice())?;
+    let told = warning_text(alloc, run.sheets, sheets.as_slice())?;
+    let warnings = with_styles(alloc, told, run.scene, acts.as_slice())?;
     let acts = with_sheets(alloc, sheets, acts)?;
     Ok(Loaded {
         acts,

@@ -11,4 +11,4 @@ pub use files::{FaultKind, FileFault, LoadError, Run, fetch_file, read_file};
 pub use kinds::put_fault;
 pub use scripts::read_script;
 pub use sheets::read_sheets;
-pub use warnings::warning_text;
+pub use warnings::{warning_line, warning_text};

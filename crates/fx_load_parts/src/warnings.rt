@@ -37,8 +37,9 @@ fn push_warnings(
     Ok(())
 }
 
+/// The line `warn FILE LINE COLUMN` at a place of the file of this name.
 #[tactic(auto, unfolding(crate::specs::Warnings::warn_line))]
-fn warning_line(alloc: Global, name: &str, place: Place) -> Result<Vec<u8>, AllocError>
+pub fn warning_line(alloc: Global, name: &str, place: Place) -> Result<Vec<u8>, AllocError>
     ensures { IfOk result (λ text. text.items ≡ warn_line name.now place) }
 {
     let Position { line, column } = place.position;

@@ -6,7 +6,7 @@ use Rattle.std.specs.Str.{bytes_eq}
 use Rattle.fx_doc_grammar.specs.Grammar.{Attr, Head}
 use Rattle.fx_kinds.specs.declared.classes.Class.{Class}
 use Rattle.fx_scene_names.specs.Names.{class_named}
-use Rattle.fx_scene_outline.specs.Pieces.{Piece, Instance, Property, Wrong}
+use Rattle.fx_scene_outline.specs.Pieces.{Piece, Instance, Property, Reference, Wrong}
 
 pub record Name : Type 0 where
   pub name : List ℕ
@@ -36,12 +36,14 @@ instance_names node head = names_if node head.attributes (class_named head.name)
 
 abbrev pub piece_names : ℕ → Piece → List Name
 piece_names node (Instance seat head) = instance_names node head
+piece_names node (Reference seat head) = []
 piece_names node (Property owner class head content) = []
 piece_names node (Wrong flaw place) = []
 
 -- the ordinal of the next node behind a piece
 abbrev pub behind : Piece → ℕ → ℕ
 behind (Instance seat head) node = node + 1
+behind (Reference seat head) node = node
 behind (Property owner class head content) node = node
 behind (Wrong flaw place) node = node
 

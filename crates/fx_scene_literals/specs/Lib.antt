@@ -1,2 +1,5 @@
 pub mod Fields
+pub mod Instances
 pub mod Literals
+pub mod Needs
+pub mod Views

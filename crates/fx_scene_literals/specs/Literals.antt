@@ -1,120 +1,182 @@
--- Values that are written as instances: `Insets`, of four lengths, and `Font`, of which the size counts.
-use Rattle.std.specs.Prelude.{ℕ, pos, Bool, true, false, List, [], ◌∷◌, codes, Option, Some, None, if◌then◌else◌}
+-- Values that are written as instances: attributes from left to right, then property elements, each of which holds one
+-- value for a field.
+use Rattle.std.specs.Prelude.{ℕ, pos, Bool, true, false, ◌&&◌, ◌||◌, List, [], ◌∷◌, codes, Option, Some, None, Result, Ok, Err, if◌then◌else◌}
 use Rattle.std.specs.Str.{bytes_eq}
 use Rattle.fx_base.specs.declared.kinds.Kind.{Kind}
-use Rattle.fx_base.specs.declared.kinds.Kind.TheVariants as kind
 use Rattle.fx_base.specs.declared.positions.Position.{Position}
 use Rattle.fx_base.specs.declared.values.Value.{Value as Content}
 use Rattle.fx_base.specs.declared.values.Value.TheVariants as value
-use Rattle.fx_doc_grammar.specs.Grammar.{Attr, Head, Nodes}
+use Rattle.fx_doc_grammar.specs.Grammar.{Attr, Head, Nodes, Nothing, Letters, Node}
 use Rattle.fx_doc_grammar.specs.Machine.{is_nothing}
-use Rattle.fx_kinds.specs.Classes.{is_node}
 use Rattle.fx_kinds.specs.declared.classes.Class.{Class}
 use Rattle.fx_kinds.specs.declared.classes.Class.TheVariants as class
-use Rattle.fx_look.specs.Insets.{sides}
+use Rattle.fx_kinds.specs.Classes.{value_kind}
+use Rattle.fx_scene_flaws.specs.declared.flaws.Fault.{Fault}
 use Rattle.fx_scene_flaws.specs.declared.flaws.Flaw.{Flaw as Mistake}
 use Rattle.fx_scene_flaws.specs.declared.flaws.Flaw.TheVariants as flaw
-use Rattle.fx_scene_literals.specs.Fields.{field_named, other_flaw, with_field}
+use Rattle.fx_scene_literals.specs.Fields.{constant_named, field_kind, field_named, first_made, with_value}
+use Rattle.fx_scene_literals.specs.Instances.{entered, is_define, is_include, is_reference}
 use Rattle.fx_scene_literals.specs.declared.fields.Field.{Field}
-use Rattle.fx_scene_literals.specs.declared.fields.Field.TheVariants as field
-use Rattle.fx_scene_literals.specs.declared.literals.Found.{Found}
-use Rattle.fx_scene_literals.specs.declared.literals.Found.TheVariants.{Value, Flaw}
-use Rattle.fx_scene_literals.specs.declared.literals.Step.{Step}
-use Rattle.fx_scene_literals.specs.declared.literals.Step.TheVariants.{Goes, Stops}
-use Rattle.fx_scene_names.specs.Names.{class_named, is_instance, lacks_import}
+use Rattle.fx_scene_literals.specs.declared.instances.Want.{Want}
+use Rattle.fx_scene_literals.specs.declared.instances.Want.TheVariants as want
+use Rattle.fx_scene_literals.specs.declared.made.Found.{Found}
+use Rattle.fx_scene_literals.specs.declared.made.Found.TheVariants.{Whole, Flaw}
+use Rattle.fx_scene_literals.specs.declared.made.Made.{Made}
+use Rattle.fx_scene_literals.specs.declared.made.Made.TheVariants.{Plain, Track}
+use Rattle.fx_scene_literals.specs.declared.made.Part.{Part}
+use Rattle.fx_scene_literals.specs.declared.made.Part.TheVariants.{Fields, One}
+use Rattle.fx_scene_names.specs.Names.{is_instance, is_static, lacks_owner}
 use Rattle.fx_scene_values.specs.Forms.{form_of}
-use Rattle.fx_scene_values.specs.Values.{value_in}
+use Rattle.fx_scene_values.specs.Values.{literal, value_in}
 use Rattle.fx_scene_values.specs.declared.values.Given.{Given}
 use Rattle.fx_scene_values.specs.declared.values.Given.TheVariants as given
 
+-- reading on, unless something is wrong
+abbrev pub on_found : Found → (Made → Found) → Found
+on_found (Whole made) next = next made
+on_found (Flaw mistake place) next = Flaw mistake place
+
 -- attributes, from left to right
 
-abbrev pub given_step : Field → Given → Content → Step
-given_step field (given.Value (value.Int number)) content = Goes (with_field field number content)
-given_step field (given.Value other) content = Goes content
-given_step field (given.Flaw mistake) content = Stops mistake
+-- a value at a place, or what is wrong there
+abbrev pub given_then : Position → Given → (Content → Made) → Found
+given_then place (given.Value content) next = Whole (next content)
+given_then place (given.Flaw mistake) next = Flaw mistake place
 
-abbrev pub field_step : Field → List ℕ → Content → Step
-field_step field.Ignored text content = Goes content
-field_step field text content = given_step field (value_in kind.Int (form_of text)) content
+abbrev pub field_after : Class → Field → Attr → Made → Found
+field_after class field a made =
+    given_then a.position (value_in (field_kind class field) (form_of a.value)) (λ content. with_value field content made)
 
-abbrev pub step_if : Attr → Content → Option Field → Step
-step_if a content None = Stops (other_flaw a.name)
-step_if a content (Some field) = field_step field a.value content
+-- the text of a value that has a kind; the text stands for itself
+abbrev pub text_given : Option Kind → List ℕ → Given
+text_given None text = given.Flaw flaw.Property
+text_given (Some kind) text = literal kind text
 
--- the value behind an attribute
-abbrev pub value_after : Class → Attr → Content → Step
-value_after class a content = step_if a content (field_named class a.name)
+-- names of values aren't read yet
+abbrev pub other_given : Class → Attr → Given
+other_given class a =
+    if bytes_eq a.name (codes "fx:id") then given.Flaw flaw.NotBuilt
+    else (if bytes_eq a.name (codes "fx:value") then text_given (value_kind class) a.value
+    else (if bytes_eq a.name (codes "fx:constant") then constant_named class a.value else given.Flaw flaw.Property))
 
-abbrev pub on_step : Position → (Content → Found) → Step → Found
-on_step place next (Goes content) = next content
-on_step place next (Stops mistake) = Flaw mistake place
+-- the name of a font means nothing here
+abbrev pub is_font : Class → Bool
+is_font class.Font = true
+is_font _ = false
 
-abbrev pub value_from : Class → Content → List Attr → Found
-value_from class content [] = Value content
-value_from class content (a ∷ attributes) =
-    on_step a.position (λ next. value_from class next attributes) (value_after class a content)
+abbrev pub other_after : Class → Attr → Found
+other_after class a = given_then a.position (other_given class a) (λ content. Plain content)
 
--- what an instance gives without attributes
-abbrev pub first_value : Class → Content
-first_value class.Insets = value.Sides (sides (pos 0) (pos 0) (pos 0) (pos 0))
-first_value _ = value.Int (pos 12)
+abbrev pub unnamed_after : Class → Attr → Made → Found
+unnamed_after class a made =
+    if is_font class && bytes_eq a.name (codes "name") then Whole made else other_after class a
 
--- instances
+abbrev pub after_if : Class → Attr → Made → Option Field → Found
+after_if class a made (Some field) = field_after class field a made
+after_if class a made None = unnamed_after class a made
 
-abbrev pub without_content : Found → Position → Bool → Found
-without_content (Value content) place empty = if empty then Value content else Flaw flaw.NotBuilt place
-without_content (Flaw mistake other) place empty = Flaw mistake other
+-- what is made behind an attribute
+abbrev pub made_after : Class → Attr → Made → Found
+made_after class a made = after_if class a made (field_named class a.name)
 
--- an instance of a class that is read; its content isn't read yet
-abbrev pub whole_literal : Head → Nodes → Class → Found
-whole_literal head content class =
-    without_content (value_from class (first_value class) head.attributes) head.position (is_nothing content)
+abbrev pub made_from : Class → Made → List Attr → Found
+made_from class made [] = Whole made
+made_from class made (a ∷ attributes) = on_found (made_after class a made) (λ next. made_from class next attributes)
 
-abbrev pub is_sides : Kind → Bool
-is_sides kind.Sides = true
-is_sides _ = false
+-- content
 
-abbrev pub is_number : Kind → Bool
-is_number kind.Int = true
-is_number _ = false
+-- A text where one value is wanted stands for itself.
+abbrev pub text_if : Bool → Position → Given → Found
+text_if first spot (given.Value content) = if first then Whole (Plain content) else Flaw flaw.Child spot
+text_if first spot (given.Flaw mistake) = Flaw mistake spot
 
-abbrev pub kind_flaw : Bool → Option Mistake
-kind_flaw same = if same then None else Some flaw.Kinds
+abbrev pub letters : Part → Bool → List ℕ → Position → Found
+letters (Fields class) first text spot = Flaw flaw.Child spot
+letters (One kind) first text spot = text_if first spot (literal kind text)
 
--- a node is no value; other classes of values aren't read yet
-abbrev pub other_class_flaw : Class → Mistake
-other_class_flaw class = if is_node class then flaw.Child else flaw.NotBuilt
+-- the reader of what stands in an element
+abbrev pub Inner : Type 0
+Inner = Part → Made → Found
 
--- what is wrong with an instance of the class where a value of the kind must stand; a region may stand for a constant
-abbrev pub class_flaw : Class → Kind → Option Mistake
-class_flaw class.Insets want = kind_flaw (is_sides want)
-class_flaw class.Font want = kind_flaw (is_number want)
-class_flaw class.Region want = Some flaw.NotBuilt
-class_flaw class want = Some (other_class_flaw class)
+-- an instance of a class by its attributes, and then by its content
+abbrev pub class_found : Inner → Head → Class → Found
+class_found inner head class =
+    on_found (made_from class (first_made class) head.attributes) (λ made. inner (Fields class) made)
 
-abbrev pub literal_if : Head → Nodes → Class → Option Mistake → Found
-literal_if head content class (Some mistake) = Flaw mistake head.position
-literal_if head content class None = whole_literal head content class
+abbrev pub entered_found : Inner → Head → Result Class Mistake → Found
+entered_found inner head (Err mistake) = Flaw mistake head.position
+entered_found inner head (Ok class) = class_found inner head class
 
-abbrev pub class_literal : List (List ℕ) → Kind → Head → Nodes → Class → Found
-class_literal imports want head content class =
-    if lacks_import imports head.name class then Flaw flaw.Import head.position
-    else literal_if head content class (class_flaw class want)
+abbrev pub want_of : Kind → Bool → Want
+want_of kind first = if first then want.Value kind else want.Another kind
 
-abbrev pub named_literal : List (List ℕ) → Kind → Head → Nodes → Option Class → Found
-named_literal imports want head content None = Flaw flaw.Class head.position
-named_literal imports want head content (Some class) = class_literal imports want head content class
+abbrev pub nothing_flaw : Result Class Mistake → Mistake
+nothing_flaw (Err mistake) = mistake
+nothing_flaw (Ok class) = flaw.Child
 
--- what is wrong with an element that is no instance, where a value must stand
-abbrev pub outside_flaw : List ℕ → Mistake
-outside_flaw name =
-    if bytes_eq name (codes "fx:include") then flaw.NotBuilt
-    else (if bytes_eq name (codes "fx:reference") then flaw.NotBuilt
-    else (if bytes_eq name (codes "fx:define") then flaw.Child else flaw.Property))
+abbrev pub is_object : List ℕ → Bool
+is_object name = is_instance name || (is_include name || is_reference name)
 
--- the value of the kind that an element is, or what is wrong with it
-unfoldable pub literal : List (List ℕ) → Kind → Head → Nodes → Found
-literal imports want head content =
-    if is_instance head.name then named_literal imports want head content (class_named head.name)
-    else Flaw (outside_flaw head.name) head.position
+abbrev pub static_flaw : List (List ℕ) → List ℕ → Mistake
+static_flaw imports name = if lacks_owner imports name then flaw.Import else flaw.Property
+
+abbrev pub field_if : Option Field → Result Field Mistake
+field_if None = Err flaw.Property
+field_if (Some field) = Ok field
+
+-- The field that a property element gives a value; no object may stand beside it. Definitions in values aren't read yet.
+unfoldable pub field_at : List (List ℕ) → Class → Head → Result Field Mistake
+field_at imports class head =
+    if is_object head.name then Err (nothing_flaw (entered imports want.Nothing head))
+    else (if is_define head.name then Err flaw.NotBuilt
+    else (if is_static head.name then Err (static_flaw imports head.name) else field_if (field_named class head.name)))
+
+abbrev pub no_value : Made
+no_value = Plain (value.Int (pos 0))
+
+abbrev pub with_made : Field → Made → Made → Made
+with_made field (Plain content) made = with_value field content made
+with_made field (Track track) made = made
+
+abbrev pub with_found : Field → Found → Made → Found
+with_found field (Whole content) made = Whole (with_made field content made)
+with_found field (Flaw mistake place) made = Flaw mistake place
+
+abbrev pub held_if : Inner → Class → Field → Made → Option Fault → Found
+held_if inner class field made (Some fault) = Flaw fault.flaw fault.place
+held_if inner class field made None = with_found field (inner (One (field_kind class field)) no_value) made
+
+abbrev pub fault_at : Mistake → Position → Fault
+fault_at mistake place = record { flaw = mistake; place = place }
+
+abbrev pub empty_fault : Position → Bool → Option Fault
+empty_fault place empty = if empty then Some (fault_at flaw.Value place) else None
+
+-- a property element that holds one value has no attributes, and holds something
+abbrev pub bare_fault : Position → List Attr → Bool → Option Fault
+bare_fault place [] empty = empty_fault place empty
+bare_fault place (a ∷ others) empty = Some (fault_at flaw.Property a.position)
+
+abbrev pub field_held : Inner → Class → Made → Head → Bool → Result Field Mistake → Found
+field_held inner class made head empty (Err mistake) = Flaw mistake head.position
+field_held inner class made head empty (Ok field) =
+    held_if inner class field made (bare_fault head.position head.attributes empty)
+
+abbrev pub child_found : List (List ℕ) → Part → Bool → Made → Inner → Head → Bool → Found
+child_found imports (One kind) first made inner head empty =
+    entered_found inner head (entered imports (want_of kind first) head)
+child_found imports (Fields class) first made inner head empty =
+    field_held inner class made head empty (field_at imports class head)
+
+-- what is made behind some content, or what is wrong with it
+unfoldable pub read_in : List (List ℕ) → Part → Made → Nodes → Found
+read_in imports part made Nothing = Whole made
+read_in imports part made (Letters before text spot) =
+    on_found (read_in imports part made before) (λ now. letters part (is_nothing before) text spot)
+read_in imports part made (Node before head inner) =
+    on_found (read_in imports part made before) (λ now.
+    child_found imports part (is_nothing before) now (λ p m. read_in imports p m inner) head (is_nothing inner))
+
+-- an instance of a class with its content
+unfoldable pub whole : List (List ℕ) → Head → Nodes → Class → Found
+whole imports head content class = class_found (λ p m. read_in imports p m content) head class

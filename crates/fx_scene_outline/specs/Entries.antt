@@ -10,10 +10,10 @@ use Rattle.fx_scene_flaws.specs.declared.flaws.Flaw.{Flaw}
 use Rattle.fx_scene_flaws.specs.declared.flaws.Flaw.TheVariants as flaw
 use Rattle.fx_scene_names.specs.Names.{class_named, is_instance}
 use Rattle.fx_scene_outline.specs.Edges.{edge_named, has_edge}
-use Rattle.fx_scene_outline.specs.Pieces.{Piece, Instance, Property, Wrong}
+use Rattle.fx_scene_outline.specs.Pieces.{Piece, Instance, Property, Reference, Wrong}
 use Rattle.fx_scene_outline.specs.declared.edges.Earlier.{Earlier}
 use Rattle.fx_scene_outline.specs.declared.pieces.Room.{Room}
-use Rattle.fx_scene_outline.specs.declared.pieces.Room.TheVariants.{Inside, Listed}
+use Rattle.fx_scene_outline.specs.declared.pieces.Room.TheVariants.{Closed, Inside, Listed}
 use Rattle.fx_scene_outline.specs.declared.pieces.Seat.{Seat}
 use Rattle.fx_scene_outline.specs.declared.pieces.Seat.TheVariants as seat
 use Rattle.fx_scene_outline.specs.declared.pieces.Slot.{Slot}
@@ -64,17 +64,17 @@ edge_seat owner edge first = if first then seat.Edge owner edge else seat.Nowher
 unfoldable pub seat_in : Slot → Bool → Seat
 seat_in (slot.Children owner) first = seat.Child owner
 seat_in (slot.Edge owner edge) first = edge_seat owner edge first
+seat_in slot.Aside first = seat.Aside
 seat_in slot.Nowhere first = seat.Nowhere
 
--- definitions, references and includes aren't read yet
 abbrev pub is_define : List ℕ → Bool
 is_define name = bytes_eq name (codes "fx:define")
 
-abbrev pub is_insert : List ℕ → Bool
-is_insert name = bytes_eq name (codes "fx:include") || bytes_eq name (codes "fx:reference")
+abbrev pub is_reference : List ℕ → Bool
+is_reference name = bytes_eq name (codes "fx:reference")
 
-abbrev pub is_unread : List ℕ → Bool
-is_unread name = is_define name || is_insert name
+abbrev pub is_include : List ℕ → Bool
+is_include name = bytes_eq name (codes "fx:include")
 
 -- entries
 
@@ -95,6 +95,17 @@ instance count seat head = record {
   room = room_of count (class_named head.name);
 }
 
+-- an instance of before, by its name
+abbrev pub reference : Seat → Head → Entry
+reference seat head = record { front = Reference seat head ∷ []; room = Some Closed }
+
+-- includes aren't read yet
+abbrev pub insert : Seat → Head → Entry
+insert seat head = if is_reference head.name then reference seat head else wrong flaw.NotBuilt head.position
+
+abbrev pub is_insert : List ℕ → Bool
+is_insert name = is_reference name || is_include name
+
 -- a property element that holds instances has no attributes
 abbrev pub attribute_flaws : List Attr → List Piece
 attribute_flaws [] = []
@@ -114,16 +125,18 @@ list_if class owner head content (Some slot) = list_in slot head
 unfoldable pub inside : ℕ → Class → ℕ → Earlier → Head → Nodes → Entry
 inside count class owner earlier head content =
     if is_instance head.name then instance count (seat_in (child_slot class owner) true) head
-    else (if is_unread head.name then wrong flaw.NotBuilt head.position
-    else list_if class owner head content (slot_named class owner earlier head.name))
+    else (if is_insert head.name then insert (seat_in (child_slot class owner) true) head
+    else (if is_define head.name then list_in slot.Aside head
+    else list_if class owner head content (slot_named class owner earlier head.name)))
 
 -- an element where instances are listed
 unfoldable pub listed : ℕ → Seat → Head → Entry
 listed count seat head =
     if is_instance head.name then instance count seat head
-    else (if is_insert head.name then wrong flaw.NotBuilt head.position
+    else (if is_insert head.name then insert seat head
     else (if is_define head.name then wrong flaw.Child head.position else wrong flaw.Property head.position))
 
 abbrev pub entry : ℕ → Room → Earlier → Head → Nodes → Entry
 entry count (Inside class owner) earlier head content = inside count class owner earlier head content
 entry count (Listed slot) earlier head content = listed count (seat_in slot earlier.first) head
+entry count Closed earlier head content = wrong flaw.Child head.position

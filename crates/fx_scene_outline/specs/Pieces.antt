@@ -9,6 +9,8 @@ use Rattle.fx_scene_outline.specs.declared.pieces.Seat.{Seat}
 pub data Piece : Type 0 where
   -- an instance, where it stands
   Instance : Seat → Head → Piece
+  -- an instance of before, by its name
+  Reference : Seat → Head → Piece
   -- a property element of the instance at this place, which is of this class, with its content
   Property : ℕ → Class → Head → Nodes → Piece
   -- something is wrong

@@ -26,6 +26,7 @@ pub(crate) fn enter<'a>(
     match room {
         Room::Inside(class, owner) => enter_inside(element, class, owner, earlier, pieces),
         Room::Listed(slot) => enter_listed(element, seat_in(slot, earlier.first), pieces),
+        Room::Closed => add_wrong(Flaw::Child, element.position, pieces),
     }
 }
 
@@ -45,8 +46,11 @@ fn enter_inside<'a>(
     if is_instance(element.name.as_str()) {
         return enter_instance(element, seat_in(child_slot(class, owner), true), pieces);
     }
-    if is_unread(element.name.as_str()) {
-        return add_wrong(Flaw::NotBuilt, element.position, pieces);
+    if is_insert(element.name.as_str()) {
+        return enter_insert(element, seat_in(child_slot(class, owner), true), pieces);
+    }
+    if is_define(element.name.as_str()) {
+        return enter_list(element, Slot::Aside, pieces);
     }
     match slot_named(class, owner, earlier, element.name.as_str()) {
         Some(slot) => enter_list(element, slot, pieces),
@@ -68,7 +72,7 @@ pub(crate) fn enter_listed<'a>(
         return enter_instance(element, seat, pieces);
     }
     if is_insert(element.name.as_str()) {
-        return add_wrong(Flaw::NotBuilt, element.position, pieces);
+        return enter_insert(element, seat, pieces);
     }
     if is_define(element.name.as_str()) {
         return add_wrong(Flaw::Child, element.position, pieces);
@@ -88,6 +92,31 @@ fn enter_instance<'a>(
     let count = pieces.len();
     pieces.push(Piece::Instance(seat, element))?;
     Ok(room_of(class_named(element.name.as_str()), count))
+}
+
+/// A reference may have no content. Includes aren't read yet.
+fn enter_insert<'a>(
+    element: &'a Element,
+    seat: Seat,
+    pieces: &mut Vec<Piece<'a>>,
+) -> Result<Option<Room>, AllocError>
+    ensures { Entered (spec.insert seat (head_of element.now)) pieces.old.items pieces.new.items result }
+{
+    if is_reference(element.name.as_str()) {
+        return enter_reference(element, seat, pieces);
+    }
+    add_wrong(Flaw::NotBuilt, element.position, pieces)
+}
+
+fn enter_reference<'a>(
+    element: &'a Element,
+    seat: Seat,
+    pieces: &mut Vec<Piece<'a>>,
+) -> Result<Option<Room>, AllocError>
+    ensures { Entered (spec.reference seat (head_of element.now)) pieces.old.items pieces.new.items result }
+{
+    pieces.push(Piece::Reference(seat, element))?;
+    Ok(Some(Room::Closed))
 }
 
 fn room_of(class: Option<Class>, owner: usize) -> Option<Room>
@@ -154,16 +183,22 @@ fn is_define(name: &str) -> bool
     name == "fx:define"
 }
 
+fn is_reference(name: &str) -> bool
+    ensures { result ≡ spec.is_reference name.now }
+{
+    name == "fx:reference"
+}
+
+fn is_include(name: &str) -> bool
+    ensures { result ≡ spec.is_include name.now }
+{
+    name == "fx:include"
+}
+
 fn is_insert(name: &str) -> bool
     ensures { result ≡ spec.is_insert name.now }
 {
-    name == "fx:include" || name == "fx:reference"
-}
-
-fn is_unread(name: &str) -> bool
-    ensures { result ≡ spec.is_unread name.now }
-{
-    is_define(name) || is_insert(name)
+    is_reference(name) || is_include(name)
 }
 
 /// The seat of an instance in a slot, as the first part of its content or not.
@@ -174,6 +209,7 @@ fn seat_in(slot: Slot, first: bool) -> Seat
     match slot {
         Slot::Children(owner) => Seat::Child(owner),
         Slot::Edge(owner, edge) => edge_seat(owner, edge, first),
+        Slot::Aside => Seat::Aside,
         Slot::Nowhere => Seat::Nowhere,
     }
 }

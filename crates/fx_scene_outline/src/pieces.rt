@@ -13,6 +13,8 @@ pub enum Seat {
     Child(usize),
     /// It stands on an edge of this piece. Edges are counted from 0 in the order top, right, bottom, left, centre.
     Edge(usize, u8),
+    /// It stands beside the scene, in a definition.
+    Aside,
     /// Nothing may stand there.
     Nowhere,
 }
@@ -22,6 +24,8 @@ pub enum Seat {
 pub enum Piece<'a> {
     /// An instance. Its content follows, if a class has its name.
     Instance(Seat, &'a Element),
+    /// An instance of before, by its name. What stands in the element follows, and may not stand there.
+    Reference(Seat, &'a Element),
     /// A property element of the piece at this place, which is an instance of this class.
     Property(usize, Class, &'a Element),
     /// Something is wrong.
@@ -35,6 +39,8 @@ pub enum Slot {
     Children(usize),
     /// An edge of this piece, which one instance takes.
     Edge(usize, u8),
+    /// Definitions.
+    Aside,
     Nowhere,
 }
 
@@ -45,4 +51,6 @@ pub enum Room {
     Inside(Class, usize),
     /// The content of a property element that holds instances.
     Listed(Slot),
+    /// The content of an element that may have none.
+    Closed,
 }

@@ -1,3 +1,2 @@
 pub mod ActLemmas
 pub mod CountLemmas
-pub mod HeldLemmas

@@ -1,34 +1,24 @@
--- What the attributes of an instance and its property elements ask for.
-use Rattle.std.specs.Prelude.{ℕ, ◌==◌, Bool, true, false, not, ◌||◌, ◌&&◌, List, [], ◌∷◌, codes, Option, Some, None, Result, Ok, Err, if◌then◌else◌}
+-- What the attributes of an instance ask for.
+use Rattle.std.specs.Prelude.{ℕ, ◌==◌, Bool, false, not, List, [], ◌∷◌, codes, Option, Some, None, if◌then◌else◌}
 use Rattle.std.specs.Option.{option_map_or, option_to_list}
-use Rattle.std.specs.Str.{bytes_eq}
-use Rattle.fx_base.specs.declared.kinds.Kind.{Kind}
-use Rattle.fx_base.specs.declared.values.Value.{Value as Content}
 use Rattle.fx_base.specs.declared.values.Value.TheVariants as value
 use Rattle.fx_doc_grammar.specs.Grammar.{Attr}
-use Rattle.fx_kinds.specs.Constraints.{ConstraintEntry, constraint_named}
 use Rattle.fx_kinds.specs.Properties.{ListedProperty}
 use Rattle.fx_kinds.specs.declared.classes.Class.{Class}
-use Rattle.fx_kinds.specs.declared.classes.Class.TheVariants as class
 use Rattle.fx_scene_acts.specs.declared.acts.Deed.{Deed}
 use Rattle.fx_scene_acts.specs.declared.acts.Deed.TheVariants as deed
 use Rattle.fx_scene_bindings.specs.Bindings.{bound_deed}
 use Rattle.fx_scene_bindings.specs.Names.{Name, found}
-use Rattle.fx_scene_flaws.specs.declared.flaws.Flaw.{Flaw}
 use Rattle.fx_scene_flaws.specs.declared.flaws.Flaw.TheVariants as flaw
-use Rattle.fx_scene_names.specs.Names.{is_static, lacks_owner}
+use Rattle.fx_scene_literals.specs.Needs.{has_attribute}
 use Rattle.fx_scene_plan.specs.declared.steps.PlannedStep.TheVariants as planned
-use Rattle.fx_scene_read.specs.Opening.{has_attribute}
 use Rattle.fx_scene_values.specs.Forms as form
 use Rattle.fx_scene_values.specs.Forms.{Form, form_of}
-use Rattle.fx_scene_values.specs.Properties as properties
-use Rattle.fx_scene_values.specs.Properties.{property_deed, property_named, property_text}
+use Rattle.fx_scene_values.specs.Properties.{property_deed, property_named}
 use Rattle.fx_scene_values.specs.Roles.{role_of}
-use Rattle.fx_scene_values.specs.Statics as statics
-use Rattle.fx_scene_values.specs.Statics.{static_deed, static_text}
+use Rattle.fx_scene_values.specs.Statics.{static_deed}
 use Rattle.fx_scene_values.specs.Styles.{class_deeds, handler_deed, style_deed}
 use Rattle.fx_scene_values.specs.Values.{property_of}
-use Rattle.fx_scene_values.specs.declared.values.Given.TheVariants.{Value}
 use Rattle.fx_scene_values.specs.declared.roles.Role.{Role}
 use Rattle.fx_scene_values.specs.declared.roles.Role.TheVariants as role
 use Rattle.fx_text.specs.Classes.{is_identifier}
@@ -59,7 +49,7 @@ deeds_by imports names class node attributes a role.Ignored = []
 deeds_by imports names class node attributes a role.Style = style_deed node a.value ∷ []
 deeds_by imports names class node attributes a role.Classes = class_deeds node a.value
 deeds_by imports names class node attributes a role.Sheets = deed.Flaw flaw.NotBuilt ∷ []
-deeds_by imports names class node attributes a role.Handler = handler_deed a.value ∷ []
+deeds_by imports names class node attributes a (role.Handler on) = handler_deed node on a.value ∷ []
 deeds_by imports names class node attributes a role.Static = static_deed imports node a.name a.value ∷ []
 deeds_by imports names class node attributes a role.Property =
     option_to_list (property_deed class node a.name a.value)
@@ -86,55 +76,3 @@ binding_for names class node a _ = []
 
 unfoldable pub binding_deeds : List Name → Class → ℕ → Attr → List Deed
 binding_deeds names class node a = binding_for names class node a (role_of a.name)
-
--- property elements
-
--- what the value of a property element is given to
-pub data Target : Type 0 where
-  Plain : ListedProperty → Target
-  Static : ConstraintEntry → Target
-
-abbrev pub is_grid : Class → Bool
-is_grid class.GridPane = true
-is_grid _ = false
-
-abbrev pub is_node_list : List ℕ → Bool
-is_node_list name = bytes_eq name (codes "styleClass") || bytes_eq name (codes "stylesheets")
-
-abbrev pub is_grid_list : List ℕ → Bool
-is_grid_list name = bytes_eq name (codes "columnConstraints") || bytes_eq name (codes "rowConstraints")
-
-abbrev pub is_list : Class → List ℕ → Bool
-is_list class name = is_node_list name || (is_grid class && is_grid_list name)
-
-abbrev pub known_target : Option ListedProperty → Result Target Flaw
-known_target None = Err flaw.Property
-known_target (Some property) = if property.read_only then Err flaw.ReadOnly else Ok (Plain property)
-
-abbrev pub constraint_target : Option ConstraintEntry → Result Target Flaw
-constraint_target None = Err flaw.Property
-constraint_target (Some entry) = Ok (Static entry)
-
-abbrev pub plain_target : Class → List ℕ → Result Target Flaw
-plain_target class name =
-    if is_list class name then Err flaw.NotBuilt else known_target (property_named class name)
-
-abbrev pub static_target : List (List ℕ) → List ℕ → Result Target Flaw
-static_target imports name =
-    if lacks_owner imports name then Err flaw.Import else constraint_target (constraint_named name)
-
--- what the property element of this name gives its value to, or what is wrong with it; lists aren't read yet
-unfoldable pub target_of : List (List ℕ) → Class → List ℕ → Result Target Flaw
-target_of imports class name = if is_static name then static_target imports name else plain_target class name
-
-abbrev pub text_deed : ℕ → List ℕ → Target → List ℕ → Deed
-text_deed node name (Plain property) text = property_text node property text
-text_deed node name (Static entry) text = static_text node name entry text
-
-abbrev pub target_kind : Target → Kind
-target_kind (Plain property) = property.kind
-target_kind (Static entry) = entry.kind
-
-abbrev pub value_deed : ℕ → List ℕ → Target → Content → Deed
-value_deed node name (Plain property) content = properties.given_deed node property (Value content)
-value_deed node name (Static entry) content = statics.given_deed node name entry (Value content)

@@ -1,5 +1,4 @@
 pub mod Acting
 pub mod Documents
 pub mod Opening
-pub mod Parts
-pub mod Views
+pub mod References

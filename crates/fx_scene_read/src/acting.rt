@@ -7,13 +7,13 @@ ghost use Rattle.fx_scene_bindings.specs.Views.{named_view};
 ghost use Rattle.fx_scene_read.specs.Acting as spec;
 ghost use Rattle.fx_scene_values.specs.Views.{form_view};
 
-use crate::classes::has_attribute;
 use fx_base::{List, Text, Value};
 use fx_doc::Attribute;
 use fx_kinds::{Class, Property};
 use fx_scene_acts::Deed;
 use fx_scene_bindings::{Named, bound_deed, found};
 use fx_scene_flaws::Flaw;
+use fx_scene_literals::has_attribute;
 use fx_scene_plan::PlannedStep;
 use fx_scene_values::{
     Form, Role, add_classes, form_of, handler_deed, planned_property, property_deed,
@@ -44,7 +44,7 @@ pub(crate) fn add_deeds(
         Role::Style => add(deeds, style_deed(alloc, node, text)?),
         Role::Classes => add_classes(alloc, node, text, deeds),
         Role::Sheets => add(deeds, Deed::Flaw(Flaw::NotBuilt)),
-        Role::Handler => add(deeds, handler_deed(text)),
+        Role::Handler(on) => add(deeds, handler_deed(alloc, node, on, text)?),
         Role::Static => add(deeds, static_deed(alloc, imports, node, &a.name, text)?),
         Role::Property => {
             let deed = property_deed(alloc, class, node, a.name.as_str(), text)?;

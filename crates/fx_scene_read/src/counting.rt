@@ -44,6 +44,7 @@ fn is_child(owner: usize, piece: &Piece<'_>) -> bool
 {
     match piece {
         Piece::Instance(seat, _) => is_child_of(owner, *seat),
+        Piece::Reference(seat, _) => is_child_of(owner, *seat),
         _ => false,
     }
 }

@@ -7,13 +7,14 @@ ghost use Rattle.fx_scene_outline.specs.Views.{piece_view, shown};
 ghost use Rattle.fx_scene_read.specs.Documents as spec;
 
 use crate::counting::node_at;
-use crate::elements::add_element;
+use crate::flaws::has_flaw;
 use crate::instances::{add_bound, add_instance};
-use crate::pushing::{has_flaw, push_flaw};
+use crate::references::add_reference;
 use fx_base::Text;
 use fx_doc::Document;
 use fx_scene_acts::Act;
 use fx_scene_bindings::{Named, behind, names_of};
+use fx_scene_elements::{add_element, push_flaw};
 use fx_scene_outline::{Piece, outline};
 use std::alloc::{AllocError, Global};
 
@@ -86,10 +87,15 @@ fn add_piece(
         Piece::Instance(seat, element) => {
             add_instance(alloc, imports, names, before, node, *seat, element, acts)
         }
+        Piece::Reference(seat, element) => {
+            add_reference(names, before, node, *seat, element, acts)
+        }
         Piece::Property(owner, class, element) => {
             add_element(
                 alloc,
                 imports,
+                before,
+                *owner,
                 node_at(*owner, before),
                 *class,
                 element,

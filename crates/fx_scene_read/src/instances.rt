@@ -9,12 +9,13 @@ ghost use Rattle.fx_scene_read.specs.Opening.{opening_flaw, seat_step};
 
 use crate::acting::{add_bindings, add_deeds};
 use crate::opening::{opening_flaw, seat_step};
-use crate::pushing::{push, push_all, push_flaw};
+use crate::references::push_step;
 use fx_base::{Position, Text};
 use fx_doc::{Attribute, Element};
 use fx_kinds::Class;
 use fx_scene_acts::{Act, Deed};
 use fx_scene_bindings::Named;
+use fx_scene_elements::{push, push_all, push_flaw};
 use fx_scene_flaws::Flaw;
 use fx_scene_names::class_named;
 use fx_scene_outline::{Piece, Seat};
@@ -79,19 +80,6 @@ fn add_node(
 {
     push(acts, place, Deed::Step(PlannedStep::Node(class)))?;
     push_step(acts, place, step)
-}
-
-fn push_step(
-    acts: &mut Vec<Act>,
-    place: Position,
-    step: Option<PlannedStep>,
-) -> Result<(), AllocError>
-    ensures ok { OnOk result (acts.new.items ≡ acts.old.items ++ spec.step_if place step) }
-{
-    match step {
-        Some(step) => push(acts, place, Deed::Step(step)),
-        None => Ok(()),
-    }
 }
 
 fn add_attributes(

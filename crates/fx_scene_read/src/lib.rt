@@ -2,12 +2,11 @@
 #![tactic(auto)]
 
 mod acting;
-mod classes;
 mod counting;
 mod documents;
-mod elements;
+mod flaws;
 mod instances;
 mod opening;
-mod pushing;
+mod references;
 
 pub use documents::acts_of;

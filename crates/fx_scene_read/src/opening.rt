@@ -1,14 +1,15 @@
 //! How an instance comes to stand.
-ghost use Rattle.std.specs.Prelude.{◌≡◌};
+ghost use Rattle.std.specs.Prelude.{◌≡◌, map};
+ghost use Rattle.fx_doc.specs.Views.{attr_view};
 ghost use Rattle.fx_scene_outline.specs.Views.{head_of, shown};
 ghost use Rattle.fx_scene_read.specs.Opening as spec;
 
-use crate::classes::{is_scene_node, value_flaw};
 use crate::counting::{children, node_at};
 use fx_base::Text;
-use fx_doc::Element;
+use fx_doc::{Attribute, Element};
 use fx_kinds::Class;
 use fx_scene_flaws::Flaw;
+use fx_scene_literals::{is_scene_node, lacks_value};
 use fx_scene_names::lacks_import;
 use fx_scene_outline::{Piece, Seat};
 use fx_scene_plan::PlannedStep;
@@ -34,7 +35,7 @@ pub(crate) fn opening_flaw(
     if is_scene_node(class, element.attributes.as_slice()) {
         return node_flaw(node, seat);
     }
-    Some(value_flaw(class, element.attributes.as_slice()))
+    Some(value_flaw(seat, class, element.attributes.as_slice()))
 }
 
 fn node_flaw(node: usize, seat: Seat) -> Option<Flaw>
@@ -43,6 +44,27 @@ fn node_flaw(node: usize, seat: Seat) -> Option<Flaw>
     match seat {
         Seat::Nowhere => Some(Flaw::Child),
         _ => limit_flaw(node),
+    }
+}
+
+/// What is wrong with a value where a node must stand.
+fn value_flaw(seat: Seat, class: Class, attributes: &[Attribute]) -> Flaw
+    ensures { result ≡ spec.value_flaw seat class (map attr_view attributes.now) }
+{
+    if lacks_value(class, attributes) {
+        Flaw::Value
+    } else {
+        place_flaw(seat)
+    }
+}
+
+/// Defined values aren't read yet.
+fn place_flaw(seat: Seat) -> Flaw
+    ensures { result ≡ spec.place_flaw seat }
+{
+    match seat {
+        Seat::Aside => Flaw::NotBuilt,
+        _ => Flaw::Child,
     }
 }
 
@@ -71,6 +93,7 @@ pub(crate) fn seat_step(before: &[Piece<'_>], node: usize, seat: Seat) -> Option
             node,
             Spot::On(edge),
         )),
+        Seat::Aside => None,
         Seat::Nowhere => None,
     }
 }

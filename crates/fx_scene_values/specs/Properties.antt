@@ -10,7 +10,7 @@ use Rattle.fx_scene_flaws.specs.declared.flaws.Flaw.TheVariants as flaw
 use Rattle.fx_scene_plan.specs.declared.steps.PlannedStep.TheVariants as planned
 use Rattle.fx_scene_values.specs.Forms as form
 use Rattle.fx_scene_values.specs.Forms.{Form, form_of}
-use Rattle.fx_scene_values.specs.Values.{literal, property_of, value_in}
+use Rattle.fx_scene_values.specs.Values.{property_of, value_in}
 use Rattle.fx_scene_values.specs.declared.values.Given.{Given}
 use Rattle.fx_scene_values.specs.declared.values.Given.TheVariants.{Value, Flaw}
 
@@ -48,7 +48,3 @@ deed_if node text (Some property) = formed_deed node property (form_of text)
 -- what the attribute of this name and text asks for
 unfoldable pub property_deed : Class → ℕ → List ℕ → List ℕ → Option Deed
 property_deed class node name text = deed_if node text (property_named class name)
-
--- what the text of a property element asks for; it stands for itself
-abbrev pub property_text : ℕ → ListedProperty → List ℕ → Deed
-property_text node property text = given_deed node property (literal property.kind text)

@@ -1,19 +1,28 @@
 -- What an attribute of an instance is by its name (Introduction to FXML; JavaFX 21 API).
-use Rattle.std.specs.Prelude.{ℕ, Bool, List, [], ◌∷◌, codes, if◌then◌else◌}
-use Rattle.std.specs.List.{list_any}
+use Rattle.std.specs.Prelude.{ℕ, List, codes, Option, Some, None, if◌then◌else◌}
 use Rattle.std.specs.Str.{bytes_eq}
+use Rattle.fx_events.specs.declared.kinds.EventKind.{EventKind}
+use Rattle.fx_events.specs.declared.kinds.EventKind.TheVariants as event
 use Rattle.fx_kinds.specs.Ignored.{is_ignored}
 use Rattle.fx_scene_names.specs.Names.{is_static}
 use Rattle.fx_scene_values.specs.declared.roles.Role.{Role}
 use Rattle.fx_scene_values.specs.declared.roles.Role.TheVariants as role
 
-abbrev pub handlers : List (List ℕ)
-handlers = codes "onAction" ∷ codes "onMouseClicked" ∷ codes "onMousePressed" ∷ codes "onMouseReleased"
-    ∷ codes "onMouseMoved" ∷ codes "onMouseDragged" ∷ codes "onMouseEntered" ∷ codes "onMouseExited"
-    ∷ codes "onKeyPressed" ∷ []
+abbrev pub mouse_handled_by : List ℕ → Option EventKind
+mouse_handled_by name =
+    if bytes_eq name (codes "onMouseClicked") then Some event.MouseClicked
+    else (if bytes_eq name (codes "onMousePressed") then Some event.MousePressed
+    else (if bytes_eq name (codes "onMouseReleased") then Some event.MouseReleased
+    else (if bytes_eq name (codes "onMouseMoved") then Some event.MouseMoved
+    else (if bytes_eq name (codes "onMouseDragged") then Some event.MouseDragged
+    else (if bytes_eq name (codes "onMouseEntered") then Some event.MouseEntered
+    else (if bytes_eq name (codes "onMouseExited") then Some event.MouseExited else None))))))
 
-abbrev pub is_handler : List ℕ → Bool
-is_handler name = list_any (λ handler. bytes_eq handler name) handlers
+-- the type of events that the attribute of this name handles
+abbrev pub handled_by : List ℕ → Option EventKind
+handled_by name =
+    if bytes_eq name (codes "onAction") then Some event.Action
+    else (if bytes_eq name (codes "onKeyPressed") then Some event.KeyPressed else mouse_handled_by name)
 
 abbrev pub plain_role : List ℕ → Role
 plain_role name =
@@ -22,8 +31,11 @@ plain_role name =
     else (if bytes_eq name (codes "stylesheets") then role.Sheets
     else (if is_static name then role.Static else role.Property)))
 
+abbrev pub handler_role : List ℕ → Option EventKind → Role
+handler_role name (Some on) = role.Handler on
+handler_role name None = plain_role name
+
 unfoldable pub role_of : List ℕ → Role
 role_of name =
     if bytes_eq name (codes "fx:id") then role.Name
-    else (if is_ignored name then role.Ignored
-    else (if is_handler name then role.Handler else plain_role name))
+    else (if is_ignored name then role.Ignored else handler_role name (handled_by name))

@@ -9,7 +9,7 @@ use Rattle.fx_scene_flaws.specs.declared.flaws.Flaw.TheVariants as flaw
 use Rattle.fx_scene_names.specs.Names.{lacks_owner}
 use Rattle.fx_scene_plan.specs.declared.steps.PlannedStep.TheVariants as planned
 use Rattle.fx_scene_values.specs.Forms.{form_of}
-use Rattle.fx_scene_values.specs.Values.{literal, value_in}
+use Rattle.fx_scene_values.specs.Values.{value_in}
 use Rattle.fx_scene_values.specs.declared.values.Given.{Given}
 use Rattle.fx_scene_values.specs.declared.values.Given.TheVariants.{Value, Flaw}
 
@@ -32,7 +32,3 @@ deed_if node name text (Some entry) = row_deed node name entry text
 unfoldable pub static_deed : List (List ℕ) → ℕ → List ℕ → List ℕ → Deed
 static_deed imports node name text =
     if lacks_owner imports name then deed.Flaw flaw.Import else deed_if node name text (constraint_named name)
-
--- what the text of a property element asks for; it stands for itself
-abbrev pub static_text : ℕ → List ℕ → ConstraintEntry → List ℕ → Deed
-static_text node name entry text = given_deed node name entry (literal entry.kind text)

@@ -1,8 +1,7 @@
 -- Style classes, inline styles and handlers.
-use Rattle.std.specs.Prelude.{ℕ, ◌==◌, Bool, List, [], ◌∷◌, map, Option, Some, None, if◌then◌else◌}
+use Rattle.std.specs.Prelude.{ℕ, ◌==◌, Bool, List, map, Option, Some, None, if◌then◌else◌}
 use Rattle.std.specs.List.{slice_split}
-use Rattle.fx_base.specs.declared.positions.Place.{Place}
-use Rattle.fx_css_types.specs.declared.sheets.Sheet.{Sheet}
+use Rattle.fx_events.specs.declared.kinds.EventKind.{EventKind}
 use Rattle.fx_scene_acts.specs.declared.acts.Deed.{Deed}
 use Rattle.fx_scene_acts.specs.declared.acts.Deed.TheVariants as deed
 use Rattle.fx_scene_flaws.specs.declared.flaws.Flaw.{Flaw}
@@ -22,17 +21,10 @@ unplain form.Named = flaw.Name
 unplain form.Located = flaw.NotBuilt
 unplain other = flaw.Value
 
--- a style of which something is dropped isn't read yet
-abbrev pub style_if : ℕ → Sheet → List Place → Deed
-style_if node sheet [] = deed.Step (planned.Inline node sheet)
-style_if node sheet (dropped ∷ others) = deed.Flaw flaw.NotBuilt
-
-abbrev pub whole_style : ℕ → Sheet → Deed
-whole_style node sheet = style_if node sheet sheet.warnings
-
+-- a style is taken with what was dropped of it
 abbrev pub literal_style : ℕ → List ℕ → Deed
 literal_style node style =
-    if is_past_limit style then deed.Flaw flaw.Limit else whole_style node (style_sheet style)
+    if is_past_limit style then deed.Flaw flaw.Limit else deed.Step (planned.Inline node (style_sheet style))
 
 abbrev pub formed_style : ℕ → Form → Deed
 formed_style node (form.Literal style) = literal_style node style
@@ -63,13 +55,15 @@ item_deeds node items = map (λ item. class_deed node (trimmed item)) items
 unfoldable pub class_deeds : ℕ → List ℕ → List Deed
 class_deeds node text = item_deeds node (slice_split is_comma text)
 
--- `#` and a name; handlers aren't read yet
-abbrev pub handler_flaw : List ℕ → Flaw
-handler_flaw name = if is_identifier name then flaw.NotBuilt else flaw.Value
+-- an action is named by an identifier
+abbrev pub action_deed : ℕ → EventKind → List ℕ → Deed
+action_deed node on action =
+    if is_identifier action then deed.Step (planned.Convenience node on action) else deed.Flaw flaw.Value
 
-abbrev pub handler_if : Option (List ℕ) → Deed
-handler_if (Some name) = deed.Flaw (handler_flaw name)
-handler_if None = deed.Flaw flaw.Value
+abbrev pub handler_if : ℕ → EventKind → Option (List ℕ) → Deed
+handler_if node on (Some action) = action_deed node on action
+handler_if node on None = deed.Flaw flaw.Value
 
-unfoldable pub handler_deed : List ℕ → Deed
-handler_deed text = handler_if (behind_sign number_sign text)
+-- what an attribute asks for that handles events of the type: `#` and the name of an action, which runs then
+unfoldable pub handler_deed : ℕ → EventKind → List ℕ → Deed
+handler_deed node on text = handler_if node on (behind_sign number_sign text)

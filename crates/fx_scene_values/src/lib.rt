@@ -10,8 +10,8 @@ mod styles;
 mod values;
 
 pub use forms::{Form, form_of};
-pub use properties::{property_deed, property_given, property_named, property_text};
+pub use properties::{property_deed, property_given, property_named};
 pub use roles::{Role, role_of};
-pub use statics::{static_deed, static_given, static_text};
+pub use statics::{static_deed, static_given};
 pub use styles::{add_classes, handler_deed, style_deed};
-pub use values::{Given, planned_property, value_in};
+pub use values::{Given, literal, planned_property, value_in};

@@ -9,7 +9,7 @@ ghost use Rattle.fx_scene_values.specs.Properties as spec;
 ghost use Rattle.fx_scene_values.specs.Views.{form_view};
 
 use crate::forms::{Form, form_of};
-use crate::values::{Given, literal, planned_property, value_in};
+use crate::values::{Given, planned_property, value_in};
 use fx_kinds::{Class, Property, properties};
 use fx_scene_acts::Deed;
 use fx_scene_flaws::Flaw;
@@ -109,17 +109,4 @@ pub fn property_given(
             Ok(Deed::Step(PlannedStep::Code(property, value)))
         }
     }
-}
-
-/// What the text of a property element asks for. It stands for itself.
-pub fn property_text(
-    alloc: Global,
-    node: usize,
-    property: &Property,
-    text: &str,
-) -> Result<Deed, AllocError>
-    ensures { IfOk result (λ deed. deed ≡ spec.property_text node (listed_property property.now) text.now) }
-{
-    let given = literal(alloc, property.kind, text)?;
-    property_given(alloc, node, property, given)
 }

@@ -1,9 +1,8 @@
 //! What an attribute is by its name.
 ghost use Rattle.std.specs.Prelude.{◌≡◌};
-ghost use Rattle.std.specs.List.{list_any};
-ghost use Rattle.std.specs.Str.{bytes_eq};
 ghost use Rattle.fx_scene_values.specs.Roles as spec;
 
+use fx_events::EventKind;
 use fx_kinds::is_ignored;
 use fx_scene_names::is_static;
 
@@ -17,23 +16,12 @@ pub enum Role {
     Style,
     Classes,
     Sheets,
-    Handler,
+    /// What handles events of the type once they are on their way back up, behind all other handlers of the node.
+    Handler(EventKind),
     /// A constraint, as `HBox.hgrow`.
     Static,
     Property,
 }
-
-static HANDLERS: &[&str] = &[
-    "onAction",
-    "onMouseClicked",
-    "onMousePressed",
-    "onMouseReleased",
-    "onMouseMoved",
-    "onMouseDragged",
-    "onMouseEntered",
-    "onMouseExited",
-    "onKeyPressed",
-];
 
 /// What the attribute of this name is.
 #[tactic(auto, unfolding(crate::specs::Roles::role_of))]
@@ -46,10 +34,36 @@ pub fn role_of(name: &str) -> Role
     if is_ignored(name) {
         return Role::Ignored;
     }
-    if is_handler(HANDLERS, name) {
-        return Role::Handler;
+    match handled_by(name) {
+        Some(on) => Role::Handler(on),
+        None => plain_role(name),
     }
-    plain_role(name)
+}
+
+/// The type of events that the attribute of this name handles.
+fn handled_by(name: &str) -> Option<EventKind>
+    ensures { result ≡ spec.handled_by name.now }
+{
+    match name {
+        "onAction" => Some(EventKind::Action),
+        "onKeyPressed" => Some(EventKind::KeyPressed),
+        _ => mouse_handled_by(name),
+    }
+}
+
+fn mouse_handled_by(name: &str) -> Option<EventKind>
+    ensures { result ≡ spec.mouse_handled_by name.now }
+{
+    match name {
+        "onMouseClicked" => Some(EventKind::MouseClicked),
+        "onMousePressed" => Some(EventKind::MousePressed),
+        "onMouseReleased" => Some(EventKind::MouseReleased),
+        "onMouseMoved" => Some(EventKind::MouseMoved),
+        "onMouseDragged" => Some(EventKind::MouseDragged),
+        "onMouseEntered" => Some(EventKind::MouseEntered),
+        "onMouseExited" => Some(EventKind::MouseExited),
+        _ => None,
+    }
 }
 
 fn plain_role(name: &str) -> Role
@@ -68,10 +82,4 @@ fn plain_role(name: &str) -> Role
         return Role::Static;
     }
     Role::Property
-}
-
-fn is_handler(handlers: &[&str], name: &str) -> bool
-    ensures { result ≡ list_any (λ handler. bytes_eq handler.now name.now) handlers.now }
-{
-    handlers.iter().any(|handler| *handler == name)
 }

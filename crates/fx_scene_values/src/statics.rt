@@ -4,7 +4,7 @@ ghost use Rattle.fx_kinds.specs.ConstraintRows.{constraint_entry};
 ghost use Rattle.fx_scene_values.specs.Statics as spec;
 
 use crate::forms::form_of;
-use crate::values::{Given, literal, value_in};
+use crate::values::{Given, value_in};
 use fx_base::{Text, Value};
 use fx_kinds::{ConstraintRow, constraint_of};
 use fx_scene_acts::Deed;
@@ -75,18 +75,4 @@ fn is_in_range(row: &ConstraintRow, value: &Value) -> bool
         (Some((least, greatest)), Value::Int(number)) => least <= *number && *number <= greatest,
         _ => true,
     }
-}
-
-/// What the text of a property element asks for, where its name is known. It stands for itself.
-pub fn static_text(
-    alloc: Global,
-    node: usize,
-    name: &Text,
-    row: &ConstraintRow,
-    text: &str,
-) -> Result<Deed, AllocError>
-    ensures { IfOk result (λ deed. deed ≡ spec.static_text node name.now (constraint_entry row.now) text.now) }
-{
-    let given = literal(alloc, row.kind, text)?;
-    static_given(alloc, node, name, row, given)
 }

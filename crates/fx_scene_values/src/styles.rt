@@ -7,7 +7,7 @@ ghost use Rattle.fx_scene_values.specs.Views.{form_view};
 
 use crate::forms::{Form, behind_sign, form_of};
 use fx_base::Text;
-use fx_css_types::Sheet;
+use fx_events::EventKind;
 use fx_scene_acts::Deed;
 use fx_scene_flaws::Flaw;
 use fx_scene_plan::PlannedStep;
@@ -42,18 +42,8 @@ fn literal_style(alloc: Global, node: usize, style: &str) -> Result<Deed, AllocE
     ensures { IfOk result (λ deed. deed ≡ spec.literal_style node style.now) }
 {
     match read_style(alloc, style)? {
-        Some(sheet) => Ok(whole_style(node, sheet)),
+        Some(sheet) => Ok(Deed::Step(PlannedStep::Inline(node, sheet))),
         None => Ok(Deed::Flaw(Flaw::Limit)),
-    }
-}
-
-/// A style of which something is dropped isn't read yet.
-fn whole_style(node: usize, sheet: Sheet) -> Deed
-    ensures { result ≡ spec.whole_style node sheet }
-{
-    match sheet.warnings.as_slice() {
-        [] => Deed::Step(PlannedStep::Inline(node, sheet)),
-        [_, ..] => Deed::Flaw(Flaw::NotBuilt),
     }
 }
 
@@ -120,23 +110,30 @@ fn trim_white(text: &str) -> &str
     }
 }
 
-/// What a handler's attribute of this text asks for: handlers aren't read yet.
+/// What the attribute of this text asks for, which handles events of the type: `#` and the name of an action.
 #[tactic(auto, unfolding(crate::specs::Styles::handler_deed))]
-pub fn handler_deed(text: &str) -> Deed
-    ensures { result ≡ spec.handler_deed text.now }
+pub fn handler_deed(
+    alloc: Global,
+    node: usize,
+    on: EventKind,
+    text: &str,
+) -> Result<Deed, AllocError>
+    ensures { IfOk result (λ deed. deed ≡ spec.handler_deed node on text.now) }
 {
     match behind_sign(text, '#') {
-        Some(name) => Deed::Flaw(handler_flaw(name)),
-        None => Deed::Flaw(Flaw::Value),
+        Some(action) => action_deed(alloc, node, on, action),
+        None => Ok(Deed::Flaw(Flaw::Value)),
     }
 }
 
-fn handler_flaw(name: &str) -> Flaw
-    ensures { result ≡ spec.handler_flaw name.now }
+fn action_deed(alloc: Global, node: usize, on: EventKind, action: &str) -> Result<Deed, AllocError>
+    ensures { IfOk result (λ deed. deed ≡ spec.action_deed node on action.now) }
 {
-    if is_identifier(name) {
-        Flaw::NotBuilt
-    } else {
-        Flaw::Value
+    if !is_identifier(action) {
+        return Ok(Deed::Flaw(Flaw::Value));
+    }
+    match Text::from_str(alloc, action) {
+        Ok(action) => Ok(Deed::Step(PlannedStep::Convenience(node, on, action))),
+        Err(_) => Err(AllocError),
     }
 }

@@ -31,7 +31,7 @@ pub fn value_in(alloc: Global, kind: Kind, form: Form<'_>) -> Result<Given, Allo
 
 /// The value that the text spells.
 #[tactic(auto, unfolding(crate::specs::Values::literal))]
-pub(crate) fn literal(alloc: Global, kind: Kind, text: &str) -> Result<Given, AllocError>
+pub fn literal(alloc: Global, kind: Kind, text: &str) -> Result<Given, AllocError>
     ensures { IfOk result (λ given. given ≡ spec.literal kind text.now) }
 {
     match read(alloc, kind, text)? {

@@ -1,8 +1,9 @@
 -- the script, the sheets or the scene is refused, or all of them are read
-use Rattle.std.proofs.Common.{Vec, map, ◌∙◌}
+use Rattle.std.proofs.Common.{Vec, map, ◌∙◌, ◌++◌, ap}
 use Rattle.std.specs.Global.{Global}
 use Rattle.fx_css_types.specs.declared.sheets.Sheet.{Sheet}
 use Rattle.fx_load.specs.Loads.{loaded_of}
+use Rattle.fx_load.specs.Telling.{style_warnings}
 use Rattle.fx_load.proofs.LoadLemmas.{all_loaded, scene_stops, script_stops, sheets_stop}
 use Rattle.fx_load_parts.specs.Views.{run_of}
 use Rattle.fx_scene_acts.specs.declared.acts.Act.{Act}
@@ -40,5 +41,8 @@ returns-clause-says g c = λ files e.
     (λ i. record {
       acts = c.in_ok-acts-2.ensures i;
       lines = map line_view c.in_ok-lines.lines.items;
-      warnings = (rw c.as_slice.ensures.value at c.in_ok-warnings.ensures) i;
+      warnings =
+          ((rw c.as_slice-2.ensures.value at c.in_ok-warnings.ensures)
+          ∙ ap (λ told. told ++ style_warnings c.args.run.now.scene.now c.in_ok-acts.acts.items)
+          (rw c.as_slice.ensures.value at c.in_ok-told.ensures)) i;
     })

@@ -1,0 +1,7 @@
+pub mod Added
+pub mod Elements
+pub mod Held
+pub mod Lists
+pub mod Targets
+pub mod Tracks
+pub mod Views

@@ -1,0 +1,13 @@
+//! What property elements ask for: values of properties and of constraints, style classes, and the constraints of columns
+//! and rows.
+#![tactic(auto)]
+
+mod elements;
+mod held;
+mod lists;
+mod pushing;
+mod targets;
+mod tracks;
+
+pub use elements::add_element;
+pub use pushing::{push, push_all, push_flaw};

@@ -1,0 +1,107 @@
+-- An instance where a value or a part of a list is wanted: which class it is of, or what is wrong at its name.
+use Rattle.std.specs.Prelude.{ℕ, Bool, true, false, ◌||◌, List, codes, Option, Some, None, Result, Ok, Err, if◌then◌else◌}
+use Rattle.std.specs.Str.{bytes_eq}
+use Rattle.fx_base.specs.declared.kinds.Kind.{Kind}
+use Rattle.fx_base.specs.declared.kinds.Kind.TheVariants as kind
+use Rattle.fx_doc_grammar.specs.Grammar.{Head}
+use Rattle.fx_graph_model.specs.Equality.{same_kind}
+use Rattle.fx_kinds.specs.Classes.{value_kind}
+use Rattle.fx_kinds.specs.declared.classes.Class.{Class}
+use Rattle.fx_kinds.specs.declared.classes.Class.TheVariants as class
+use Rattle.fx_scene_flaws.specs.declared.flaws.Flaw.{Flaw}
+use Rattle.fx_scene_flaws.specs.declared.flaws.Flaw.TheVariants as flaw
+use Rattle.fx_scene_literals.specs.Needs.{has_attribute, is_location, is_scene_node, lacks_value}
+use Rattle.fx_scene_literals.specs.declared.instances.Want.{Want}
+use Rattle.fx_scene_literals.specs.declared.instances.Want.TheVariants as want
+use Rattle.fx_scene_names.specs.Names.{class_named, is_instance, lacks_import}
+
+-- the kind of the values that instances of the class are; a region stands for a number by a constant
+abbrev pub kind_of : Class → Option Kind
+kind_of class.Region = Some kind.Int
+kind_of class = value_kind class
+
+abbrev pub is_column : Class → Bool
+is_column class.ColumnConstraints = true
+is_column _ = false
+
+abbrev pub is_row : Class → Bool
+is_row class.RowConstraints = true
+is_row _ = false
+
+abbrev pub flaw_unless : Bool → Flaw → Option Flaw
+flaw_unless fits mistake = if fits then None else Some mistake
+
+abbrev pub kind_flaw : Kind → Option Kind → Option Flaw
+kind_flaw wanted None = Some flaw.Child
+kind_flaw wanted (Some kind) = flaw_unless (same_kind kind wanted) flaw.Kinds
+
+-- a value of another kind is told of before one too many
+abbrev pub more_flaw : Option Flaw → Option Flaw
+more_flaw (Some mistake) = Some mistake
+more_flaw None = Some flaw.Child
+
+-- a style class may be a location, too, which isn't read yet
+abbrev pub name_flaw : Class → Option Flaw
+name_flaw class = if is_location class then Some flaw.NotBuilt else kind_flaw kind.Text (kind_of class)
+
+-- what is wrong with an instance of the class, which is no node, where this is wanted
+abbrev pub misfit : Want → Class → Option Flaw
+misfit (want.Value kind) class = kind_flaw kind (kind_of class)
+misfit (want.Another kind) class = more_flaw (kind_flaw kind (kind_of class))
+misfit want.Name class = name_flaw class
+misfit want.Column class = flaw_unless (is_column class) flaw.Child
+misfit want.Row class = flaw_unless (is_row class) flaw.Child
+misfit want.Nothing class = Some flaw.Child
+
+abbrev pub unless_flaw : Class → Option Flaw → Result Class Flaw
+unless_flaw class (Some mistake) = Err mistake
+unless_flaw class None = Ok class
+
+-- of all that is wrong, the first in the order of flaws
+abbrev pub class_fit : List (List ℕ) → Want → Head → Class → Result Class Flaw
+class_fit imports wanted head class =
+    if lacks_import imports head.name class then Err flaw.Import
+    else (if is_scene_node class head.attributes then Err flaw.Child
+    else (if lacks_value class head.attributes then Err flaw.Value else unless_flaw class (misfit wanted class)))
+
+abbrev pub class_if : List (List ℕ) → Want → Head → Option Class → Result Class Flaw
+class_if imports wanted head None = Err flaw.Class
+class_if imports wanted head (Some class) = class_fit imports wanted head class
+
+-- elements that are no instances
+
+abbrev pub is_include : List ℕ → Bool
+is_include name = bytes_eq name (codes "fx:include")
+
+abbrev pub is_reference : List ℕ → Bool
+is_reference name = bytes_eq name (codes "fx:reference")
+
+abbrev pub is_define : List ℕ → Bool
+is_define name = bytes_eq name (codes "fx:define")
+
+-- nothing may stand there, whatever it is
+abbrev pub is_closed : Want → Bool
+is_closed (want.Another kind) = true
+is_closed want.Nothing = true
+is_closed _ = false
+
+-- what is wrong with a reference; references aren't read yet
+abbrev pub reference_flaw : Want → Flaw
+reference_flaw wanted = if is_closed wanted then flaw.Child else flaw.NotBuilt
+
+-- an include is a node, which is no value
+abbrev pub insert_flaw : Want → Head → Flaw
+insert_flaw wanted head =
+    if has_attribute head.attributes (codes "source")
+    then (if is_reference head.name then reference_flaw wanted else flaw.Child) else flaw.Value
+
+abbrev pub outside_flaw : Want → Head → Flaw
+outside_flaw wanted head =
+    if is_include head.name || is_reference head.name then insert_flaw wanted head
+    else (if is_define head.name then flaw.Child else flaw.Property)
+
+-- the class of an instance that may stand where this is wanted, or what is wrong with an element at its name
+unfoldable pub entered : List (List ℕ) → Want → Head → Result Class Flaw
+entered imports wanted head =
+    if is_instance head.name then class_if imports wanted head (class_named head.name)
+    else Err (outside_flaw wanted head)

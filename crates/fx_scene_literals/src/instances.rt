@@ -1,0 +1,223 @@
+//! Instances where values and parts of lists are wanted.
+ghost use Rattle.std.specs.Prelude.{◌≡◌};
+ghost use Rattle.fx_graph_model.specs.Equality.{same_family, same_kind};
+ghost use Rattle.fx_scene_literals.specs.Instances as spec;
+ghost use Rattle.fx_scene_outline.specs.Views.{head_of};
+
+use crate::needs::{has_attribute, is_location, is_scene_node, lacks_value};
+use fx_base::{Family, Kind, Text};
+use fx_doc::Element;
+use fx_kinds::{Class, value_kind};
+use fx_scene_flaws::Flaw;
+use fx_scene_names::{class_named, is_instance, lacks_import};
+
+/// What is wanted at a place.
+#[derive(Clone, Copy, Debug, PartialEq, Eq)]
+pub enum Want {
+    /// A value of the kind.
+    Value(Kind),
+    /// Nothing more, where a value of the kind stands already.
+    Another(Kind),
+    /// A style class.
+    Name,
+    /// The constraint of a column.
+    Column,
+    /// The constraint of a row.
+    Row,
+    Nothing,
+}
+
+/// The class of an instance that may stand where this is wanted, or what is wrong with an element at its name.
+#[tactic(auto, unfolding(crate::specs::Instances::entered))]
+pub fn entered(imports: &[Text], want: Want, element: &Element) -> Result<Class, Flaw>
+    ensures { result ≡ spec.entered imports.now want (head_of element.now) }
+{
+    if !is_instance(element.name.as_str()) {
+        return Err(outside_flaw(want, element));
+    }
+    match class_named(element.name.as_str()) {
+        Some(class) => class_fit(imports, want, element, class),
+        None => Err(Flaw::Class),
+    }
+}
+
+fn class_fit(imports: &[Text], want: Want, element: &Element, class: Class) -> Result<Class, Flaw>
+    ensures { result ≡ spec.class_fit imports.now want (head_of element.now) class }
+{
+    if lacks_import(imports, element.name.as_str(), class) {
+        return Err(Flaw::Import);
+    }
+    if is_scene_node(class, element.attributes.as_slice()) {
+        return Err(Flaw::Child);
+    }
+    if lacks_value(class, element.attributes.as_slice()) {
+        return Err(Flaw::Value);
+    }
+    unless_flaw(class, misfit(want, class))
+}
+
+fn unless_flaw(class: Class, flaw: Option<Flaw>) -> Result<Class, Flaw>
+    ensures { result ≡ spec.unless_flaw class flaw }
+{
+    match flaw {
+        Some(flaw) => Err(flaw),
+        None => Ok(class),
+    }
+}
+
+fn misfit(want: Want, class: Class) -> Option<Flaw>
+    ensures { result ≡ spec.misfit want class }
+{
+    match want {
+        Want::Value(kind) => kind_flaw(kind, kind_of(class)),
+        Want::Another(kind) => more_flaw(kind_flaw(kind, kind_of(class))),
+        Want::Name => name_flaw(class),
+        Want::Column => flaw_unless(is_column(class), Flaw::Child),
+        Want::Row => flaw_unless(is_row(class), Flaw::Child),
+        Want::Nothing => Some(Flaw::Child),
+    }
+}
+
+fn kind_flaw(wanted: Kind, kind: Option<Kind>) -> Option<Flaw>
+    ensures { result ≡ spec.kind_flaw wanted kind }
+{
+    match kind {
+        Some(kind) => flaw_unless(is_same_kind(kind, wanted), Flaw::Kinds),
+        None => Some(Flaw::Child),
+    }
+}
+
+fn more_flaw(flaw: Option<Flaw>) -> Option<Flaw>
+    ensures { result ≡ spec.more_flaw flaw }
+{
+    match flaw {
+        Some(flaw) => Some(flaw),
+        None => Some(Flaw::Child),
+    }
+}
+
+fn name_flaw(class: Class) -> Option<Flaw>
+    ensures { result ≡ spec.name_flaw class }
+{
+    if is_location(class) {
+        Some(Flaw::NotBuilt)
+    } else {
+        kind_flaw(Kind::Text, kind_of(class))
+    }
+}
+
+fn flaw_unless(fits: bool, flaw: Flaw) -> Option<Flaw>
+    ensures { result ≡ spec.flaw_unless fits flaw }
+{
+    if fits { None } else { Some(flaw) }
+}
+
+/// The kind of the values that instances of the class are.
+fn kind_of(class: Class) -> Option<Kind>
+    ensures { result ≡ spec.kind_of class }
+{
+    match class {
+        Class::Region => Some(Kind::Int),
+        _ => value_kind(class),
+    }
+}
+
+fn is_column(class: Class) -> bool
+    ensures { result ≡ spec.is_column class }
+{
+    matches!(class, Class::ColumnConstraints)
+}
+
+fn is_row(class: Class) -> bool
+    ensures { result ≡ spec.is_row class }
+{
+    matches!(class, Class::RowConstraints)
+}
+
+fn is_same_family(one: Family, other: Family) -> bool
+    ensures { result ≡ same_family one other }
+{
+    match (one, other) {
+        (Family::Pos, Family::Pos) => true,
+        (Family::Priority, Family::Priority) => true,
+        (Family::HPos, Family::HPos) => true,
+        (Family::VPos, Family::VPos) => true,
+        _ => false,
+    }
+}
+
+fn is_same_kind(one: Kind, other: Kind) -> bool
+    ensures { result ≡ same_kind one other }
+{
+    match (one, other) {
+        (Kind::Int, Kind::Int) => true,
+        (Kind::Bool, Kind::Bool) => true,
+        (Kind::Text, Kind::Text) => true,
+        (Kind::Choice(one), Kind::Choice(other)) => is_same_family(one, other),
+        (Kind::Color, Kind::Color) => true,
+        (Kind::Sides, Kind::Sides) => true,
+        _ => false,
+    }
+}
+
+/// What is wrong with an element that is no instance.
+fn outside_flaw(want: Want, element: &Element) -> Flaw
+    ensures { result ≡ spec.outside_flaw want (head_of element.now) }
+{
+    if is_include(element.name.as_str()) || is_reference(element.name.as_str()) {
+        return insert_flaw(want, element);
+    }
+    if is_define(element.name.as_str()) {
+        Flaw::Child
+    } else {
+        Flaw::Property
+    }
+}
+
+fn insert_flaw(want: Want, element: &Element) -> Flaw
+    ensures { result ≡ spec.insert_flaw want (head_of element.now) }
+{
+    if !has_attribute(element.attributes.as_slice(), "source") {
+        return Flaw::Value;
+    }
+    if is_reference(element.name.as_str()) {
+        reference_flaw(want)
+    } else {
+        Flaw::Child
+    }
+}
+
+/// What is wrong with a reference: references aren't read yet.
+fn reference_flaw(want: Want) -> Flaw
+    ensures { result ≡ spec.reference_flaw want }
+{
+    if is_closed(want) {
+        Flaw::Child
+    } else {
+        Flaw::NotBuilt
+    }
+}
+
+fn is_closed(want: Want) -> bool
+    ensures { result ≡ spec.is_closed want }
+{
+    matches!(want, Want::Another(_) | Want::Nothing)
+}
+
+pub(crate) fn is_include(name: &str) -> bool
+    ensures { result ≡ spec.is_include name.now }
+{
+    name == "fx:include"
+}
+
+pub(crate) fn is_reference(name: &str) -> bool
+    ensures { result ≡ spec.is_reference name.now }
+{
+    name == "fx:reference"
+}
+
+pub(crate) fn is_define(name: &str) -> bool
+    ensures { result ≡ spec.is_define name.now }
+{
+    name == "fx:define"
+}

@@ -1,0 +1,27 @@
+//! What is made of an instance of a value.
+use fx_base::{Kind, Position, Track, Value};
+use fx_kinds::Class;
+use fx_scene_flaws::Flaw;
+
+/// A value, or the constraint of a column or a row.
+#[derive(Drop)]
+pub enum Made {
+    Plain(Value),
+    Track(Track),
+}
+
+/// What is made, or what is wrong, and where.
+#[derive(Drop)]
+pub enum Found {
+    Whole(Made),
+    Flaw(Flaw, Position),
+}
+
+/// What some content is of.
+#[derive(Clone, Copy, Debug, PartialEq, Eq)]
+pub enum Part {
+    /// An instance of the class.
+    Fields(Class),
+    /// A property element that holds one value of the kind.
+    One(Kind),
+}

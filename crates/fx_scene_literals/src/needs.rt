@@ -1,0 +1,84 @@
+//! What classes are, and what instances of them need.
+ghost use Rattle.std.specs.Prelude.{◌≡◌, map};
+ghost use Rattle.fx_doc.specs.Views.{attr_view};
+ghost use Rattle.fx_scene_literals.specs.Needs as spec;
+
+use fx_doc::Attribute;
+use fx_kinds::{Class, is_node};
+use fx_scene_bindings::value_at;
+
+/// Is there an attribute of this name?
+pub fn has_attribute(attributes: &[Attribute], name: &str) -> bool
+    ensures { result ≡ spec.has_attribute (map attr_view attributes.now) name.now }
+{
+    value_at(attributes, name).is_some()
+}
+
+/// Is an instance of the class with these attributes a node? A region with a constant stands for a number.
+pub fn is_scene_node(class: Class, attributes: &[Attribute]) -> bool
+    ensures { result ≡ spec.is_scene_node class (map attr_view attributes.now) }
+{
+    is_node(class) && !is_number(class, attributes)
+}
+
+fn is_number(class: Class, attributes: &[Attribute]) -> bool
+    ensures { result ≡ spec.is_number class (map attr_view attributes.now) }
+{
+    is_region(class) && has_attribute(attributes, "fx:constant")
+}
+
+/// Does an instance of a class of values with these attributes lack the one that it needs?
+pub fn lacks_value(class: Class, attributes: &[Attribute]) -> bool
+    ensures { result ≡ spec.lacks_value class (map attr_view attributes.now) }
+{
+    if is_location(class) {
+        return !has_attribute(attributes, "value");
+    }
+    needs_text(class) && !has_text(class, attributes)
+}
+
+fn has_text(class: Class, attributes: &[Attribute]) -> bool
+    ensures { result ≡ spec.has_text class (map attr_view attributes.now) }
+{
+    has_attribute(attributes, "fx:value") || has_constant(class, attributes)
+}
+
+fn has_constant(class: Class, attributes: &[Attribute]) -> bool
+    ensures { result ≡ spec.has_constant class (map attr_view attributes.now) }
+{
+    has_constants(class) && has_attribute(attributes, "fx:constant")
+}
+
+fn is_region(class: Class) -> bool
+    ensures { result ≡ spec.is_region class }
+{
+    matches!(class, Class::Region)
+}
+
+pub(crate) fn is_location(class: Class) -> bool
+    ensures { result ≡ spec.is_location class }
+{
+    matches!(class, Class::Url)
+}
+
+fn needs_text(class: Class) -> bool
+    ensures { result ≡ spec.needs_text class }
+{
+    matches!(
+        class,
+        Class::String
+            | Class::Integer
+            | Class::Double
+            | Class::Boolean
+            | Class::Pos
+            | Class::Priority
+            | Class::HPos
+            | Class::VPos
+    )
+}
+
+fn has_constants(class: Class) -> bool
+    ensures { result ≡ spec.has_constants class }
+{
+    !matches!(class, Class::String | Class::Boolean)
+}

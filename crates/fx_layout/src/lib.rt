@@ -15,4 +15,4 @@ mod trees;
 
 pub use laws::{anew_is_layout, one_layout, updates_agree};
 pub use layouts::Layouts;
-pub use nodes::can_be_laid;
+pub use nodes::{are_nodes, can_be_laid};

@@ -11,17 +11,27 @@ use fx_base::NodeKey;
 use fx_kinds::BoxFacts;
 
 /// Can these nodes be laid out? There is a node, and there are at most 4,096; the first has no parent, and each other
-/// one has a parent that stands before it; each has at most 256 columns and 256 rows; and no two have one key.
+/// one has a parent that stands before it; each has at most 256 columns and 256 rows; and no two have one key. Compares
+/// each key with each other: who knows that no two are one, asks `are_nodes`.
 pub fn can_be_laid(nodes: &[BoxFacts]) -> bool
     ensures some { result ≡ true → 0 < length nodes.now }
     ensures nodes { result ≡ true → AreNodes nodes.now }
     ensures keys { result ≡ true → AreDifferent (keys nodes.now) }
     ensures only { 0 < length nodes.now → AreNodes nodes.now → AreDifferent (keys nodes.now) → result ≡ true }
 {
+    are_nodes(nodes) && are_different(nodes)
+}
+
+/// Is all true of these nodes that `can_be_laid` asks of each, whatever their keys are? Goes over them once or twice.
+pub fn are_nodes(nodes: &[BoxFacts]) -> bool
+    ensures some { result ≡ true → 0 < length nodes.now }
+    ensures nodes { result ≡ true → AreNodes nodes.now }
+    ensures only { 0 < length nodes.now → AreNodes nodes.now → result ≡ true }
+{
     if nodes.is_empty() || nodes.len() > 4_096 {
         return false;
     }
-    is_tree(nodes) && have_few_tracks(nodes) && are_different(nodes)
+    is_tree(nodes) && have_few_tracks(nodes)
 }
 
 fn is_tree(nodes: &[BoxFacts]) -> bool

@@ -1,12 +1,12 @@
 -- A node shows where its parent does and it is visible.
-use Rattle.std.proofs.Common.{refl, sym, ap, ◌∙◌, ◌≡◌, ℕ, ◌<◌, ◌&&◌, ◌||◌, Bool, true, false, length, Option, None, Some, slice_index_or, arith}
-use Rattle.std.specs.List.{list_all, list_any}
+use Rattle.std.proofs.Common.{refl, sym, ap, ◌∙◌, ◌≡◌, ℕ, ◌<◌, ◌&&◌, Bool, true, false, length, Option, None, Some, arith}
+use Rattle.std.specs.List.{list_all}
 use Rattle.std.proofs.lemmas.List.{length-map}
 use Rattle.fx_kinds.specs.declared.facts.BoxFacts.{BoxFacts}
 use Rattle.fx_layout_sweeps.specs.Nodes.{IsTree, Parents, look_at, node_at, parent_at, parents}
 use Rattle.fx_pulse_model.specs.Lines.{line_to}
-use Rattle.fx_pulse_model.specs.Pictures.{Drawn, is_disabled, shows}
-use Rattle.fx_pulse_model.proofs.LineLemmas.{all_child, all_root, any_child, any_root, before}
+use Rattle.fx_pulse_model.specs.Pictures.{Drawn, shows}
+use Rattle.fx_pulse_model.proofs.LineLemmas.{all_child, all_root, before}
 use Rattle.fx_pulse_touched.specs.Marks.{told, told_above}
 use Rattle.fx_pulse_touched.proofs.ToldLemmas.{read, told_at}
 

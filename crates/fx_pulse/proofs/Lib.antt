@@ -1,4 +1,3 @@
-pub mod ToldLemmas
 pub mod CountLemmas
 pub mod PathLemmas
 pub mod FlagLemmas
@@ -7,3 +6,5 @@ pub mod WindowLemmas
 pub mod ShowLemmas
 pub mod HeadLemmas
 pub mod WorkLemmas
+mod CurrentLemmas
+mod OrderLemmas

@@ -1,9 +1,8 @@
 -- The next path and the next counts, by the parent of a node.
 use Rattle.std.proofs.Common.{sym, ap, ◌∙◌, ◌≡◌, ℕ, ◌+◌, ◌<◌, ◌≤◌, ◌++◌, List, [], ◌∷◌, get_or, length, set, None, Some, arith}
 use Rattle.std.specs.Prelude.{slice_index}
-use Rattle.std.proofs.lemmas.List.{get_or-map, length-map}
 use Rattle.fx_kinds.specs.declared.facts.BoxFacts.{BoxFacts}
-use Rattle.fx_layout_sweeps.specs.Nodes.{IsTree, no_node, node_at, parent_at, parents}
+use Rattle.fx_layout_sweeps.specs.Nodes.{IsTree, node_at, parents}
 use Rattle.fx_pulse_model.specs.Lines.{path_of}
 use Rattle.fx_pulse_model.proofs.LineLemmas.{before, path_child, path_root}
 use Rattle.fx_pulse.specs.Drawing.{AreCounts}

@@ -1,10 +1,11 @@
 -- What is lent to a frame, and what is made of it on the way.
-use Rattle.std.specs.Prelude.{◌≡◌, ℕ, suc, ◌<◌, List, [], count_by, filter, length, slice_index, slice_index_or, take}
+use Rattle.std.specs.Prelude.{◌≡◌, ℕ, suc, ◌<◌, List, count_by, filter, length, slice_index, take}
 use Rattle.std.specs.List.{range_with_len}
 use Rattle.std.specs.Cmp.Lexicographic.{slice_cmp}
 use Rattle.std.specs.Ordering.{nat_cmp}
 use Rattle.std.specs.declared.cmp.Ordering.TheVariants.{Less}
 use Rattle.fx_layout_sweeps.specs.Nodes.{Parents, is_place}
+use Rattle.fx_pulse_model.specs.Lines.{path_of}
 use Rattle.fx_pulse_model.specs.Pictures.{Drawn, shows}
 use Rattle.fx_pulse.specs.declared.entries.Laid.{Laid}
 
@@ -21,8 +22,6 @@ pub record AreCounts (ups : Parents) (counts : List ℕ) (n : ℕ) : Type 0 wher
 abbrev pub shown_below : Drawn → ℕ → List ℕ
 shown_below d n = filter (shows d) (range_with_len 0 n)
 
--- each of these paths is the lesser one of the next
-abbrev pub DoRise : List (List ℕ) → Type 0
-DoRise paths =
-    (k : ℕ) → suc k < length paths
-    → slice_cmp nat_cmp (slice_index_or paths k []) (slice_index_or paths (suc k) []) ≡ Less
+-- the first nodes rise by their paths, one after another
+abbrev pub RiseUpTo : Parents → ℕ → Type 0
+RiseUpTo ups n = (k : ℕ) → suc k < n → slice_cmp nat_cmp (path_of ups k) (path_of ups (suc k)) ≡ Less

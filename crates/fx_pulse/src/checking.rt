@@ -1,5 +1,5 @@
 //! Whether lists make a scene.
-ghost use Rattle.std.specs.Prelude.{◌≡◌, ◌≤◌, ◌↔◌, IfOk, IsTrue, eqb, length, map};
+ghost use Rattle.std.specs.Prelude.{◌≡◌, ◌<◌, ◌-◌, ◌↔◌, IfOk, IsTrue, eqb, length, map, slice_index};
 ghost use Rattle.std.specs.List.{IsDistinct};
 ghost use Rattle.std.specs.Cmp.Lexicographic.{slice_cmp};
 ghost use Rattle.std.specs.Ordering.{nat_cmp};
@@ -8,24 +8,24 @@ ghost use Rattle.std.specs.List.Sorted.{IsStrictlyIncreasing};
 ghost use Rattle.fx_css_types.specs.Limits.{AreWithinLimits};
 ghost use Rattle.fx_cascade.specs.Tables.{AreRows};
 ghost use Rattle.fx_layout_sweeps.specs.Nodes.{IsTree, keys, parents};
-ghost use Rattle.fx_pulse_model.specs.Lines.{AreInOrder};
+ghost use Rattle.fx_pulse_model.specs.Lines.{AreInOrder, path_of};
 ghost use Rattle.fx_pulse_model.specs.Scenes.{IsScene, births};
-ghost use Rattle.fx_pulse.specs.Drawing.{DoRise};
+ghost use Rattle.fx_pulse.specs.Drawing.{RiseUpTo};
+ghost use Rattle.fx_pulse_touched.specs.Marks.{is_on_line};
 ghost use Rattle.fx_pulse_touched.specs.Sights.{seen};
 ghost use Rattle.fx_style.specs.Rules.{HaveRows};
 
-use crate::paths::{path_at, paths_of};
-use fx_base::List;
+use crate::flags::parent_at;
 use fx_kinds::{BoxFacts, StyleFacts};
-use fx_layout::can_be_laid;
+use fx_layout::are_nodes;
 use fx_look::CodeValue;
 use fx_pulse_touched::Scene;
 use std::alloc::{AllocError, Global};
-use std::cmp::Ordering;
 
 /// Is this a scene? That is so where the lists tell of the same nodes, the first of which is the root, in pre-order;
 /// there are at most 4,096, no two with one birth number, and each can be styled and laid out. The sheets are within
-/// their limits, as every sheet is that was read. Compares each key with each other.
+/// their limits, as every sheet is that was read. It is dearer than a walk over the lists only by the sorting of birth
+/// numbers, and by that only where these don't rise.
 pub fn is_scene(alloc: Global, scene: Scene<'_>) -> Result<bool, AllocError>
     requires { AreWithinLimits scene.sheets.now }
     ensures scene { IfOk result (λ is. IsTrue is → IsScene (seen scene.entry)) }
@@ -34,7 +34,7 @@ pub fn is_scene(alloc: Global, scene: Scene<'_>) -> Result<bool, AllocError>
     if !are_alike(scene) {
         return Ok(false);
     }
-    if !can_be_laid(scene.boxes) {
+    if !are_nodes(scene.boxes) {
         return Ok(false);
     }
     if !have_rows(scene.styles) {
@@ -43,8 +43,7 @@ pub fn is_scene(alloc: Global, scene: Scene<'_>) -> Result<bool, AllocError>
     if !have_distinct_births(alloc, scene.boxes)? {
         return Ok(false);
     }
-    let is = are_in_order(alloc, scene.boxes)?;
-    Ok(is)
+    Ok(are_in_order(scene.boxes))
 }
 
 /// Do the lists tell of the same nodes?
@@ -108,12 +107,36 @@ fn are_rows(codes: &[CodeValue]) -> bool
     true
 }
 
-/// Have no two nodes one birth number?
+/// Have no two nodes one birth number? Where they rise that is seen at once, or else they are sorted.
 fn have_distinct_births(alloc: Global, boxes: &[BoxFacts]) -> Result<bool, AllocError>
     ensures { IfOk result (λ distinct. IsTrue distinct ↔ IsDistinct eqb (births boxes.now)) }
 {
+    if do_births_rise(boxes) {
+        return Ok(true);
+    }
     let births = births_of(alloc, boxes)?;
     Ok(are_distinct(births))
+}
+
+/// Has each node a greater birth number than the one before it?
+fn do_births_rise(boxes: &[BoxFacts]) -> bool
+    ensures { IsTrue result → IsStrictlyIncreasing (births boxes.now) }
+{
+    for place in 1..boxes.len() {
+        if birth_at(boxes, place) <= birth_at(boxes, place - 1) {
+            return false;
+        }
+    }
+    true
+}
+
+fn birth_at(boxes: &[BoxFacts], place: usize) -> u32
+    ensures { result ≡ slice_index (births boxes.now) place }
+{
+    match boxes.get(place) {
+        Some(node) => node.key.birth,
+        None => 0,
+    }
 }
 
 fn births_of(alloc: Global, boxes: &[BoxFacts]) -> Result<Vec<u32>, AllocError>
@@ -145,30 +168,47 @@ fn is_increasing(numbers: &[u32]) -> bool
     true
 }
 
-/// Do the nodes rise by their paths?
-fn are_in_order(alloc: Global, boxes: &[BoxFacts]) -> Result<bool, AllocError>
-    requires tree { IsTree (parents boxes.now) }
-    requires few { length boxes.now ≤ 4096 }
-    ensures { IfOk result (λ are. IsTrue are ↔ AreInOrder (parents boxes.now)) }
+/// Do the nodes rise by their paths? They do where each hangs on the line down to the one before it. No line is walked
+/// up twice: what is left behind stays there.
+fn are_in_order(boxes: &[BoxFacts]) -> bool
+    requires { IsTree (parents boxes.now) }
+    ensures { IsTrue result ↔ AreInOrder (parents boxes.now) }
 {
-    let paths = paths_of(alloc, boxes)?;
-    Ok(do_rise(paths.as_slice()))
-}
-
-/// Is each path the lesser one of the next?
-fn do_rise(paths: &[List<u32>]) -> bool
-    ensures { IsTrue result ↔ DoRise paths.now }
-{
-    for place in 1..paths.len() {
-        if !is_less(path_at(paths, place - 1), path_at(paths, place)) {
+    for place in 1..boxes.len() {
+        if !hangs_on_line(boxes, place) {
             return false;
         }
     }
     true
 }
 
-fn is_less(path: &[u32], other: &[u32]) -> bool
-    ensures { IsTrue result ↔ (slice_cmp nat_cmp path.now other.now ≡ Less) }
+/// Is the parent of this node the one before it, or one above that?
+fn hangs_on_line(boxes: &[BoxFacts], place: usize) -> bool
+    requires tree { IsTree (parents boxes.now) }
+    requires behind { 0 < place }
+    requires there { place < length boxes.now }
+    requires rise { RiseUpTo (parents boxes.now) place }
+    ensures { IsTrue result ↔ (slice_cmp nat_cmp (path_of (parents boxes.now) (place - 1))
+        (path_of (parents boxes.now) place) ≡ Less) }
 {
-    matches!(path.cmp(&other), Ordering::Less)
+    match parent_at(boxes, place) {
+        None => false,
+        Some(parent) => is_on_line(boxes, place - 1, parent),
+    }
+}
+
+/// Does this other place stand on the line from the root down to a node?
+fn is_on_line(boxes: &[BoxFacts], place: usize, other: usize) -> bool
+    requires tree { IsTree (parents boxes.now) }
+    requires there { place < length boxes.now }
+    ensures { result ≡ is_on_line (parents boxes.now) place other }
+{
+    let mut at = place;
+    while at > other {
+        match parent_at(boxes, at) {
+            None => return false,
+            Some(parent) => at = parent,
+        }
+    }
+    at == other
 }

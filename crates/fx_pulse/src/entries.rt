@@ -1,5 +1,5 @@
 //! The picture of a scene whose nodes have their looks and rectangles.
-ghost use Rattle.std.specs.Prelude.{ℕ, ◌≡◌, ◌≤◌, ◌<◌, ◌+◌, IfOk, OnOk, length};
+ghost use Rattle.std.specs.Prelude.{ℕ, ◌≡◌, ◌≤◌, ◌<◌, ◌+◌, [], IfOk, OnOk, length, slice_index_or, slice_set};
 ghost use Rattle.std.specs.List.{AllZip};
 ghost use Rattle.std.specs.Option.{option_copied};
 ghost use Rattle.fx_layout.specs.Updates.{rect_at};
@@ -11,13 +11,14 @@ ghost use Rattle.fx_pulse_touched.specs.Marks.{told};
 ghost use Rattle.fx_shapes.specs.Rects.{IsNear};
 
 use crate::flags::{disabled_flags, flag_at, shown_flags};
-use crate::paths::{path_at, paths_of};
+use crate::paths::paths_of;
 use fx_base::{List, Rect, Text};
 use fx_kinds::{BoxFacts, is_control};
 use fx_look::Look;
 use fx_picture::{Entry, Picture};
 use fx_shapes::shapes;
 use std::alloc::{AllocError, Global};
+use std::mem::replace;
 
 /// Nodes with the look and the rectangle of each, and whether each is disabled itself.
 #[derive(Clone, Copy)]
@@ -28,10 +29,9 @@ pub(crate) struct Laid<'a> {
     pub disabled: &'a [bool],
 }
 
-/// The path of each node, and whether it is disabled.
+/// Whether each node shows, and whether it is disabled.
 #[derive(Clone, Copy)]
 struct Notes<'a> {
-    paths: &'a [List<u32>],
     shown: &'a [bool],
     disabled: &'a [bool],
 }
@@ -49,30 +49,45 @@ pub(crate) fn picture_of(alloc: Global, laid: Laid<'_>) -> Result<Picture, Alloc
     let shown = shown_flags(alloc, laid)?;
     let disabled = disabled_flags(alloc, laid)?;
     let notes = Notes {
-        paths: paths.as_slice(),
         shown: shown.as_slice(),
         disabled: disabled.as_slice(),
     };
-    let entries = entries_of(alloc, laid, notes)?;
+    let entries = entries_of(alloc, laid, notes, paths)?;
     Ok(Picture {
         entries: List::from_vec(entries),
     })
 }
 
-fn entries_of(alloc: Global, laid: Laid<'_>, notes: Notes<'_>) -> Result<Vec<Entry>, AllocError>
+fn entries_of(
+    alloc: Global,
+    laid: Laid<'_>,
+    notes: Notes<'_>,
+    paths: Vec<List<u32>>,
+) -> Result<Vec<Entry>, AllocError>
     requires looks { length laid.looks.now ≡ length laid.boxes.now }
     requires rects { length laid.rects.now ≡ length laid.boxes.now }
     requires near { (k : ℕ) → IsNear (rect_at laid.rects.now k) }
-    requires paths { notes.paths.now ≡ told (path_of (parents laid.boxes.now)) (length laid.boxes.now) }
+    requires paths { paths.items ≡ told (path_of (parents laid.boxes.now)) (length laid.boxes.now) }
     requires shown { notes.shown.now ≡ told (shows (drawn laid)) (length laid.boxes.now) }
     requires disabled { notes.disabled.now ≡ told (is_disabled (drawn laid)) (length laid.boxes.now) }
     ensures { IfOk result (λ entries. IsPicture (drawn laid.entry) entries.items) }
 {
+    let mut rest = paths;
     let mut entries = Vec::new(alloc);
     for place in 0..laid.boxes.len() {
-        add_shown(alloc, laid, notes, place, &mut entries)?;
+        let path = taken(alloc, &mut rest, place);
+        add_shown(alloc, laid, notes, place, path, &mut entries)?;
     }
     Ok(entries)
+}
+
+/// Takes the path at this place out of the list, which has an empty one there from then on.
+fn taken(alloc: Global, paths: &mut Vec<List<u32>>, place: usize) -> List<u32>
+    requires { place < length paths.old.items }
+    ensures path { result ≡ slice_index_or paths.old.items place [] }
+    ensures rest { paths.new.items ≡ slice_set paths.old.items place [] }
+{
+    replace(&mut paths[place], List::new(alloc))
 }
 
 /// Adds the entry of a node, if it shows.
@@ -81,13 +96,14 @@ fn add_shown(
     laid: Laid<'_>,
     notes: Notes<'_>,
     place: usize,
+    path: List<u32>,
     entries: &mut Vec<Entry>,
 ) -> Result<(), AllocError>
     requires there { place < length laid.boxes.now }
     requires looks { length laid.looks.now ≡ length laid.boxes.now }
     requires rects { length laid.rects.now ≡ length laid.boxes.now }
     requires near { (k : ℕ) → IsNear (rect_at laid.rects.now k) }
-    requires paths { notes.paths.now ≡ told (path_of (parents laid.boxes.now)) (length laid.boxes.now) }
+    requires path { path ≡ path_of (parents laid.boxes.now) place }
     requires shown { notes.shown.now ≡ told (shows (drawn laid)) (length laid.boxes.now) }
     requires disabled { notes.disabled.now ≡ told (is_disabled (drawn laid)) (length laid.boxes.now) }
     requires before { AllZip (IsEntry (drawn laid)) (shown_below (drawn laid) place) entries.old.items }
@@ -97,7 +113,7 @@ fn add_shown(
     if !flag_at(notes.shown, place) {
         return Ok(());
     }
-    let entry = entry_of(alloc, laid, notes, place)?;
+    let entry = entry_of(alloc, laid, notes, place, path)?;
     entries.push(entry)?;
     Ok(())
 }
@@ -108,12 +124,13 @@ fn entry_of(
     laid: Laid<'_>,
     notes: Notes<'_>,
     place: usize,
+    path: List<u32>,
 ) -> Result<Entry, AllocError>
     requires there { place < length laid.boxes.now }
     requires looks { length laid.looks.now ≡ length laid.boxes.now }
     requires rects { length laid.rects.now ≡ length laid.boxes.now }
     requires near { (k : ℕ) → IsNear (rect_at laid.rects.now k) }
-    requires paths { notes.paths.now ≡ told (path_of (parents laid.boxes.now)) (length laid.boxes.now) }
+    requires path { path ≡ path_of (parents laid.boxes.now) place }
     requires disabled { notes.disabled.now ≡ told (is_disabled (drawn laid)) (length laid.boxes.now) }
     ensures { IfOk result (λ entry. IsEntry (drawn laid.entry) place entry) }
 {
@@ -122,7 +139,7 @@ fn entry_of(
     let shapes = shapes(alloc, &laid.looks[place], rect, text_of(node))?;
     Ok(Entry {
         key: node.key,
-        path: copied(alloc, path_at(notes.paths, place))?,
+        path,
         rect,
         shapes: List::from_vec(shapes),
         disabled: flag_at(notes.disabled, place),
@@ -138,10 +155,4 @@ fn text_of(node: &BoxFacts) -> Option<&Text>
         return Some(&node.text);
     }
     None
-}
-
-fn copied(alloc: Global, path: &[u32]) -> Result<List<u32>, AllocError>
-    ensures { IfOk result (λ copy. copy ≡ path.now) }
-{
-    Ok(List::from_vec(Vec::from_slice(alloc, path)?))
 }

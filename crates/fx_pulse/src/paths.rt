@@ -76,7 +76,8 @@ pub(crate) fn path_at(paths: &[List<u32>], place: usize) -> &[u32]
 fn longer(alloc: Global, path: &[u32], child: u32) -> Result<List<u32>, AllocError>
     ensures { IfOk result (λ longer. longer ≡ path.now ++ child ∷ []) }
 {
-    let mut steps = Vec::from_slice(alloc, path)?;
+    let mut steps = Vec::with_capacity(alloc, path.len() + 1)?;
+    steps.extend_from_slice(path)?;
     steps.push(child)?;
     Ok(List::from_vec(steps))
 }

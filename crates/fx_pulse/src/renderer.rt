@@ -1,5 +1,5 @@
 //! Frame by frame.
-ghost use Rattle.std.specs.Prelude.{ℕ, ◌≡◌, ◌≤◌, ◌<◌, ◌+◌, ◌*◌, length, [], None, Some, true, false, IfOk, IfSome, OnErr, OnOk, is_some};
+ghost use Rattle.std.specs.Prelude.{ℕ, ◌≡◌, ◌≤◌, ◌<◌, ◌+◌, ◌*◌, length, [], None, Some, true, false, IfOk, IfSome, IsTrue, OnErr, OnOk, is_some};
 ghost use Rattle.std.specs.List.{list_all, sum_by};
 ghost use Rattle.std.specs.Option.{option_copied};
 ghost use Rattle.fx_canvas.specs.Painting.{most_writes};
@@ -13,7 +13,7 @@ ghost use Rattle.fx_pulse_model.specs.Frames.{IsFrame, frame_damage, has_size};
 ghost use Rattle.fx_pulse_model.specs.Scenes.{IsScene};
 ghost use Rattle.fx_pulse_touched.specs.Sights.{seen};
 ghost use Rattle.fx_pulse_touched.specs.Touched.{IsUntouched};
-ghost use Rattle.fx_pulse.specs.Rendering.{IsShown, last_frame, surface_of};
+ghost use Rattle.fx_pulse.specs.Rendering.{IsDrawn, IsShown, last_frame, surface_of};
 ghost use Rattle.fx_pulse.specs.Showing.{IsShowing};
 ghost use Rattle.fx_row_text.specs.Rows.{row_text};
 
@@ -36,10 +36,12 @@ pub struct Renderer {
     canvas: Option<Canvas>,
     rects: Vec<Rect>,
     kept: KeptScene,
+    /// The window in which the picture was drawn, unless it isn't that of the scene that is kept.
+    drawn: Option<Option<(u32, u32)>>,
 }
 
 impl Model for Renderer {
-    ghost use Rattle.fx_pulse.specs.Rendering.{IsShown, Rendering};
+    ghost use Rattle.fx_pulse.specs.Rendering.{IsCurrent, IsShown, Rendering};
 
     ghost Value = { Rendering };
 
@@ -50,12 +52,12 @@ impl Model for Renderer {
       kept = r.kept;
     } };
 
-    ghost invariant = { λ r. IsShown (record {
+    ghost invariant = { λ r. let shown : Rendering = record {
       canvas = r.canvas;
       picture = r.picture.entries;
       rects = r.rects.items;
       kept = r.kept;
-    }) };
+    } in IsShown shown × IsCurrent r.drawn shown };
 }
 
 /// The size of a frame in pixels, and the rectangles outside which it shows what the last one did.
@@ -79,14 +81,16 @@ impl Renderer {
             canvas: None,
             rects: Vec::new(alloc),
             kept: KeptScene::new(alloc),
+            drawn: None,
         }
     }
 
     /// Makes the frame of a scene and shows it: the frame that the scene has from nothing. `window` is the size of the
     /// window in pixels; without one it is as large as the root, which has its preferred size. Only nodes that were
     /// touched since the last frame are styled anew, with all below them, and measured, with all above them; the
-    /// facts and the sheets are compared with those of the last scene for that. The picture is made whole. After want
-    /// of memory the last picture still shows, and the next frame may be made afresh.
+    /// facts and the sheets are compared with those of the last scene for that. The picture is made whole, unless it
+    /// is that of the last scene in the last window: then all stays as it is. After want of memory the last picture
+    /// still shows, and the next frame may be made afresh.
     pub fn pulse<L: Ledgers>(
         &mut self,
         alloc: Global,
@@ -117,11 +121,43 @@ impl Renderer {
         ensures painted { IfOk result (λ frame. work.new.painted
             ≤ work.old.painted + sum_by (most_writes self.new.picture) frame.damage.items) }
     {
+        if self.is_drawn(scene, window) {
+            return Ok(self.still_frame(alloc));
+        }
+        self.drawn = None;
         let made = made_of(alloc, scene, window, &mut self.kept, work)?;
         if self.has_size(made.width, made.height) {
-            self.show_next(alloc, made, work)
+            self.show_next(alloc, made, window, work)
         } else {
-            self.show_first(alloc, made, work)
+            self.show_first(alloc, made, window, work)
+        }
+    }
+
+    /// Is this the last scene again, in the window in which it was drawn?
+    fn is_drawn(&self, scene: Scene<'_>, window: Option<(u32, u32)>) -> bool
+        ensures last { IsTrue result → self.now.kept.last ≡ Some (seen scene.entry) }
+        ensures drawn { IsTrue result → IsDrawn self.now (seen scene.entry) window }
+    {
+        match self.drawn {
+            None => false,
+            Some(last) => is_same_window(last, window) && self.kept.is_last(scene),
+        }
+    }
+
+    /// The last frame again, in which nothing is damaged.
+    fn still_frame(&self, alloc: Global) -> Frame
+        ensures width { result.width ≡ (surface_of self.now.canvas).width }
+        ensures height { result.height ≡ (surface_of self.now.canvas).height }
+        ensures damage { result.damage.items ≡ [] }
+    {
+        let (width, height) = match &self.canvas {
+            Some(canvas) => (canvas.width(), canvas.height()),
+            None => (0, 0),
+        };
+        Frame {
+            width,
+            height,
+            damage: Vec::new(alloc),
         }
     }
 
@@ -218,11 +254,15 @@ impl Renderer {
         &mut self,
         alloc: Global,
         made: Made,
+        window: Option<(u32, u32)>,
         work: &mut Work<L>,
     ) -> Result<Frame, AllocError>
         requires size { has_size (last_frame self.old) made.width made.height ≡ true }
         requires rises { Rises made.picture.entries }
         requires births { HasDistinctBirths made.picture.entries }
+        requires drawn { IfSome self.old.kept.last (λ scene.
+            IsFrame scene window made.width made.height made.rects.items made.picture.entries) }
+        requires root { root_size self.old.kept.layout ≡ (made.width, made.height) }
         ensures frame { IfOk result (λ frame. IsShowing made self.old self.new frame) }
         ensures err { OnErr result (self.new ≡ self.old) }
         ensures work { OnOk result (work.new ≡ record work.old { painted = work.new.painted }) }
@@ -239,6 +279,7 @@ impl Renderer {
         repaint_in(&mut self.canvas, &made.picture, damage.as_slice(), work);
         self.picture = made.picture;
         self.rects = made.rects;
+        self.drawn = Some(window);
         Ok(Frame {
             width: made.width,
             height: made.height,
@@ -251,12 +292,16 @@ impl Renderer {
         &mut self,
         alloc: Global,
         made: Made,
+        window: Option<(u32, u32)>,
         work: &mut Work<L>,
     ) -> Result<Frame, AllocError>
         requires size { is_size made.width made.height ≡ true }
         requires other { has_size (last_frame self.old) made.width made.height ≡ false }
         requires rises { Rises made.picture.entries }
         requires births { HasDistinctBirths made.picture.entries }
+        requires drawn { IfSome self.old.kept.last (λ scene.
+            IsFrame scene window made.width made.height made.rects.items made.picture.entries) }
+        requires root { root_size self.old.kept.layout ≡ (made.width, made.height) }
         ensures frame { IfOk result (λ frame. IsShowing made self.old self.new frame) }
         ensures err { OnErr result (self.new ≡ self.old) }
         ensures work { OnOk result (work.new ≡ record work.old { painted = work.new.painted }) }
@@ -268,11 +313,23 @@ impl Renderer {
         self.picture = made.picture;
         self.canvas = Some(canvas);
         self.rects = made.rects;
+        self.drawn = Some(window);
         Ok(Frame {
             width: made.width,
             height: made.height,
             damage,
         })
+    }
+}
+
+/// Are both windows of one size, or both as large as their root?
+fn is_same_window(window: Option<(u32, u32)>, other: Option<(u32, u32)>) -> bool
+    ensures { IsTrue result → window ≡ other }
+{
+    match (window, other) {
+        (None, None) => true,
+        (Some(one), Some(two)) => one.0 == two.0 && one.1 == two.1,
+        _ => false,
     }
 }
 

@@ -1,5 +1,5 @@
 //! What is kept of the last scene.
-ghost use Rattle.std.specs.Prelude.{◌≡◌, ◌≤◌, ◌+◌, ◌*◌, [], IfOk, OnErr, OnOk, Option as Maybe, Some, None, length};
+ghost use Rattle.std.specs.Prelude.{◌≡◌, ◌≤◌, ◌+◌, ◌*◌, ◌↔◌, [], IfOk, IsTrue, OnErr, OnOk, Option as Maybe, Some, None, length};
 ghost use Rattle.fx_layout.specs.Layouts.{IsLayout};
 ghost use Rattle.fx_layout.specs.Updates.{root_size};
 ghost use Rattle.fx_layout_sweeps.specs.Nodes.{parents};
@@ -16,7 +16,7 @@ use crate::measuring::measured_marks;
 use fx_base::{Ledgers, Rect, Work};
 use fx_layout::Layouts;
 use fx_look::Look;
-use fx_pulse_touched::{Scene, Touched, marked_below, marked_places, touched_since};
+use fx_pulse_touched::{Scene, Touched, is_same_scene, marked_below, marked_places, touched_since};
 use fx_select::RuleIndex;
 use fx_style::{Scene as Styled, Styles};
 use std::alloc::{AllocError, Global};
@@ -58,6 +58,16 @@ impl KeptScene {
         ensures { Agrees self.now }
     {
         let _styles = &self.styles;
+    }
+
+    /// Is this the last scene again? Compares all that both tell, up to what differs.
+    pub fn is_last(&self, scene: Scene<'_>) -> bool
+        ensures { IsTrue result ↔ (self.now.last ≡ Some (seen scene.entry)) }
+    {
+        match lent(&self.last) {
+            None => false,
+            Some(last) => is_same_scene(last, scene),
+        }
     }
 
     /// The look of each node of the last scene.

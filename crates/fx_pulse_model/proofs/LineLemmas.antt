@@ -101,23 +101,30 @@ any_child ups test k p tree within is =
     ∙ (list_any-append test (line_to ups p) (k ∷ []) ∙ or_end (list_any test (line_to ups p)) (test k))
 
 -- ---- the order of paths
-pub path_less : (ups : Parents) (more k : ℕ) → AreInOrder ups → suc (k + more) < length ups
+path_less : (ups : Parents) (n more k : ℕ)
+    → ((i : ℕ) → suc i < n → slice_cmp nat_cmp (path_of ups i) (path_of ups (suc i)) ≡ Less) → suc (k + more) < n
     → slice_cmp nat_cmp (path_of ups k) (path_of ups (suc (k + more))) ≡ Less
-path_less ups zero k order within =
+path_less ups n zero k order within =
     let here : k + 0 ≡ k = omega arith in
     rw here (order k (omega (arith, within)))
-path_less ups (suc more) k order within =
+path_less ups n (suc more) k order within =
     let next : suc (k + more) + 1 ≡ suc (k + suc more) = omega arith in
     let last : slice_cmp nat_cmp (path_of ups (k + suc more)) (path_of ups (suc (k + suc more))) ≡ Less =
     order (k + suc more) within in
     let move : suc (k + more) ≡ k + suc more = omega arith in
     nat_list_cmp_total.trans (path_of ups k) (path_of ups (k + suc more)) (path_of ups (suc (k + suc more)))
     (subst (λ j. slice_cmp nat_cmp (path_of ups k) (path_of ups j) ≡ Less) move
-    (path_less ups more k order (omega (arith, within)))) last
+    (path_less ups n more k order (omega (arith, within)))) last
+
+-- where the first nodes rise, one after another, each is less than those behind it
+pub path_before_in : (ups : Parents) (n k j : ℕ)
+    → ((i : ℕ) → suc i < n → slice_cmp nat_cmp (path_of ups i) (path_of ups (suc i)) ≡ Less) → k < j → j < n
+    → slice_cmp nat_cmp (path_of ups k) (path_of ups j) ≡ Less
+path_before_in ups n k j order less within =
+    let there : suc (k + (j - suc k)) ≡ j = omega (arith, less) in
+    subst (λ i. slice_cmp nat_cmp (path_of ups k) (path_of ups i) ≡ Less) there
+    (path_less ups n (j - suc k) k order (omega (arith, less, within)))
 
 pub path_before : (ups : Parents) (k j : ℕ) → AreInOrder ups → k < j → j < length ups
     → slice_cmp nat_cmp (path_of ups k) (path_of ups j) ≡ Less
-path_before ups k j order less within =
-    let there : suc (k + (j - suc k)) ≡ j = omega (arith, less) in
-    subst (λ i. slice_cmp nat_cmp (path_of ups k) (path_of ups i) ≡ Less) there
-    (path_less ups (j - suc k) k order (omega (arith, less, within)))
+path_before ups k j order less within = path_before_in ups (length ups) k j order less within

@@ -2,3 +2,4 @@ pub mod ToldLemmas
 pub mod UpLemmas
 pub mod HeadLemmas
 pub mod PlaceLemmas
+mod SameLemmas

@@ -29,7 +29,7 @@ any_here f n k within is =
     (ap f (get_or-range_with_len 0 n k 0 within ∙ zero-add k) ∙ is)
 
 -- ---- lines
-own_line : (ups : Parents) (k : ℕ) → IsTree ups → k < length ups → is_on_line ups k k ≡ true
+pub own_line : (ups : Parents) (k : ℕ) → IsTree ups → k < length ups → is_on_line ups k k ≡ true
 own_line ups k tree within = by (parent_at ups k) refl
   where
     by : (o : Option ℕ) → parent_at ups k ≡ o → is_on_line ups k k ≡ true

@@ -62,6 +62,22 @@ fn touched_by(alloc: Global, last: Scene<'_>, scene: Scene<'_>) -> Result<Touche
     })
 }
 
+/// Does the last scene tell the same as this one? Compares place by place, up to the first that differs.
+pub fn is_same_scene(last: Scene<'_>, scene: Scene<'_>) -> bool
+    ensures { IsTrue result ↔ (seen last.entry ≡ seen scene.entry) }
+{
+    are_same_flags(last.disabled, scene.disabled)
+        && are_same(last.boxes, scene.boxes)
+        && are_same(last.styles, scene.styles)
+        && are_same(last.sheets, scene.sheets)
+}
+
+fn are_same_flags(flags: &[bool], others: &[bool]) -> bool
+    ensures { IsTrue result ↔ (flags.now ≡ others.now) }
+{
+    flags == others
+}
+
 fn have_one_shape(last: Scene<'_>, scene: Scene<'_>) -> bool
     ensures { IsTrue result ↔ HaveOneShape (seen last.entry) (seen scene.entry) }
 {

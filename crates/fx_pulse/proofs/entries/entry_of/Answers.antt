@@ -1,8 +1,6 @@
-use Rattle.std.proofs.Common.{arith, ap, subst, false, ◌∙◌, [], slice_index_or, length}
+use Rattle.std.proofs.Common.{arith, ap, subst, false, ◌∙◌, slice_index_or, length}
 use Rattle.fx_layout.specs.Updates.{rect_at}
-use Rattle.fx_layout_sweeps.specs.Nodes.{parents}
 use Rattle.fx_shapes.specs.Drawings.{IsDrawing}
-use Rattle.fx_pulse_model.specs.Lines.{path_of}
 use Rattle.fx_pulse_model.specs.Pictures.{is_disabled}
 use Rattle.fx_pulse.specs.Drawing.{drawn}
 use Rattle.fx_pulse.proofs.EntryLemmas.{entry_is}
@@ -13,12 +11,9 @@ pub returns : goal.returns
 returns c =
     let d = drawn c.args.laid in
     let k = c.args.place in
-    entry_is d k c.index-laid-place.result c.index-laid-place-2.result c.in_ok-copied.field-0 c.from_vec.result
+    entry_is d k c.index-laid-place.result c.index-laid-place-2.result c.args.path c.from_vec.result
     c.flag_at.result c.requires.there (omega (arith, c.requires.there, c.requires.looks))
-    (c.in_ok-copied.ensures
-    ∙ (c.path_at.ensures
-    ∙ (ap (λ l. slice_index_or l k []) c.requires.paths
-    ∙ told_at (path_of (parents d.boxes)) (length d.boxes) k [] c.requires.there)))
+    c.requires.path
     (rw (c.from_vec.ensures) (subst (λ t. IsDrawing
     (slice_index_or c.args.laid.looks.now k c.index-laid-place-2.result) (rect_at d.rects k) t
     c.in_ok-shapes.shapes.items) c.text_of.ensures

@@ -1,10 +1,12 @@
-use Rattle.std.proofs.Common.{ap, subst, sym, ◌∙◌, ◌≤◌}
+use Rattle.std.proofs.Common.{ap, subst, sym, ◌∙◌, ◌≡◌, ◌≤◌}
 use Rattle.fx_layout.specs.Updates.{root_size}
 use Rattle.fx_pulse_kept.specs.Keeping.{Keeping}
 use Rattle.fx_pulse_touched.specs.Sights.{seen}
 use Rattle.fx_pulse_touched.specs.Touched.{IsUntouched}
-use Rattle.fx_pulse.specs.Rendering.{Rendering}
-use Rattle.fx_pulse.proofs.ShowLemmas.{births_of, both_ok, rises_of}
+use Rattle.fx_pulse_model.specs.Frames.{frame_damage}
+use Rattle.fx_pulse.specs.Rendering.{IsDrawn, Rendering, last_frame, surface_of}
+use Rattle.fx_pulse.proofs.CurrentLemmas.{no_work, undamaged}
+use Rattle.fx_pulse.proofs.ShowLemmas.{births_of, both_ok, rises_of, sized}
 use Rattle.fx_pulse.proofs.renderer.Renderer.pulse.Goals as goal
 
 pub show_next-requires-clause-rises : goal.show_next-requires-clause-rises
@@ -56,3 +58,20 @@ returns-else-has_size-clause-still g c =
       subst (λ n. n ≤ c.args.work.now.laid) (sym (ap (λ w. w.laid) same)) few.1,
     ))
     c.show_first.ensures.frame c.show_first.ensures.work
+
+pub returns-then-is_drawn-clause-damage : goal.returns-then-is_drawn-clause-damage
+returns-then-is_drawn-clause-damage g c =
+    let r = c.args.self.now in
+    let w = (surface_of r.canvas).width in
+    let h = (surface_of r.canvas).height in
+    let drawn : IsDrawn r (seen c.args.scene) c.args.window = c.is_drawn.ensures.drawn c.if-is_drawn.true in
+    let is = sized (seen c.args.scene) c.args.window w h r.rects r.picture drawn.frame c.requires.window in
+    subst (λ n. c.still_frame.result.damage.items
+    ≡ frame_damage (last_frame r) r.picture n c.still_frame.result.height) (sym c.still_frame.ensures.width)
+    (subst (λ n. c.still_frame.result.damage.items ≡ frame_damage (last_frame r) r.picture w n)
+    (sym c.still_frame.ensures.height) (c.still_frame.ensures.damage ∙ undamaged r is))
+
+pub returns-then-is_drawn-clause-few : goal.returns-then-is_drawn-clause-few
+returns-then-is_drawn-clause-few g c =
+    no_work c.args.self.now.kept.last (seen c.args.scene) c.args.self.now.kept.layout c.args.work.now.styled
+    c.args.work.now.laid (c.is_drawn.ensures.last c.if-is_drawn.true)

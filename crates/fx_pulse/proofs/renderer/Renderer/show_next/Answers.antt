@@ -1,6 +1,10 @@
 use Rattle.std.proofs.Common.{refl, sym, ap, subst, ◌∙◌, ◌≡◌, true, Some}
-use Rattle.fx_pulse_model.specs.Frames.{frame_damage, has_size}
+use Rattle.std.specs.Prelude.{IfSome}
+use Rattle.fx_layout.specs.Updates.{root_size}
+use Rattle.fx_pulse_model.specs.Frames.{IsFrame, frame_damage, has_size}
+use Rattle.fx_pulse_model.specs.Scenes.{Scene}
 use Rattle.fx_pulse.specs.Rendering.{Rendering, last_frame, surface_of}
+use Rattle.fx_pulse.proofs.CurrentLemmas.{now_current}
 use Rattle.fx_pulse.proofs.ShowLemmas.{damage_next, high, lies, shown_next, wide}
 use Rattle.fx_pulse.proofs.renderer.Renderer.show_next.Goals as goal
 
@@ -31,15 +35,31 @@ invariant_of-self g c =
     } in
     let size : has_size (last_frame r) made.width made.height ≡ true =
     subst (λ (v : Rendering). has_size (last_frame v) made.width made.height ≡ true) (sym c.self.view_is)
-    c.requires.size in
-    record {
-      shows = shown_next r made.picture.entries c.as_slice.result.now made.width made.height
-          (surface_of c.repaint_in.new.canvas) c.self.invariant c.requires.rises c.requires.births
-          (wide r made.width made.height size) (high r made.width made.height size)
-          (c.as_slice.ensures.value ∙ c.in_ok-damage.ensures) c.repaint_in.ensures.repainted;
-      rises = c.requires.rises;
-      births = c.requires.births;
-    }
+    c.requires.size in (
+      record {
+        shows = shown_next r made.picture.entries c.as_slice.result.now made.width made.height
+            (surface_of c.repaint_in.new.canvas) c.self.invariant.0 c.requires.rises c.requires.births
+            (wide r made.width made.height size) (high r made.width made.height size)
+            (c.as_slice.ensures.value ∙ c.in_ok-damage.ensures) c.repaint_in.ensures.repainted;
+        rises = c.requires.rises;
+        births = c.requires.births;
+      },
+      now_current
+          (record {
+            canvas = c.repaint_in.new.canvas;
+            picture = made.picture.entries;
+            rects = made.rects.items;
+            kept = c.self.inside.kept;
+          })
+          c.args.window made.width made.height
+          (c.repaint_in.ensures.repainted.width ∙ wide r made.width made.height size)
+          (c.repaint_in.ensures.repainted.height ∙ high r made.width made.height size)
+          (subst (λ (v : Rendering). IfSome v.kept.last (λ (scene : Scene).
+          IsFrame scene c.args.window made.width made.height made.rects.items made.picture.entries))
+          (sym c.self.view_is) c.requires.drawn)
+          (subst (λ (v : Rendering). root_size v.kept.layout ≡ (made.width, made.height)) (sym c.self.view_is)
+          c.requires.root),
+    )
 
 pub returns-clause-frame : goal.returns-clause-frame
 returns-clause-frame g c =
@@ -62,7 +82,7 @@ returns-clause-frame g c =
       columns = c.repaint_in.ensures.repainted.width ∙ wide r made.width made.height size;
       rows = c.repaint_in.ensures.repainted.height ∙ high r made.width made.height size;
       shows = shown_next r made.picture.entries c.as_slice.result.now made.width made.height
-          (surface_of c.repaint_in.new.canvas) c.self.invariant c.requires.rises c.requires.births
+          (surface_of c.repaint_in.new.canvas) c.self.invariant.0 c.requires.rises c.requires.births
           (wide r made.width made.height size) (high r made.width made.height size)
           (c.as_slice.ensures.value ∙ c.in_ok-damage.ensures) c.repaint_in.ensures.repainted;
       damage = subst (λ (v : Rendering). c.in_ok-damage.damage.items

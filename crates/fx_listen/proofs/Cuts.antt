@@ -1,6 +1,6 @@
 -- Filters one after another, and lists that a test cuts in two.
-use Rattle.std.proofs.Common.{◌≡◌, ℕ, ◌+◌, zero, suc, ◌<◌, ◌≤◌, Bool, true, false, not, ◌&&◌, ◌||◌, cond, ltb, List, [], ◌∷◌, ◌++◌, length, get_or, take, drop, filter, All, AllPairs, Contains, position, Some, None, refl, sym, ◌∙◌, ap, inl, inr, arith}
-use Rattle.std.specs.List.{list_any, position_or_len}
+use Rattle.std.proofs.Common.{◌≡◌, ℕ, ◌+◌, zero, suc, ◌<◌, ◌≤◌, Bool, true, false, not, ◌&&◌, ◌||◌, cond, ltb, List, [], ◌∷◌, ◌++◌, length, get_or, take, drop, filter, All, AllPairs, Contains, position, Option, Some, None, refl, sym, ◌∙◌, ap, inl, inr, arith}
+use Rattle.std.specs.List.{find, list_any, position_or_len}
 use Rattle.std.specs.List.Sorted.{IsPartitionPoint}
 use Rattle.std.proofs.lemmas.Bool.{cases_Bool, cases_lt, lt-ltb, le-ltb}
 use Rattle.std.proofs.lemmas.List.Elements.{All-append, All-head, All-tail, filter_agree}
@@ -69,6 +69,20 @@ module _ {X : Type 0} where
           → list_any p (cond b (x ∷ filter q xs) (filter q xs)) ≡ ((b && p x) || list_any (λ y. q y && p y) xs)
       by_test true rest = ap (λ (b : Bool). p x || b) rest
       by_test false rest = rest
+
+  -- the first that passes of a filtered list
+  pub find-filter : (p q : X → Bool) (xs : List X) → find p (filter q xs) ≡ find (λ x. q x && p x) xs
+  find-filter p q [] = refl
+  find-filter p q (x ∷ xs) = by_test (q x) (find-filter p q xs)
+    where
+      by_test : (b : Bool) → find p (filter q xs) ≡ find (λ y. q y && p y) xs
+          → find p (cond b (x ∷ filter q xs) (filter q xs)) ≡ cond (b && p x) (Some x) (find (λ y. q y && p y) xs)
+      by_test true rest = ap (λ (o : Option X). cond (p x) (Some x) o) rest
+      by_test false rest = rest
+
+  pub find-same : (p q : X → Bool) → ((x : X) → p x ≡ q x) → (xs : List X) → find p xs ≡ find q xs
+  find-same p q same [] = refl
+  find-same p q same (x ∷ xs) = rw (same x, find-same p q same xs) refl
 
   pub list_any-same : (p q : X → Bool) → ((x : X) → p x ≡ q x) → (xs : List X) → list_any p xs ≡ list_any q xs
   list_any-same p q same [] = refl

@@ -1,6 +1,6 @@
 -- How the listeners of a property are found, and who is alive.
 use Rattle.std.proofs.Common.{◌≡◌, ◌==◌, ℕ, ◌+◌, ◌-◌, ◌≤◌, Bool, true, false, not, ◌&&◌, ltb, leb, eqb, List, ◌++◌, length, get_or, take, drop, filter, slice_range, Contains, IsTrue, ◌↔◌, refl, sym, ◌∙◌, ap, subst, inl, inr, arith, length-append}
-use Rattle.std.specs.List.{list_any}
+use Rattle.std.specs.List.{find, list_any}
 use Rattle.std.specs.List.Sorted.{IsNonDecreasingBy}
 use Rattle.std.proofs.lemmas.Bool.{cases_eq, cases_lt, cases_order, lt-ltb, le-ltb, le-leb, lt-leb, eq-eqb, ne_eqb, eqb-true, and_from, and_left, and_right, and_parts, both_ways, false_from_ne_true}
 use Rattle.std.proofs.lemmas.List.{take-append-drop, length-take-le, drop-take, drop_at}
@@ -11,9 +11,9 @@ use Rattle.fx_handles.specs.declared.Owner.{Owner}
 use Rattle.fx_handles.specs.Living.{is_same}
 use Rattle.fx_listen.specs.declared.entries.ListenKind.{ListenKind}
 use Rattle.fx_listen.specs.declared.entries.Listener.{Listener}
-use Rattle.fx_listen.specs.Listening.{is_elsewhere, is_live, same_kind, tells}
+use Rattle.fx_listen.specs.Listening.{is_elsewhere, is_live, is_numbered, living_in, same_kind, tells}
 use Rattle.fx_listen.specs.Sorting.{IsByName, is_above, is_below, is_from, is_heard, is_on, is_upto}
-use Rattle.fx_listen.proofs.Cuts.{filter-filter, list_any-filter, list_any-same}
+use Rattle.fx_listen.proofs.Cuts.{filter-filter, find-filter, find-same, list_any-filter, list_any-same}
 
 pub names_rise : (listeners : List Listener) → IsByName listeners → IsNonDecreasingBy (λ (l : Listener). l.name.0) listeners
 names_rise listeners sorted i j d order within =
@@ -167,3 +167,21 @@ list_any-heard-on living name kind all =
     list_any-filter (is_heard living kind) (is_on name) all
     ∙ list_any-same (λ (l : Listener). is_on name l && is_heard living kind l) (λ (l : Listener). tells name kind l && is_live living l)
     (λ l. and-assoc (l.name.0 == name) (same_kind l.kind kind) (is_live living l)) all
+
+last_first : (a b c : Bool) → (a && (b && c)) ≡ (c && (a && b))
+last_first true true true = refl
+last_first true true false = refl
+last_first true false true = refl
+last_first true false false = refl
+last_first false b true = refl
+last_first false b false = refl
+
+pub find-numbered-on : (living : List Owner) (name number : ℕ) (all : List Listener)
+    → find (λ (l : Listener). (l.number == number) && is_live living l) (filter (is_on name) all)
+    ≡ find (is_numbered name number) (living_in living all)
+find-numbered-on living name number all =
+    find-filter (λ (l : Listener). (l.number == number) && is_live living l) (is_on name) all
+    ∙ find-same (λ (l : Listener). is_on name l && ((l.number == number) && is_live living l))
+    (λ (l : Listener). is_live living l && is_numbered name number l)
+    (λ l. last_first (l.name.0 == name) (l.number == number) (is_live living l)) all
+    ∙ sym (find-filter (is_numbered name number) (is_live living) all)

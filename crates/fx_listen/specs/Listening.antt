@@ -47,6 +47,10 @@ same_owner (Some one) (Some other) = is_same one other
 abbrev pub tells : ℕ → ListenKind → Listener → Bool
 tells name kind listener = (listener.name.0 == name) && same_kind listener.kind kind
 
+-- it is the one of this number on this property
+abbrev pub is_numbered : ℕ → ℕ → Listener → Bool
+is_numbered name number listener = (listener.name.0 == name) && (listener.number == number)
+
 -- it was added by equal words
 abbrev pub is_equal : ℕ → ListenKind → Option Owner → ℕ → Listener → Bool
 is_equal name kind owner tag listener =

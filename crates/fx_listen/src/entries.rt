@@ -1,6 +1,7 @@
 //! One listener, and what is found among listeners that are sorted by property. `Listeners` keeps one such list.
 ghost use Rattle.std.specs.Prelude.{◌≡◌, ◌==◌, false, ◌&&◌, ◌++◌, ◌<◌, ◌≤◌, drop, filter, length, map, position, slice_range, take, vec_capacity, vec_len, IfNone, IfOk, IfSome, OnErr, OnOk};
-ghost use Rattle.std.specs.List.{list_any};
+ghost use Rattle.std.specs.List.{find, list_any};
+ghost use Rattle.std.specs.Option.{option_map};
 ghost use Rattle.fx_listen.specs.Listening as spec;
 ghost use Rattle.fx_listen.specs.Sorting.{IsByName, IsFirst, is_above, is_below, is_from, is_heard, is_on, is_upto};
 
@@ -157,6 +158,26 @@ pub fn is_listening(owners: &Owners, listeners: &[Listener], number: u32) -> boo
         listeners.now }
 {
     listeners.iter().any(|listener| listener.number == number && listener.is_live(owners))
+}
+
+/// What the living listener of this number on the property was added with.
+pub fn tag_of(owners: &Owners, listeners: &[Listener], name: Name, number: u32) -> Option<u32>
+    requires { IsByName listeners.now }
+    ensures { result ≡ option_map (λ listener. listener.tag)
+        (find (spec.is_numbered name.0 number) (spec.living_in owners.now.living listeners.now)) }
+{
+    tag_among(owners, listeners_on(listeners, name), number)
+}
+
+/// What the living listener of this number among them was added with.
+fn tag_among(owners: &Owners, listeners: &[Listener], number: u32) -> Option<u32>
+    ensures { result ≡ option_map (λ listener. listener.tag)
+        (find (λ listener. (listener.number == number) && spec.is_live owners.now.living listener) listeners.now) }
+{
+    match listeners.iter().find(|listener| listener.number == number && listener.is_live(owners)) {
+        Some(listener) => Some(listener.tag),
+        None => None,
+    }
 }
 
 /// How many of them live.

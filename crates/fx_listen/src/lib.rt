@@ -8,7 +8,8 @@ mod laws;
 ghost use Rattle.fx_listen.specs.declared.ListenError.TheVariants.{Memory};
 ghost use Rattle.fx_base.specs.Answers.{IsAnswer};
 ghost use Rattle.fx_listen.specs.Listening as spec;
-ghost use Rattle.std.specs.List.{list_any};
+ghost use Rattle.std.specs.List.{find, list_any};
+ghost use Rattle.std.specs.Option.{option_map};
 ghost use Rattle.std.specs.Prelude.{◌≡◌, ◌==◌, ◌&&◌, ◌+◌, filter, IfOk, OnErr, OnOk};
 
 use entries::{count_live, heard, is_any_heard, listeners_on, numbers_heard};
@@ -201,6 +202,14 @@ impl Listeners {
             self.now.entries }
     {
         entries::is_listening(owners, self.entries.as_slice(), number)
+    }
+
+    /// What the living listener of this number on the property was added with. Takes no memory.
+    pub fn tag_of(&self, owners: &Owners, name: Name, number: u32) -> Option<u32>
+        ensures { result ≡ option_map (λ listener. listener.tag)
+            (find (spec.is_numbered name.0 number) (spec.living_in owners.now.living self.now.entries)) }
+    {
+        entries::tag_of(owners, self.entries.as_slice(), name, number)
     }
 
     /// The greatest number that a listener was ever given, 0 before the first.

@@ -1,5 +1,6 @@
 -- The world between two script lines, and the frame that was written last.
-use Rattle.std.specs.Prelude.{ℕ, Option, None}
+use Rattle.std.specs.Prelude.{ℕ, List, [], Option, None, Some}
+use Rattle.fx_picture.specs.declared.entries.Entry.{Entry}
 use Rattle.fx_pulse_model.specs.Frames.{Framed}
 use Rattle.fx_stage_model.specs.World.{World}
 
@@ -15,3 +16,8 @@ begun world = record { world = world; frames = 0; last = None }
 
 abbrev pub with_world : World → Game → Game
 with_world world game = record game { world = world }
+
+-- the entries of the last picture, none before the first frame
+abbrev pub entries_in : Option Framed → List Entry
+entries_in None = []
+entries_in (Some frame) = frame.picture

@@ -1,13 +1,15 @@
 -- What the lines of a script tell, one after another.
-use Rattle.std.specs.Prelude.{◌≡◌, ℕ, Bool, true, false, List, [], ◌∷◌}
+use Rattle.std.specs.Prelude.{◌≡◌, ℕ, Bool, true, false, List, [], ◌∷◌, length}
 use Rattle.fx_frame_text.specs.declared.forms.Form.{Form}
-use Rattle.fx_plain_steps.specs.Lines.{line_step}
-use Rattle.fx_plain_steps.specs.Told.{Told}
+use Rattle.fx_plain_dispatch.specs.Settling.{IsSettledWhole}
+use Rattle.fx_plain_dispatch.specs.Taking.{IsLine}
+use Rattle.fx_plain_steps.specs.Courses.{Course}
+use Rattle.fx_plain_steps.specs.Told.{Told, lines_told}
 use Rattle.fx_script_commands.specs.Requests.{Numbered, Request, asks}
 use Rattle.fx_script_lines.specs.declared.instructions.Instruction.{Instruction}
 use Rattle.fx_script_lines.specs.declared.instructions.Instruction.TheVariants.{Pulse}
-use Rattle.fx_plain_frames.specs.Games.{Game, with_world}
-use Rattle.fx_plain_frames.specs.Pulses.{IsPulsed, Pulsed, told_of}
+use Rattle.fx_plain_frames.specs.Games.{Game, entries_in, with_world}
+use Rattle.fx_plain_frames.specs.Pulses.{IsPulsed, Pulsed, course_behind, told_of}
 
 abbrev pub is_pulse_line : Instruction → Bool
 is_pulse_line Pulse = true
@@ -17,20 +19,25 @@ unfoldable pub is_pulse : Request → Bool
 is_pulse (asks instruction) = is_pulse_line instruction
 is_pulse other = false
 
--- a frame is told
-pub record IsShown (form : Form) (before now : Game) (told : Told) : Type 0 where
+-- a frame is told, and then the actions run of the listeners that were told of the sizes
+pub record IsShown (form : Form) (number : ℕ) (before now : Game) (told : Told) : Type 0 where
   pub pulsed : Pulsed
-  pub made : IsPulsed before now pulsed
-  pub told_so : told ≡ told_of form now pulsed
+  pub drawn : Game
+  pub made : IsPulsed before drawn pulsed
+  pub course : Course
+  pub settled : IsSettledWhole number (course_behind drawn.world pulsed.notices) course
+  pub after : now ≡ with_world course.world drawn
+  pub told_so : told ≡ told_of form drawn pulsed course
 
--- a line that is the world's own
+-- any other line, which meets the last picture
 pub record IsStep (line : Numbered) (before now : Game) (told : Told) : Type 0 where
-  pub slot : ℕ
-  pub after : now ≡ with_world (line_step slot line.number line.request before.world).world before
-  pub told_so : told ≡ (line_step slot line.number line.request before.world).told
+  pub course : Course
+  pub taken : IsLine (entries_in before.last) line before.world course
+  pub after : now ≡ with_world course.world before
+  pub told_so : told ≡ lines_told course.text (length course.heard)
 
 abbrev pub IsToldBy : Bool → Form → Numbered → Game → Game → Told → Type 0
-IsToldBy true form line before now told = IsShown form before now told
+IsToldBy true form line before now told = IsShown form line.number before now told
 IsToldBy false form line before now told = IsStep line before now told
 
 -- what is told of a line, and the game behind it

@@ -1,12 +1,14 @@
 -- What a `pulse` makes and tells.
-use Rattle.std.specs.Prelude.{◌≡◌, ℕ, ◌+◌, ◌*◌, List, [], ◌∷◌, ◌++◌, Option, Some}
+use Rattle.std.specs.Prelude.{◌≡◌, ℕ, ◌+◌, ◌*◌, false, List, [], ◌∷◌, ◌++◌, length, Option, Some}
 use Rattle.std.specs.List.{sum_by}
 use Rattle.fx_base.specs.declared.geometry.Rect.{Rect}
 use Rattle.fx_frame_text.specs.Frames.{Image, frame_text, image_of, pixel_sum}
 use Rattle.fx_frame_text.specs.declared.forms.Form.{Form}
 use Rattle.fx_picture.specs.Pixels.{pixel}
 use Rattle.fx_picture.specs.Shapes.{whole}
-use Rattle.fx_plain_steps.specs.Told.{Told, notices_in}
+use Rattle.fx_plain_steps.specs.Courses.{Course}
+use Rattle.fx_plain_steps.specs.Lines.{heard_in}
+use Rattle.fx_plain_steps.specs.Told.{Told}
 use Rattle.fx_pulse_model.specs.Frames.{Framed, IsFrame, frame_damage}
 use Rattle.fx_pulse_model.specs.Scenes.{Scene}
 use Rattle.fx_stage_facts.specs.Attached.{looked}
@@ -66,16 +68,25 @@ pub record IsPulsed (before now : Game) (pulsed : Pulsed) : Type 0 where
 abbrev pub area_of : Rect → ℕ
 area_of rect = whole rect.w * whole rect.h
 
--- what is told of it: the frame, and the notices
-abbrev pub told_of : Form → Game → Pulsed → Told
-told_of form now pulsed =
+-- behind the frame, those who were told of the sizes are told of, and none of their actions ran yet
+abbrev pub course_behind : World → Notices → Course
+course_behind world notices =
     record {
-      text = frame_text form now.frames pulsed.damage (image_in pulsed.frame)
-          ++ notice_lines now.world.names.written pulsed.notices;
+      world = world;
+      text = notice_lines world.names.written notices;
+      heard = heard_in notices;
+      consumed = false;
+    }
+
+-- what is told of it: the frame, and then what the course behind it printed
+abbrev pub told_of : Form → Game → Pulsed → Course → Told
+told_of form now pulsed course =
+    record {
+      text = frame_text form now.frames pulsed.damage (image_in pulsed.frame) ++ course.text;
       totals = record {
         frames = 1;
         area = sum_by area_of pulsed.damage;
-        notices = notices_in pulsed.notices;
+        notices = length course.heard;
         pixels = pixel_sum (image_in pulsed.frame);
       };
     }

@@ -1,6 +1,8 @@
--- What a line of a script tells and makes of the world, frames aside.
-use Rattle.std.specs.Prelude.{ℕ, Bool, true, false, List, [], codes, Option, Some, None, Result, Ok, Err, if◌then◌else◌}
-use Rattle.fx_script_commands.specs.Requests.{Request, asks}
+-- What a line of a script prints, whom it tells and what it makes of the world, frames and events aside.
+use Rattle.std.specs.Prelude.{ℕ, Bool, true, false, List, [], ◌++◌, codes, map, Option, Some, None, Result, Ok, Err, if◌then◌else◌}
+use Rattle.fx_base.specs.declared.keys.Name.{Name}
+use Rattle.fx_base.specs.declared.values.Value.{Value}
+use Rattle.fx_script_commands.specs.Requests.{Request, asks, defines}
 use Rattle.fx_script_lines.specs.declared.instructions.Instruction.{Instruction}
 use Rattle.fx_script_lines.specs.declared.instructions.Instruction.TheVariants as line
 use Rattle.fx_stage_model.specs.Answers.{Taken}
@@ -10,16 +12,23 @@ use Rattle.fx_stage_model.specs.World.{World}
 use Rattle.fx_stage_text.specs.Printing.{outcome_lines, refused_line, said_line}
 use Rattle.fx_stage_types.specs.Words.{word_of}
 use Rattle.fx_stage_types.specs.declared.refusals.Refusal.{Refusal}
-use Rattle.fx_plain_steps.specs.Told.{Told, lines_told, notices_in}
+use Rattle.fx_stage_types.specs.declared.refusals.Refusal.TheVariants as word
+use Rattle.fx_store_model.specs.declared.changes.Notices.{Notices}
 
--- what is told of a line, and the world behind it
+-- what a line prints, the listeners that it tells, each by its property and number, and the world behind it
 pub record Step : Type 0 where
-  pub told : Told
+  pub text : List ℕ
+  pub heard : List (Name × ℕ)
   pub world : World
+
+-- first who is told that a value is unread, then who is told of another value
+abbrev pub heard_in : Notices → List (Name × ℕ)
+heard_in notices =
+    notices.invalid ++ map (λ (notice : Name × ℕ × Value × Value). (notice.0, notice.1)) notices.changed
 
 -- a line that prints this and changes nothing
 abbrev pub printing : List ℕ → World → Step
-printing text world = record { told = lines_told text 0; world = world }
+printing text world = record { text = text; heard = []; world = world }
 
 -- a line that isn't carried out yet
 unfoldable pub not_built : ℕ → World → Step
@@ -29,8 +38,8 @@ not_built number world = printing (refused_line number (codes "notbuilt")) world
 abbrev pub answered : ℕ → List (List ℕ) → Result Taken Refusal → World → Step
 answered number path (Ok taken) world =
     record {
-      told = lines_told (outcome_lines taken.world.names.written number path (outcome_of taken))
-          (notices_in taken.notices);
+      text = outcome_lines taken.world.names.written number path (outcome_of taken);
+      heard = heard_in taken.notices;
       world = taken.world;
     }
 answered number path (Err word) world = printing (refused_line number (word_of word)) world
@@ -40,13 +49,10 @@ unfoldable pub asked_by : Instruction → List (List ℕ)
 asked_by (line.Get path) = path
 asked_by other = []
 
--- The stage takes the line. Listeners that run actions, explanations, event lines and timelines aren't built yet.
+-- The stage takes the line. Explanations and timelines aren't built yet.
 unfoldable pub is_carried : Instruction → Bool
-is_carried (line.Watch kind path action label) = false
-is_carried (line.Unwatch kind path action label) = false
 is_carried (line.Explain path name) = false
 is_carried (line.Say text) = false
-is_carried line.Consume = false
 is_carried (line.Move x y) = false
 is_carried line.Press = false
 is_carried line.ReleaseButton = false
@@ -82,3 +88,41 @@ instruction_step slot number instruction world =
 unfoldable pub line_step : ℕ → ℕ → Request → World → Step
 line_step slot number (asks instruction) world = instruction_step slot number instruction world
 line_step slot number other world = answered number [] (taken slot other world) world
+
+-- lines that may stand in no action
+unfoldable pub is_of_script : Instruction → Bool
+is_of_script (line.Resize width height) = true
+is_of_script (line.Move x y) = true
+is_of_script line.Press = true
+is_of_script line.ReleaseButton = true
+is_of_script (line.Key name) = true
+is_of_script (line.Focus path) = true
+is_of_script line.Tab = true
+is_of_script line.Backtab = true
+is_of_script line.Pulse = true
+is_of_script (line.Explain path name) = true
+is_of_script (line.Timeline label count back) = true
+is_of_script (line.Keyframe label time path text) = true
+is_of_script (line.Play label) = true
+is_of_script (line.Stop label) = true
+is_of_script (line.Tick time) = true
+is_of_script other = false
+
+unfoldable pub is_barred : Request → Bool
+is_barred (asks instruction) = is_of_script instruction
+is_barred (defines name lines) = true
+is_barred other = false
+
+-- the same line in an action
+unfoldable pub inner_step : ℕ → ℕ → Request → World → Step
+inner_step slot number request world =
+    if is_barred request then answered number [] (Err word.Syntax) world else line_step slot number request world
+
+-- the line consumes the event for which its action runs
+abbrev pub is_consume_line : Instruction → Bool
+is_consume_line line.Consume = true
+is_consume_line other = false
+
+unfoldable pub is_consume : Request → Bool
+is_consume (asks instruction) = is_consume_line instruction
+is_consume other = false

@@ -1,8 +1,7 @@
 -- What is told of a run: its lines of output, or one line of totals in their place.
-use Rattle.std.specs.Prelude.{ℕ, ◌≤◌, ◌+◌, ◌^◌, List, [], ◌∷◌, ◌++◌, codes, length}
+use Rattle.std.specs.Prelude.{ℕ, ◌≤◌, ◌+◌, ◌^◌, List, [], ◌∷◌, ◌++◌, codes}
 use Rattle.std.specs.Fmt.{decimal}
 use Rattle.fx_text.specs.Characters.{line_feed, space}
-use Rattle.fx_store_model.specs.declared.changes.Notices.{Notices}
 
 -- how many frames there were, the area of all damage in pixels, how many listeners were told, and all pixels added up
 pub record Totals : Type 0 where
@@ -44,10 +43,6 @@ totals_of (one ∷ others) = added one.totals (totals_of others)
 unfoldable pub texts_of : List Told → List ℕ
 texts_of [] = []
 texts_of (one ∷ others) = one.text ++ texts_of others
-
--- how many listeners were told
-abbrev pub notices_in : Notices → ℕ
-notices_in notices = length notices.invalid + length notices.changed
 
 -- of a line without a frame
 abbrev pub lines_told : List ℕ → ℕ → Told

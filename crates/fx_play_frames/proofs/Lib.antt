@@ -1,3 +1,4 @@
 pub mod DrawnLemmas
 pub mod ShownLemmas
 pub mod SizeLemmas
+pub mod LineLemmas

@@ -1,11 +1,13 @@
 //! What a `pulse` does: the next frame, and the sizes that are published behind it.
-ghost use Rattle.std.specs.Prelude.{◌≡◌, ◌<◌, ◌+◌, ◌-◌, ◌^◌, [], All, IfOk, IsSome, IsTrue, OnOk};
+ghost use Rattle.std.specs.Prelude.{◌≡◌, ◌<◌, ◌+◌, ◌-◌, ◌^◌, All, IfOk, IsSome, IsTrue, OnOk};
 ghost use Rattle.fx_frame_text.specs.declared.forms.Form.{Form as Image};
 ghost use Rattle.fx_plain_frames.specs.Playing.{IsShown};
-ghost use Rattle.fx_plain_frames.specs.Pulses.{IsDrawn, sizes_of as sizes};
+ghost use Rattle.fx_plain_dispatch.specs.Settling.{IsSettledWhole};
+ghost use Rattle.fx_plain_frames.specs.Pulses.{IsDrawn, course_behind, sizes_of as sizes};
 ghost use Rattle.fx_play_frames.specs.Drawn.{IsDrawnAs, pulsed_as};
 ghost use Rattle.fx_play_frames.specs.Games.{game_of};
 ghost use Rattle.fx_play_frames.specs.Takings.{HasFrame, IsSmallRect, IsSmallTaken, told_as};
+ghost use Rattle.fx_play_steps.specs.Traces.{course_of};
 ghost use Rattle.fx_pulse.specs.Rendering.{last_frame};
 ghost use Rattle.fx_stage_facts.specs.Publishing.{AreOnce, IsPublished};
 ghost use Rattle.fx_stage_facts.specs.Scenes.{facts_of};
@@ -14,14 +16,14 @@ ghost use Rattle.fx_stage_model.specs.World.{World};
 use crate::game::Game;
 use crate::scenes::{is_fit, scene_in, sizes_of};
 use crate::taking::{Shown, Taken};
+use fx_act::settle;
 use fx_base::{Ledgers, Rect, Work};
 use fx_canvas::Canvas;
 use fx_kinds::BoxFacts;
-use fx_play_steps::told_by;
+use fx_play_steps::{Trace, print_told};
 use fx_pulse::{Frame, Renderer};
 use fx_stage::Stage;
 use fx_stage_facts::{Facts, publish, read_facts};
-use fx_stage_text::print_notices;
 use fx_store_model::Notices;
 use std::alloc::{AllocError, Global};
 
@@ -33,29 +35,48 @@ struct Pulsed {
 }
 
 impl Game {
-    /// Makes the next frame, and appends the notices of the sizes that it published.
+    /// Makes the next frame, tells of the sizes that it published, and has the listeners that were told run their
+    /// actions.
     pub(crate) fn pulse<L: Ledgers>(
         &mut self,
         alloc: Global,
-        text: &mut Vec<u8>,
+        number: u32,
+        trace: &mut Trace,
         work: &mut Work<L>,
     ) -> Result<Taken, AllocError>
         requires few { self.old.frames < 2 ^ 64 - 1 }
-        requires empty { text.old.items ≡ [] }
-        ensures shown { IfOk result (λ taken. (form : Image) → IsShown form (game_of self.old) (game_of self.new)
-            (told_as form (game_of self.new) taken text.new.items)) }
+        ensures shown { IfOk result (λ taken. (form : Image) →
+            IsShown form number (game_of self.old) (game_of self.new)
+            (told_as form (game_of self.new) taken trace.new.text.items)) }
         ensures frame { IfOk result (HasFrame (game_of self.new)) }
         ensures small { IfOk result IsSmallTaken }
         ensures count { OnOk result (self.new.frames ≡ self.old.frames + 1) }
     {
         let pulsed = drawn(alloc, &mut self.stage, &mut self.renderer, work)?;
         self.frames += 1;
-        print_notices(alloc, text, &self.stage, &pulsed.notices)?;
+        tell(alloc, &mut self.stage, number, &pulsed.notices, trace, work)?;
         Ok(Taken::Frame(Shown {
-            notices: told_by(&pulsed.notices),
+            notices: trace.heard.len() as u64,
             damage: pulsed.frame.damage,
         }))
     }
+}
+
+/// Tells of the sizes that were published, and has the listeners that were told run their actions.
+fn tell<L: Ledgers>(
+    alloc: Global,
+    stage: &mut Stage,
+    number: u32,
+    notices: &Notices,
+    trace: &mut Trace,
+    work: &mut Work<L>,
+) -> Result<(), AllocError>
+    ensures { OnOk result (IsSettledWhole number (course_behind stage.old notices.now)
+        (course_of stage.new trace.new)) }
+{
+    trace.clear();
+    print_told(alloc, stage, notices, trace)?;
+    settle(alloc, stage, number, trace, work)
 }
 
 /// Draws the present scene, and publishes the sizes of its nodes.

@@ -1,7 +1,7 @@
 -- What a refusal tells of a line, and which step a line is.
 use Rattle.std.proofs.Common.{◌≡◌, inl, inr, ℕ, true, false, List, [], Result, Ok, Err, ap, sym, subst, refl}
 use Rattle.std.specs.declared.alloc.AllocError.{AllocError}
-use Rattle.fx_script_commands.specs.Requests.{bad}
+use Rattle.fx_script_commands.specs.Requests.{Request, bad}
 use Rattle.fx_script_lines.specs.declared.instructions.Instruction.{Instruction}
 use Rattle.fx_stage_model.specs.Answers.{Taken}
 use Rattle.fx_stage_model.specs.Lines.{instructed, taken}
@@ -12,8 +12,10 @@ use Rattle.fx_stage_types.specs.declared.answers.StageError.{StageError}
 use Rattle.fx_stage_types.specs.declared.answers.StageError.TheVariants.{Refused, Memory}
 use Rattle.fx_stage_types.specs.declared.refusals.Refusal.{Refusal}
 use Rattle.fx_stage_types.specs.declared.refusals.Refusal.TheVariants as word
-use Rattle.fx_plain_steps.specs.Lines.{answered, asked_by, instruction_step, is_carried, line_step, said_by, saying}
+use Rattle.fx_plain_steps.specs.Lines.{answered, asked_by, inner_step, instruction_step, is_barred, is_carried, line_step, said_by, saying}
 use Rattle.fx_play_steps.specs.Taken.{IsMade}
+use Rattle.fx_play_steps.specs.Traces.{course_of}
+use Rattle.fx_play_steps.specs.declared.traces.Trace.{Trace}
 
 -- a refusal isn't want of memory
 abbrev IsWord : StageError → Type 0
@@ -21,19 +23,23 @@ IsWord (Refused word) = Unit {0}
 IsWord Memory = ⊥
 
 -- what is said of the word that refuses a line, whatever the path
-abbrev pub IsRefusal : ℕ → Refusal → List ℕ → List ℕ → Result ℕ AllocError → Type 0
+abbrev pub IsRefusal : ℕ → Refusal → Trace → Trace → Result (Unit {0}) AllocError → Type 0
 IsRefusal number word before after result =
-    (path : List (List ℕ)) (world : World) → IsMade (answered number path (Err word) world) world before after result
+    (path : List (List ℕ)) (world : World)
+    → IsMade (answered number path (Err word) world) (course_of world before) (course_of world after) result
 
 pub refused_so : (number : ℕ) (path : List (List ℕ)) (word : Refusal) (answer : Result Taken Refusal) (world now : World)
-    (before after : List ℕ) (result : Result ℕ AllocError) → IsTaken answer world now (Err (Refused word))
-    → IsRefusal number word before after result → IsMade (answered number path answer world) now before after result
+    (before after : Trace) (result : Result (Unit {0}) AllocError) → IsTaken answer world now (Err (Refused word))
+    → IsRefusal number word before after result
+    → IsMade (answered number path answer world) (course_of world before) (course_of now after) result
 refused_so number path word (Ok made_so) world now before after result is made = absurd (subst IsWord is.0 tt)
 refused_so number path word (Err other) world now before after result (same, inr other_is) made = absurd (subst IsWord other_is tt)
 refused_so number path word (Err other) world now before after result (same, inl is) made =
     let word_is : word ≡ other = ap word_in is in
-    subst (λ (w : World). IsMade (answered number path (Err other) world) w before after result) (sym same)
-    (subst (λ (w : Refusal). IsMade (answered number path (Err w) world) world before after result) word_is (made path world))
+    subst (λ (w : World). IsMade (answered number path (Err other) world) (course_of world before) (course_of w after) result)
+    (sym same)
+    (subst (λ (w : Refusal). IsMade (answered number path (Err w) world) (course_of world before) (course_of world after) result)
+    word_is (made path world))
 
 pub step_other : (slot number : ℕ) (instruction : Instruction) (world : World) → is_carried instruction ≡ false
     → instruction_step slot number instruction world ≡ said_by number (saying instruction) world
@@ -49,3 +55,8 @@ step_carried slot number instruction world h = rw h refl
 pub step_bad : (slot number : ℕ) (world : World) → line_step slot number bad world ≡ answered number [] (Err word.Syntax) world
 unfolding line_step taken
 step_bad slot number world = refl
+
+pub step_barred : (slot number : ℕ) (request : Request) (world : World) → is_barred request ≡ true
+    → inner_step slot number request world ≡ answered number [] (Err word.Syntax) world
+unfolding inner_step
+step_barred slot number request world h = rw h refl

@@ -3,5 +3,10 @@
 
 mod asking;
 mod lines;
+mod printing;
+mod traces;
 
-pub use lines::{take_line, told_by};
+pub use asking::{is_consume, number_of};
+pub use lines::{take_inner, take_line};
+pub use printing::{print_refused, print_told};
+pub use traces::Trace;

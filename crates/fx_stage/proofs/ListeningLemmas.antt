@@ -31,6 +31,7 @@ use Rattle.fx_stage_model.specs.Graphs.{Graph}
 use Rattle.fx_stage_model.specs.Properties.{by_store, changed, told}
 use Rattle.fx_stage_model.specs.Taking.{IsPassedOver, IsReadSome, IsTaken, IsUnfinished}
 use Rattle.fx_stage_model.specs.World.{World, is_listening, still_written, with_store}
+use Rattle.fx_script_commands.specs.Requests.{Numbered}
 use Rattle.fx_stage.specs.Kept.{seen}
 use Rattle.fx_stage.specs.Noting.{IsListen, added, all_noted, has_listener_behind, noted, run_if, written_if}
 use Rattle.fx_stage_words.specs.Told.{silence, told_as}
@@ -292,7 +293,7 @@ numbered_if true given last asked ws rises new all =
 numbered_if false given last asked ws rises new all = all_below given last ws rises all
 
 module _ (before now : Stored) (graph : Graph) (free : List (List ℕ × Name)) (labels : List (List ℕ × Owner))
-    (actions : List (List ℕ × Vec Line Global)) (run : List (List ℕ)) (ws : List (ℕ × List (List ℕ)))
+    (actions : List (List ℕ × List Numbered)) (run : List (List ℕ)) (ws : List (ℕ × List (List ℕ)))
     (pointer : Option (ℤ × ℤ)) (button : Bool) (window : Option (ℕ × ℕ))
     (again : still_written now.listeners (still_written before.listeners ws) ≡ still_written now.listeners ws) where
   abbrev shown : Stored → List (List ℕ) → List (ℕ × List (List ℕ)) → World

@@ -38,6 +38,7 @@ use Rattle.fx_stage_model.specs.Nodes.{next_key, with_name, with_node, with_rows
 use Rattle.fx_stage_model.specs.Sound.{IsSound}
 use Rattle.fx_stage_model.specs.Taking.{IsBuilt, IsPassedOver, IsTaken}
 use Rattle.fx_stage_model.specs.World.{World}
+use Rattle.fx_script_commands.specs.Requests.{Numbered}
 use Rattle.fx_stage.specs.Kept.{seen}
 use Rattle.fx_stage_words.specs.Told.{key_as, made_as}
 use Rattle.fx_stage.proofs.HeadLemmas.{key_equal}
@@ -198,7 +199,7 @@ module _ (class : Class) (before now : Stored) (first : ℕ) (graph after : Grap
       subst (λ (g : Graph). IsSound now.entries g.table free) (sym err)
       (sound_passed before now graph.table free passed_over sound)
 
-  module _ (labels : List (List ℕ × Owner)) (actions : List (List ℕ × Vec Line Global)) (run : List (List ℕ))
+  module _ (labels : List (List ℕ × Owner)) (actions : List (List ℕ × List Numbered)) (run : List (List ℕ))
       (ws : List (ℕ × List (List ℕ))) (pointer : Option (ℤ × ℤ)) (button : Bool) (window : Option (ℕ × ℕ)) where
     abbrev shown : Stored → Graph → World
     shown store g = seen store g free labels actions run ws pointer button window

@@ -1,12 +1,10 @@
 -- Actions by their names.
-use Rattle.std.proofs.Common.{◌≡◌, ℕ, Bool, true, false, cond, List, [], ◌∷◌, ◌++◌, Vec, map, Option, Some, None, Result, Ok, Err, OnErr, OnOk, is_some, refl, sym, ap, subst, inl}
-use Rattle.std.specs.Global.{Global}
+use Rattle.std.proofs.Common.{◌≡◌, ℕ, Bool, true, false, cond, List, [], ◌∷◌, ◌++◌, Option, Some, None, Result, Ok, Err, OnErr, OnOk, is_some, refl, sym, ap, subst, inl}
 use Rattle.std.specs.Borrow.{Bor}
 use Rattle.std.specs.Map.{lookup}
 use Rattle.std.specs.Option.{option_copied}
 use Rattle.std.specs.Str.{bytes_eq}
-use Rattle.fx_script_commands.specs.Requests.{Numbered, Requests, line_view, requests_of}
-use Rattle.fx_script_commands.specs.declared.commands.Line.{Line}
+use Rattle.fx_script_commands.specs.Requests.{Numbered, Requests, requests_of}
 use Rattle.fx_stage_types.specs.declared.answers.StageError.TheVariants.{Refused}
 use Rattle.fx_stage_types.specs.declared.refusals.Refusal.{Refusal}
 use Rattle.fx_stage_types.specs.declared.refusals.Refusal.TheVariants as word
@@ -14,35 +12,12 @@ use Rattle.fx_stage_model.specs.Answers.{Taken, silently, unless}
 use Rattle.fx_stage_model.specs.Lines.{define, lines_of, with_action}
 use Rattle.fx_stage_model.specs.Taking.{IsTaken}
 use Rattle.fx_stage_model.specs.World.{World}
-use Rattle.fx_stage.specs.Kept.{action_of, actions_of}
 use Rattle.fx_stage_words.specs.Told.{plain_as}
 use Rattle.fx_stage.proofs.GraphLemmas.{plain_answered}
 
-abbrev Kept : Type 0
-Kept = List ℕ × Vec Line Global
-
-pub actions_known : (name : List ℕ) (entries : List Kept)
-    → is_some (lookup (bytes_eq name) (actions_of entries)) ≡ is_some (lookup (bytes_eq name) entries)
-actions_known name [] = refl
-actions_known name (e ∷ entries) = by_test (bytes_eq name e.0) (actions_known name entries)
-  where
-    by_test : (b : Bool) → is_some (lookup (bytes_eq name) (actions_of entries)) ≡ is_some (lookup (bytes_eq name) entries)
-        → is_some (cond b (Some (map line_view e.1.items)) (lookup (bytes_eq name) (actions_of entries)))
-        ≡ is_some (cond b (Some e.1) (lookup (bytes_eq name) entries))
-    by_test true rest = refl
-    by_test false rest = rest
-
-lines_back : (lines : List Numbered) → lines_of (requests_of lines) ≡ lines
+pub lines_back : (lines : List Numbered) → lines_of (requests_of lines) ≡ lines
 lines_back [] = refl
 lines_back (l ∷ lines) = ap (λ (rest : List Numbered). l ∷ rest) (lines_back lines)
-
-pub actions_more : (entries : List Kept) (name : List ℕ) (lines : Vec Line Global)
-    → actions_of (entries ++ (name, lines) ∷ [])
-    ≡ actions_of entries ++ (name, lines_of (requests_of (map line_view lines.items))) ∷ []
-actions_more [] name lines =
-    ap (λ (ls : List Numbered). (name, ls) ∷ []) (sym (lines_back (map line_view lines.items)))
-actions_more (e ∷ entries) name lines =
-    ap (λ (rest : List (List ℕ × List Numbered)). action_of e ∷ rest) (actions_more entries name lines)
 
 module _ (name : List ℕ) (lines : Requests) (world : World) where
   abbrev by_known : Bool → Result Taken Refusal

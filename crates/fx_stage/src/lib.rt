@@ -2,6 +2,7 @@
 //! of it what the definition of its line says.
 #![tactic(auto)]
 
+mod actions;
 mod binding;
 mod building;
 mod declaring;
@@ -16,7 +17,9 @@ mod making;
 mod naming;
 mod placing;
 mod properties;
+mod running;
 mod stage;
 mod styling;
 
+pub use actions::Action;
 pub use stage::Stage;

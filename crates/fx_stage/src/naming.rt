@@ -4,6 +4,7 @@ ghost use Rattle.fx_script_commands.specs.Requests.{line_view, requests_of};
 ghost use Rattle.fx_stage_model.specs.Lines as spec;
 ghost use Rattle.fx_stage_model.specs.Taking.{IsTaken};
 
+use crate::actions::Action;
 use crate::stage::Stage;
 use fx_base::Text;
 use fx_script_commands::Line;
@@ -26,7 +27,10 @@ impl Stage {
         if self.actions.get(&name).is_some() {
             return Err(StageError::Refused(Refusal::Exists));
         }
-        plain(alloc, self.actions.add(name, lines))
+        let Ok(action) = Action::of(alloc, lines) else {
+            return Err(StageError::Memory);
+        };
+        plain(alloc, self.actions.add(name, action))
     }
 
     /// `resize W H`: the window has these sides, each from 1 to 2,048 pixels.

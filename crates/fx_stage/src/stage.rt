@@ -2,9 +2,9 @@
 ghost use Rattle.std.specs.Prelude.{◌≡◌};
 ghost use Rattle.fx_stage_model.specs.World.{nowhere};
 
+use crate::actions::Action;
 use fx_base::{List, Name, NodeKey, Text};
 use fx_handles::Owner;
-use fx_script_commands::Line;
 use fx_stage_graph::Graph;
 use fx_stage_tables::NameMap;
 use fx_store::Store;
@@ -19,7 +19,7 @@ pub struct Stage {
     pub(crate) graph: Graph,
     pub(crate) free: NameMap<Name>,
     pub(crate) labels: NameMap<Owner>,
-    pub(crate) actions: NameMap<Vec<Line>>,
+    pub(crate) actions: NameMap<Action>,
     /// The actions that listeners run; a listener's tag is the place from 1.
     pub(crate) run: Vec<Text>,
     /// The path of the property as the listener's line wrote it. Those of listeners that are gone may still be here.

@@ -6,7 +6,9 @@ ghost use Rattle.fx_stage_types.specs.Edits.{edited};
 ghost use Rattle.fx_stage_types.specs.Tables.{data_of, node_at};
 ghost use Rattle.fx_stage_types.specs.declared.answers.StageError.TheVariants.{Memory};
 ghost use Rattle.fx_stage_model.specs.Graphs as spec;
+ghost use Rattle.fx_stage_graph.specs.Pointing.{pointed};
 
+use crate::pointing::Pointing;
 use fx_base::{NodeKey, Text};
 use fx_css_types::Sheet;
 use fx_events::{EventKind, Handlers, Phase};
@@ -120,11 +122,28 @@ impl Graph {
         self.pressed.as_slice()
     }
 
+    /// The node that was pressed, while the button is down.
+    pub fn target(&self) -> Option<NodeKey>
+        ensures { result ≡ self.now.target }
+    {
+        self.target
+    }
+
     /// The node that has the focus.
     pub fn focus(&self) -> Option<NodeKey>
         ensures { result ≡ self.now.focus }
     {
         self.focus
+    }
+
+    /// Puts the pointer, the button and the focus on these nodes.
+    pub fn point(&mut self, pointing: Pointing)
+        ensures { self.new ≡ pointed pointing self.old }
+    {
+        self.hover = pointing.hover;
+        self.pressed = pointing.pressed;
+        self.target = pointing.target;
+        self.focus = pointing.focus;
     }
 
     /// The node is known by this path, too.

@@ -10,3 +10,4 @@ mod placing;
 mod pointing;
 
 pub use graph::Graph;
+pub use pointing::Pointing;

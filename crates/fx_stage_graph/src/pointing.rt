@@ -5,6 +5,18 @@ ghost use Rattle.fx_stage_model.specs.Graphs.{kept_outside, outside};
 use fx_base::NodeKey;
 use fx_stage_tables::is_among;
 
+/// What the pointer, the button and the focus are on.
+#[derive(Drop)]
+pub struct Pointing {
+    /// The nodes that the pointer is over, from the outermost.
+    pub hover: Vec<NodeKey>,
+    /// The nodes that the button holds, from the outermost.
+    pub pressed: Vec<NodeKey>,
+    /// The node that was pressed, while the button is down.
+    pub target: Option<NodeKey>,
+    pub focus: Option<NodeKey>,
+}
+
 /// Takes out the keys that are gone.
 pub(crate) fn leave(keys: &mut Vec<NodeKey>, gone: &[NodeKey])
     ensures { keys.new.items ≡ outside gone.now keys.old.items }

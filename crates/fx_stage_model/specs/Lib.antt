@@ -3,6 +3,7 @@ pub mod World
 pub mod Answers
 pub mod Looking
 pub mod Properties
+pub mod Running
 pub mod Listening
 pub mod Nodes
 pub mod Dressing

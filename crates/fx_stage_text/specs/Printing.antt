@@ -31,6 +31,10 @@ refused_line number word = codes "refused " ++ (decimal number ++ (space ∷ end
 unfoldable pub said_line : List ℕ → List ℕ
 said_line text = codes "say " ++ ended text
 
+-- `overrun LINE`
+unfoldable pub overrun_line : ℕ → List ℕ
+overrun_line number = codes "overrun " ++ ended (decimal number)
+
 -- `value NAME V`
 unfoldable pub value_line : List (List ℕ) → Value → List ℕ
 value_line path value = codes "value " ++ (path_text path ++ (space ∷ ended (printed value)))

@@ -38,6 +38,16 @@ pub fn print_saying(out: &mut Vec<u8>, text: &str) -> Result<(), AllocError>
     put(out, b"\n")
 }
 
+/// Appends that more actions were to run behind the line with this number than may.
+#[tactic(auto, unfolding(crate::specs::Printing::overrun_line))]
+pub fn print_overrun(alloc: Global, out: &mut Vec<u8>, number: u32) -> Result<(), AllocError>
+    ensures { OnOk result (out.new.items ≡ out.old.items ++ spec.overrun_line number) }
+{
+    put(out, b"overrun ")?;
+    put_number(alloc, out, number)?;
+    put(out, b"\n")
+}
+
 /// Appends what is told of the line with this number: the value that it asked for by this path, what was dropped of an
 /// inline style, and whom the line told.
 pub fn print_outcome(

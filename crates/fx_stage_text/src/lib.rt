@@ -5,5 +5,5 @@ mod answers;
 mod notices;
 mod paths;
 
-pub use answers::{print_outcome, print_refusal, print_saying};
+pub use answers::{print_outcome, print_overrun, print_refusal, print_saying};
 pub use notices::print_notices;

@@ -1,12 +1,13 @@
 //! The store itself: its parts, what contracts see of them, and the calls that change nothing but one part.
 ghost use Rattle.std.specs.Prelude.{ℕ, ◌≡◌, ◌≢◌, ◌≤◌, ◌+◌, ◌↔◌, ◌==◌, ◌⊎◌, [], ◌∷◌, false, true, All, Contains, Err, IfErr, Some, IfOk, IsTrue, OnErr, OnOk, length, option_copied};
-ghost use Rattle.std.specs.List.{list_any};
+ghost use Rattle.std.specs.List.{find, list_any};
+ghost use Rattle.std.specs.Option.{option_map};
 ghost use Rattle.fx_base.specs.Names.{numbers};
 ghost use Rattle.fx_base.specs.Printing.{kind_of};
 ghost use Rattle.fx_graph.specs.Known.{known_kind, known_value};
 ghost use Rattle.fx_graph.specs.Store.{origin_in};
 ghost use Rattle.fx_handles.specs.Living.{after_make};
-ghost use Rattle.fx_listen.specs.Listening.{IsSound, has_life, is_live};
+ghost use Rattle.fx_listen.specs.Listening.{IsSound, has_life, is_live, is_numbered};
 ghost use Rattle.fx_graph_model.specs.Eager.{eager};
 ghost use Rattle.fx_graph_model.specs.Refusals.{declare_refusal, read_only_in};
 ghost use Rattle.fx_graph_model.specs.Changes.{AreKnown};
@@ -241,6 +242,13 @@ impl Store {
         ensures { result ≡ list_any (λ listener. listener.number == number) self.now.listeners }
     {
         self.listeners.is_listening(&self.owners, number)
+    }
+
+    /// What the living listener of this number on the property was added with. Takes no memory.
+    pub fn tag_of(&self, name: Name, number: u32) -> Option<u32>
+        ensures { result ≡ option_map (λ listener. listener.tag) (find (is_numbered name.0 number) self.now.listeners) }
+    {
+        self.listeners.tag_of(&self.owners, name, number)
     }
 
     /// The greatest number that a listener was ever given, 0 before the first.

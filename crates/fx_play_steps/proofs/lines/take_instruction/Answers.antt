@@ -2,6 +2,7 @@
 use Rattle.std.proofs.Common.{◌∙◌, ap, subst, sym}
 use Rattle.fx_plain_steps.specs.Lines.{Step, said_by}
 use Rattle.fx_play_steps.specs.Taken.{IsMade}
+use Rattle.fx_play_steps.specs.Traces.{course_of}
 use Rattle.fx_play_steps.proofs.StepLemmas.{step_other}
 use Rattle.fx_play_steps.proofs.lines.take_instruction.Goals as goal
 
@@ -9,5 +10,8 @@ pub returns-then-not-is_carried : goal.returns-then-not-is_carried
 returns-then-not-is_carried g c =
     let world = c.args.stage.now in
     let same = ap (λ text. said_by c.args.number text world) c.saying.ensures in
-    let step = step_other 0 c.args.number c.args.instruction.now world (sym c.is_carried.ensures ∙ c.if-not-is_carried.true) in
-    (0, subst (λ (s : Step). IsMade s world c.args.out.now.items c.say.new.out.items c.say.result) (same ∙ sym step) (c.say.ensures world))
+    let step = step_other 0 c.args.number c.args.instruction.now world (sym c.is_carried.ensures ∙ c.if-not-is_carried.true) in (
+      0,
+      subst (λ (s : Step). IsMade s (course_of world c.args.trace.now) (course_of world c.say.new.trace) c.say.result)
+          (same ∙ sym step) (c.say.ensures world),
+    )

@@ -1,0 +1,4 @@
+pub mod RunLemmas
+pub mod SendLemmas
+pub mod SettleLemmas
+pub mod StartLemmas

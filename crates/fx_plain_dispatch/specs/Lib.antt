@@ -1,0 +1,4 @@
+pub mod Running
+pub mod Sending
+pub mod Settling
+pub mod Taking

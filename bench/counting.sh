@@ -17,11 +17,15 @@ pane() {
     }'
 }
 
+# the instructions of the whole program for these words
+counted_for() {
+    valgrind --tool=callgrind --callgrind-out-file="$folder/counts" "$program" "$@" >/dev/null 2>"$folder/log" || true
+    sed -n 's/^summary: //p' "$folder/counts"
+}
+
 # the instructions of the whole program for s.fxml and s.txt of the folder
 counted() {
-    valgrind --tool=callgrind --callgrind-out-file="$folder/counts" \
-        "$program" "$folder/s.fxml" "$folder/s.txt" >/dev/null 2>"$folder/log" || true
-    sed -n 's/^summary: //p' "$folder/counts"
+    counted_for "$folder/s.fxml" "$folder/s.txt"
 }
 
 # the functions that took most in the last count

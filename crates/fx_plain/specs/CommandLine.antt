@@ -6,6 +6,7 @@ use Rattle.fx_frame_text.specs.declared.forms.Form.TheVariants as form
 use Rattle.fx_load_parts.specs.Faults.{Fault, whole_fault}
 use Rattle.fx_load_parts.specs.Files.{Run}
 use Rattle.fx_load_parts.specs.declared.files.FaultKind.TheVariants.{Flawed}
+use Rattle.fx_plain.specs.Demos.{demo_scene}
 use Rattle.fx_plain_runs.specs.declared.manners.Manner.{Manner}
 use Rattle.fx_scene_flaws.specs.declared.flaws.Flaw.TheVariants.{NotBuilt}
 use Rattle.fx_words.specs.Reading.{accept}
@@ -16,9 +17,11 @@ use Rattle.fx_words.specs.declared.runs.Size.{Size}
 use Rattle.fx_words.specs.declared.runs.Source.{Source}
 use Rattle.fx_words.specs.declared.runs.Source.TheVariants as source
 
--- a run over files is played in some manner, or something of it isn't built, or no run is asked for
+-- a run over files is played in some manner, or the demo of so many labels; or something of it isn't built, or no run
+-- is asked for
 pub data Plan : Type 0 where
   Plays : Run → Manner → Plan
+  PlaysDemo : ℕ → Manner → Plan
   Refuses : Fault → Plan
   ShowsUsage : Plan
 
@@ -32,14 +35,9 @@ form_of frames.Ppm = Some form.Ppm
 form_of frames.Nothing = Some form.Nothing
 form_of frames.Delta = None
 
--- the files of a run; demos are not built
-abbrev pub files_of : Source → Option Run
-files_of (source.Demo number) = None
-files_of (source.Files scene script sheets) = Some (record { scene = scene; script = script; sheets = sheets })
-
 -- the name of the scene; a demo makes its own
 abbrev pub scene_name : Source → List ℕ
-scene_name (source.Demo number) = codes "demo.fxml"
+scene_name (source.Demo number) = demo_scene
 scene_name (source.Files scene script sheets) = scene
 
 abbrev pub manner_of : Asked → Form → Manner
@@ -49,13 +47,18 @@ manner_of run form = record { window = option_map window_of run.size; form = for
 abbrev pub not_built : Source → Plan
 not_built source = Refuses (whole_fault (Flawed NotBuilt) (scene_name source))
 
-abbrev pub plan_with : Asked → Option Run → Option Form → Plan
-plan_with run None form = not_built run.source
-plan_with run (Some files) None = not_built run.source
-plan_with run (Some files) (Some form) = Plays files (manner_of run form)
+-- what is played is played in this manner
+abbrev pub played : Source → Manner → Plan
+played (source.Demo number) manner = PlaysDemo number manner
+played (source.Files scene script sheets) manner =
+    Plays (record { scene = scene; script = script; sheets = sheets }) manner
+
+abbrev pub plan_with : Asked → Option Form → Plan
+plan_with run None = not_built run.source
+plan_with run (Some form) = played run.source (manner_of run form)
 
 abbrev pub plan_of_run : Asked → Plan
-plan_of_run run = plan_with run (files_of run.source) (form_of run.frames)
+plan_of_run run = plan_with run (form_of run.frames)
 
 abbrev pub plan_of : Option Asked → Plan
 plan_of None = ShowsUsage
@@ -64,6 +67,13 @@ plan_of (Some run) = plan_of_run run
 -- what is played for the words behind the program's name
 abbrev pub plan_in : List (List ℕ) → Plan
 plan_in words = plan_of (accept words)
+
+-- only a run over files fetches any
+abbrev pub Fetches : Plan → Type 0
+Fetches (Plays run manner) = Unit {0}
+Fetches (PlaysDemo number manner) = ⊥
+Fetches (Refuses fault) = ⊥
+Fetches ShowsUsage = ⊥
 
 unfoldable pub usage_line : List ℕ
 usage_line =

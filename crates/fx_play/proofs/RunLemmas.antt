@@ -1,5 +1,5 @@
 -- Each way in which a run ends.
-use Rattle.std.proofs.Common.{◌≡◌, ◌⊎◌, inl, inr, ℕ, List, [], Option, Some, None, IsSome, Result, Ok, Err, append-nil, sym, subst, refl}
+use Rattle.std.proofs.Common.{◌≡◌, ◌⊎◌, inl, inr, ℕ, List, [], Option, Some, None, IsSome, Result, Ok, Err, append-nil, ap, sym, subst, refl, arith}
 use Rattle.fx_load.specs.Loading.{IsElaborated, Loaded}
 use Rattle.fx_load.specs.Loads.{loaded_of}
 use Rattle.fx_load.specs.declared.loading.Loaded.{Loaded as Held}
@@ -10,7 +10,8 @@ use Rattle.fx_load_parts.specs.Views.{fault_of}
 use Rattle.fx_load_parts.specs.declared.files.LoadError.{LoadError}
 use Rattle.fx_load_parts.specs.declared.files.LoadError.TheVariants as load
 use Rattle.fx_frame_text.specs.declared.forms.Form.{Form}
-use Rattle.fx_plain.specs.CommandLine.{Plan, Plays, Refuses, ShowsUsage, files_of, form_of, plan_of, plan_with}
+use Rattle.fx_plain.specs.CommandLine.{Plan, Plays, PlaysDemo, Refuses, ShowsUsage, form_of, manner_of, plan_of, plan_with, played}
+use Rattle.fx_plain.specs.Demos.{demo_files, demo_run}
 use Rattle.fx_plain.specs.PlainPlayer.{IsAnswer, IsOutput, IsOutputOfLoaded, IsOver, IsWithin, Output, all_lines, files_at_fault, files_loaded, first_lines, nothing_written, part_written, refused_with, scene_at_fault, scene_fault, script_played, usage_told}
 use Rattle.fx_plain.specs.declared.answers.Status.{Status}
 use Rattle.fx_plain.specs.declared.answers.Status.TheVariants.{Done, Usage, Refused, ReadFault, WriteFault, NoMemory}
@@ -27,7 +28,9 @@ use Rattle.fx_scene_flaws.specs.declared.flaws.Fault.{Fault as SceneFault}
 use Rattle.fx_scene_raise.specs.declared.errors.RaiseError.{RaiseError}
 use Rattle.fx_scene_raise.specs.declared.errors.RaiseError.TheVariants as raise
 use Rattle.fx_words.specs.declared.runs.Run.{Run as Asked}
-use Rattle.fx_play.specs.Ends.{IsLoadedPlayed, IsPlayed, IsTold, IsUnloadedTold, IsUnstagedTold, IsWithinLoaded, ended_as, none_written, some_written}
+use Rattle.fx_words.specs.declared.runs.Source.{Source}
+use Rattle.fx_words.specs.declared.runs.Source.TheVariants as source
+use Rattle.fx_play.specs.Ends.{IsDemoPlayed, IsIdle, IsLoadedPlayed, IsPlayed, IsTold, IsUnloadedTold, IsUnstagedTold, IsWithinLoaded, ended_as, none_written, some_written}
 
 -- all of it is a part
 whole : (old : Option (List ℕ)) (bytes : List ℕ) {new : Option (List ℕ)} → new ≡ grown old bytes → GrewByPrefix old new bytes
@@ -208,10 +211,9 @@ no_memory plan told fetches_old fetches_new puts_old puts_new old new same = rec
   runs = λ e. absurd (neither e);
 }
   where
-    neither : ¬ ((NoMemory ≡ Done) ⊎ ((NoMemory ≡ Refused) ⊎ (NoMemory ≡ ReadFault)))
+    neither : ¬ ((NoMemory ≡ Done) ⊎ (NoMemory ≡ Refused))
     neither (inl e) = cc
-    neither (inr (inl e)) = cc
-    neither (inr (inr e)) = cc
+    neither (inr e) = cc
 
 -- files that weren't loaded
 pub not_loaded : (run : Run) (manner : Manner) (told : Option Files) (fetches_old fetches_new puts_old puts_new : ℕ)
@@ -228,7 +230,7 @@ not_loaded run manner told fetches_old fetches_new puts_old puts_new old new ans
     (record {
       answers = λ files over final. absurd final;
       within = λ files over. nothing_written so.same;
-      read = λ e. (cause.rose refl, so.same);
+      read = λ e. (cause.rose refl, (tt, so.same));
       write = λ e. absurd (cc);
       usage = λ e. absurd (cc);
       runs = λ e same. cc;
@@ -254,16 +256,13 @@ usage_shown told fetches_old fetches_new puts_old puts_new old new answer so =
     (by_written so.written so.cause so.writes)
   where
     neither : (w : Result (Unit {0}) PutError)
-        → ¬ ((ended_as w Usage ≡ Done) ⊎ ((ended_as w Usage ≡ Refused) ⊎ (ended_as w Usage ≡ ReadFault)))
+        → ¬ ((ended_as w Usage ≡ Done) ⊎ (ended_as w Usage ≡ Refused))
     neither (Ok done) (inl e) = cc
-    neither (Ok done) (inr (inl e)) = cc
-    neither (Ok done) (inr (inr e)) = cc
+    neither (Ok done) (inr e) = cc
     neither (Err put.Failed) (inl e) = cc
-    neither (Err put.Failed) (inr (inl e)) = cc
-    neither (Err put.Failed) (inr (inr e)) = cc
+    neither (Err put.Failed) (inr e) = cc
     neither (Err put.Memory) (inl e) = cc
-    neither (Err put.Memory) (inr (inl e)) = cc
-    neither (Err put.Memory) (inr (inr e)) = cc
+    neither (Err put.Memory) (inr e) = cc
 
     by_written : (w : Result (Unit {0}) PutError) → HasCause put.Failed puts_old puts_new w
         → Writes old new w usage_told.bytes
@@ -293,6 +292,44 @@ usage_shown told fetches_old fetches_new puts_old puts_new old new answer so =
       runs = λ e. absurd (neither (Err put.Memory) e);
     }
 
+demo_within : (number : ℕ) (manner : Manner) (files : Files) (old new : Option (List ℕ))
+    → IsWithin (Plays demo_run manner) (demo_files number) old new → IsWithin (PlaysDemo number manner) files old new
+demo_within number manner files old new (nothing_written same) = nothing_written same
+demo_within number manner files old new (part_written extent out plain part) = part_written extent out plain part
+
+-- the files of a demo are played from a shelf of which no call fails
+pub demo_played : (number : ℕ) (manner : Manner) (files : Files) (puts_old puts_new : ℕ) (old new : Option (List ℕ))
+    (answer : Status) → files ≡ demo_files number
+    → IsPlayed (Plays demo_run manner) (Some files) 0 0 puts_old puts_new old new answer
+    → IsDemoPlayed number manner puts_old puts_new old new answer
+demo_played number manner held puts_old puts_new old new answer made so told fetches_old fetches_new =
+    let is_held : Some held ≡ Some (demo_files number) = ap Some made in
+    record {
+      answers = λ files over final.
+          let all = so.answers (demo_files number) is_held final in
+          record { out = all.out; plain = all.plain; bytes = all.bytes; status = all.status };
+      within = λ files over. demo_within number manner files old new (so.within (demo_files number) is_held);
+      read = λ e. absurd (never (so.read e).0);
+      write = so.write;
+      usage = λ e. absurd (runs (so.usage e));
+      runs = λ e same. cc;
+    }
+  where
+    never : ¬ (Rose 0 0)
+    never rose = omega arith
+
+    runs : ¬ (Plays demo_run manner ≡ ShowsUsage)
+    runs same = cc
+
+-- a run whose files are loaded asks for a run, and fetches no more
+pub never_idle : (answer : Status) → ¬ (answer ≡ Usage) → ¬ (answer ≡ ReadFault) → ¬ (IsIdle answer)
+never_idle Done usage read idle = idle
+never_idle Usage usage read idle = usage refl
+never_idle Refused usage read idle = idle
+never_idle ReadFault usage read idle = read refl
+never_idle WriteFault usage read idle = idle
+never_idle NoMemory usage read idle = idle
+
 -- where no call failed the run came to its end, or memory was wanting
 pub completes : (fetches_old fetches_new puts_old puts_new : ℕ) (answer : Status)
     → (answer ≡ ReadFault → Rose fetches_old fetches_new) → (answer ≡ WriteFault → Rose puts_old puts_new)
@@ -304,14 +341,17 @@ completes fetches_old fetches_new puts_old puts_new ReadFault read write quiet s
 completes fetches_old fetches_new puts_old puts_new WriteFault read write quiet still = absurd (still (write refl))
 completes fetches_old fetches_new puts_old puts_new NoMemory read write quiet still = inr refl
 
-shows_no_usage : (run : Asked) (files : Option Run) (form : Option Form) → ¬ (plan_with run files form ≡ ShowsUsage)
-shows_no_usage run None form e = cc
-shows_no_usage run (Some files) None e = cc
-shows_no_usage run (Some files) (Some form) e = cc
+plays_something : (source : Source) (manner : Manner) → ¬ (played source manner ≡ ShowsUsage)
+plays_something (source.Demo number) manner e = cc
+plays_something (source.Files scene script sheets) manner e = cc
+
+shows_no_usage : (run : Asked) (form : Option Form) → ¬ (plan_with run form ≡ ShowsUsage)
+shows_no_usage run None e = cc
+shows_no_usage run (Some form) e = plays_something run.source (manner_of run form) e
 
 pub asks_for_none : (asked : Option Asked) → plan_of asked ≡ ShowsUsage → asked ≡ None
 asks_for_none None e = refl
-asks_for_none (Some run) e = absurd (shows_no_usage run (files_of run.source) (form_of run.frames) e)
+asks_for_none (Some run) e = absurd (shows_no_usage run (form_of run.frames) e)
 
 pub asks_for_some : (asked : Option Asked) → ¬ (plan_of asked ≡ ShowsUsage) → IsSome asked
 asks_for_some None shows = absurd (shows refl)

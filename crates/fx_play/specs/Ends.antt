@@ -7,7 +7,7 @@ use Rattle.fx_load_parts.specs.Views.{fault_of}
 use Rattle.fx_load_parts.specs.declared.files.FaultKind.TheVariants.{Flawed}
 use Rattle.fx_load_parts.specs.declared.files.LoadError.{LoadError}
 use Rattle.fx_load_parts.specs.declared.files.LoadError.TheVariants as load
-use Rattle.fx_plain.specs.CommandLine.{Plan, ShowsUsage}
+use Rattle.fx_plain.specs.CommandLine.{Fetches, Plan, PlaysDemo, ShowsUsage}
 use Rattle.fx_plain.specs.PlainPlayer.{Answers, Extent, IsAnswer, IsOutputOfLoaded, IsOver, IsWithin, Output, all_lines, refused_with}
 use Rattle.fx_plain.specs.declared.answers.Status.{Status}
 use Rattle.fx_plain.specs.declared.answers.Status.TheVariants.{Done, Usage, Refused, ReadFault, WriteFault, NoMemory}
@@ -74,12 +74,27 @@ pub record IsLoadedPlayed (run : Run) (manner : Manner) (loaded : Loaded) (puts_
   pub usage : ¬ (answer ≡ Usage)
   pub read : ¬ (answer ≡ ReadFault)
 
+-- answers that come before a scene is built
+abbrev pub IsIdle : Status → Type 0
+IsIdle Done = ⊥
+IsIdle Usage = Unit {0}
+IsIdle Refused = ⊥
+IsIdle ReadFault = Unit {0}
+IsIdle WriteFault = ⊥
+IsIdle NoMemory = ⊥
+
 -- what is said of a call that plays
 pub record IsPlayed (plan : Plan) (told : Option Files) (fetches_old fetches_new puts_old puts_new : ℕ)
     (old new : Option (List ℕ)) (answer : Status) : Type 0 where
   pub answers : (files : Files) → IsOver told plan files → IsAnswer answer → Answers plan files old new answer
   pub within : (files : Files) → IsOver told plan files → IsWithin plan files old new
-  pub read : answer ≡ ReadFault → Rose fetches_old fetches_new × (new ≡ old)
+  pub read : answer ≡ ReadFault → Rose fetches_old fetches_new × (Fetches plan × (new ≡ old))
   pub write : answer ≡ WriteFault → Rose puts_old puts_new
   pub usage : answer ≡ Usage → plan ≡ ShowsUsage
-  pub runs : (answer ≡ Done) ⊎ ((answer ≡ Refused) ⊎ (answer ≡ ReadFault)) → ¬ (plan ≡ ShowsUsage)
+  pub runs : (answer ≡ Done) ⊎ (answer ≡ Refused) → ¬ (plan ≡ ShowsUsage)
+
+-- what is said of a call that plays a demo: all that, whatever a shelf tells and however often it failed
+abbrev pub IsDemoPlayed : ℕ → Manner → ℕ → ℕ → Option (List ℕ) → Option (List ℕ) → Status → Type 0
+IsDemoPlayed number manner puts_old puts_new old new answer =
+    (told : Option Files) (fetches_old fetches_new : ℕ)
+    → IsPlayed (PlaysDemo number manner) told fetches_old fetches_new puts_old puts_new old new answer

@@ -1,27 +1,32 @@
 //! What is played for the run that the words ask for.
 //! Between the words and the files: what isn't built yet is told here.
-ghost use Rattle.std.specs.Prelude.{◌≡◌};
+ghost use Rattle.std.specs.Prelude.{◌≡◌, IfSome};
 ghost use Rattle.std.specs.Option.{option_map};
-ghost use Rattle.fx_load_parts.specs.Views.{run_of};
 ghost use Rattle.fx_plain.specs.CommandLine as spec;
-ghost use Rattle.fx_play.specs.Plans.{plan_view};
+ghost use Rattle.fx_play.specs.Plans.{HasLabels, plan_view};
+ghost use Rattle.fx_words.specs.Asking.{IsNumbered};
 
+use crate::demos::DEMO_SCENE;
 use fx_frame_text::Form;
 use fx_load_parts::{FaultKind, FileFault, Run};
 use fx_plain_runs::Manner;
 use fx_scene_flaws::Flaw;
 use fx_words::{Frames, Size, Source};
 
-/// A run over files, and how it shows what it does; or what of it isn't built; or no run.
+/// A run over files, and how it shows what it does; or the demo of so many labels; or what of a run isn't built; or no
+/// run.
 pub(crate) enum Plan<'a> {
     Plays(Run<'a>, Manner),
+    PlaysDemo(u32, Manner),
     Refuses(FileFault<'a>),
     ShowsUsage,
 }
 
 /// What is played where the words ask for this run, if they ask for one.
 pub(crate) fn plan_of(asked: &Option<fx_words::Run>) -> Plan<'_>
-    ensures { plan_view result ≡ spec.plan_of asked.now }
+    requires { IfSome asked.now (λ run. IsNumbered run.source) }
+    ensures plan { plan_view result ≡ spec.plan_of asked.now }
+    ensures labels { HasLabels (plan_view result) }
 {
     match asked {
         Some(run) => plan_of_run(run),
@@ -30,15 +35,32 @@ pub(crate) fn plan_of(asked: &Option<fx_words::Run>) -> Plan<'_>
 }
 
 fn plan_of_run(run: &fx_words::Run) -> Plan<'_>
-    ensures { plan_view result ≡ spec.plan_of_run run.now }
+    requires { IsNumbered run.now.source }
+    ensures plan { plan_view result ≡ spec.plan_of_run run.now }
+    ensures labels { HasLabels (plan_view result) }
 {
-    let Some(files) = files_of(&run.source) else {
-        return not_built(&run.source);
-    };
     let Some(form) = form_of(run.frames) else {
         return not_built(&run.source);
     };
-    Plan::Plays(files, manner_of(run, form))
+    played(&run.source, manner_of(run, form))
+}
+
+fn played(source: &Source, manner: Manner) -> Plan<'_>
+    requires { IsNumbered source.now }
+    ensures plan { plan_view result ≡ spec.played source.now manner }
+    ensures labels { HasLabels (plan_view result) }
+{
+    match source {
+        Source::Demo(number) => Plan::PlaysDemo(*number, manner),
+        Source::Files(scene, script, sheets) => {
+            let run = Run {
+                scene: scene.as_str(),
+                script: script.as_str(),
+                sheets: sheets.as_slice(),
+            };
+            Plan::Plays(run, manner)
+        }
+    }
 }
 
 fn manner_of(run: &fx_words::Run, form: Form) -> Manner
@@ -77,24 +99,11 @@ fn form_of(frames: Frames) -> Option<Form>
     }
 }
 
-fn files_of(source: &Source) -> Option<Run<'_>>
-    ensures { option_map run_of result ≡ spec.files_of source.now }
-{
-    match source {
-        Source::Demo(_) => None,
-        Source::Files(scene, script, sheets) => Some(Run {
-            scene: scene.as_str(),
-            script: script.as_str(),
-            sheets: sheets.as_slice(),
-        }),
-    }
-}
-
 fn scene_name(source: &Source) -> &str
     ensures { result.now ≡ spec.scene_name source.now }
 {
     match source {
-        Source::Demo(_) => "demo.fxml",
+        Source::Demo(_) => DEMO_SCENE,
         Source::Files(scene, _, _) => scene.as_str(),
     }
 }

@@ -3,11 +3,12 @@ ghost use Rattle.std.specs.Prelude.{◌≡◌, ◌≤◌, vec_len};
 ghost use Rattle.fx_load.specs.Loads.{loaded_of};
 ghost use Rattle.fx_load_parts.specs.Views.{run_of};
 ghost use Rattle.fx_plain.specs.CommandLine.{Plays};
-ghost use Rattle.fx_play.specs.Ends.{IsLoadedPlayed, IsPlayed};
+ghost use Rattle.fx_play.specs.Ends.{IsDemoPlayed, IsIdle, IsLoadedPlayed, IsPlayed};
 
+use crate::demos::{DEMO_SCENE, DEMO_SCRIPT, DEMO_SHEET, DemoShelf};
 use crate::endings::ended;
 use crate::faults::{tell_unloaded, tell_unstaged};
-use fx_base::{Ledgers, Work};
+use fx_base::{Ledgers, Str, Work};
 use fx_load::{Loaded, load};
 use fx_load_parts::Run;
 use fx_plain::Status;
@@ -15,6 +16,35 @@ use fx_plain_runs::Manner;
 use fx_play_runs::{put_played, staged};
 use fx_port::{Shelf, Sink};
 use std::alloc::Global;
+
+/// Plays the demo of so many labels. Its files are made; none is fetched.
+pub(crate) fn play_demo<O: Sink, L: Ledgers>(
+    alloc: Global,
+    number: u32,
+    manner: Manner,
+    out: &mut O,
+    work: &mut Work<L>,
+) -> Status
+    requires some { 1 ≤ number }
+    requires most { number ≤ 3600 }
+    ensures played { IsDemoPlayed number manner (O.faults out.old) (O.faults out.new) (O.written out.old)
+        (O.written out.new) result }
+    ensures idle { IsIdle result → work.new ≡ work.old }
+{
+    let Ok(mut shelf) = DemoShelf::new(alloc, number) else {
+        return Status::NoMemory;
+    };
+    let Ok(sheet) = String::from_str(alloc, DEMO_SHEET) else {
+        return Status::NoMemory;
+    };
+    let sheets = [Str::from_string(sheet)];
+    let run = Run {
+        scene: DEMO_SCENE,
+        script: DEMO_SCRIPT,
+        sheets: &sheets,
+    };
+    play_run(alloc, &run, manner, &mut shelf, out, work)
+}
 
 /// Plays a run over files.
 pub(crate) fn play_run<F: Shelf, O: Sink, L: Ledgers>(
@@ -28,6 +58,7 @@ pub(crate) fn play_run<F: Shelf, O: Sink, L: Ledgers>(
     ensures held { F.held shelf.new ≡ F.held shelf.old }
     ensures played { IsPlayed (Plays (run_of run.now) manner) (F.held shelf.old) (F.faults shelf.old)
         (F.faults shelf.new) (O.faults out.old) (O.faults out.new) (O.written out.old) (O.written out.new) result }
+    ensures idle { IsIdle result → work.new ≡ work.old }
 {
     let loaded = match load(alloc, run, shelf) {
         Ok(loaded) => loaded,

@@ -1,17 +1,17 @@
 //! The top call.
 ghost use Rattle.std.specs.Prelude.{◌≡◌, ◌⊎◌, IsSome, None};
-ghost use Rattle.fx_plain.specs.CommandLine.{plan_in};
+ghost use Rattle.fx_plain.specs.CommandLine.{Fetches, plan_in};
 ghost use Rattle.fx_plain.specs.PlainPlayer.{Answers, IsAnswer, IsOver, IsWithin};
 ghost use Rattle.fx_plain.specs.declared.answers.Status.TheVariants as status;
 ghost use Rattle.fx_port.specs.Causes.{Rose};
 ghost use Rattle.fx_port.specs.Files.{Files};
-ghost use Rattle.fx_play.specs.Ends.{IsPlayed};
-ghost use Rattle.fx_play.specs.Plans.{plan_view};
+ghost use Rattle.fx_play.specs.Ends.{IsIdle, IsPlayed};
+ghost use Rattle.fx_play.specs.Plans.{HasLabels, plan_view};
 ghost use Rattle.fx_words.specs.Reading.{accept, texts};
 
 use crate::endings::{tell_fault, tell_usage};
 use crate::plans::{Plan, plan_of};
-use crate::runs::play_run;
+use crate::runs::{play_demo, play_run};
 use fx_base::{Ledgers, Work};
 use fx_plain::Status;
 use fx_port::{Shelf, Sink};
@@ -43,11 +43,17 @@ pub fn play<F: Shelf, O: Sink, L: Ledgers>(
 
     // Over any shelf and any sink, each answer's cause.
     ensures read { result ≡ status.ReadFault → (Rose (F.faults shelf.old) (F.faults shelf.new)) ×
-        (IsSome (accept (texts words.now)) × (O.written out.new ≡ O.written out.old)) }
+        (Fetches (plan_in (texts words.now)) × (O.written out.new ≡ O.written out.old)) }
     ensures write { result ≡ status.WriteFault → Rose (O.faults out.old) (O.faults out.new) }
     ensures usage { result ≡ status.Usage → accept (texts words.now) ≡ None }
     ensures played { (result ≡ status.Done) ⊎ (result ≡ status.Refused) → IsSome (accept (texts words.now)) }
     ensures held { F.held shelf.new ≡ F.held shelf.old }
+
+    // A demo is played without the shelf, and so is what else fetches no file.
+    ensures still { ¬ (Fetches (plan_in (texts words.now))) → shelf.new ≡ shelf.old }
+
+    // Where no scene was built, nothing was counted as work.
+    ensures idle { IsIdle result → work.new ≡ work.old }
 {
     match accept(alloc, words) {
         Ok(asked) => play_plan(alloc, plan_of(&asked), shelf, out, work),
@@ -63,12 +69,16 @@ fn play_plan<F: Shelf, O: Sink, L: Ledgers>(
     out: &mut O,
     work: &mut Work<L>,
 ) -> Status
+    requires { HasLabels (plan_view plan) }
     ensures held { F.held shelf.new ≡ F.held shelf.old }
+    ensures still { ¬ (Fetches (plan_view plan.entry)) → shelf.new ≡ shelf.old }
+    ensures idle { IsIdle result → work.new ≡ work.old }
     ensures played { IsPlayed (plan_view plan.entry) (F.held shelf.old) (F.faults shelf.old) (F.faults shelf.new)
         (O.faults out.old) (O.faults out.new) (O.written out.old) (O.written out.new) result }
 {
     match plan {
         Plan::Plays(run, manner) => play_run(alloc, &run, manner, shelf, out, work),
+        Plan::PlaysDemo(number, manner) => play_demo(alloc, number, manner, out, work),
         Plan::Refuses(fault) => tell_fault(alloc, &fault, out),
         Plan::ShowsUsage => tell_usage(out),
     }

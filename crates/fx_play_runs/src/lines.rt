@@ -12,6 +12,7 @@ use fx_base::{Ledgers, Work};
 use fx_frame_text::Form;
 use fx_plain_runs::Manner;
 use fx_play_frames::{Game, put_told};
+use fx_play_steps::Trace;
 use fx_port::{PutError, Sink};
 use fx_script_commands::Line;
 use std::alloc::Global;
@@ -53,22 +54,22 @@ fn put_each<O: Sink, L: Ledgers>(
     ensures put { (warnings : List ℕ) (begun : Option (List ℕ)) → O.written out.old ≡ grown begun warnings →
         IsPut manner warnings (game_of game.old) (map line_view lines.items) begun (O.written out.new) result }
 {
-    let mut text = Vec::new(alloc);
+    let mut trace = Trace::new(alloc);
     let mut left = lines;
     left.reverse();
     while let Some(line) = left.pop() {
-        put_line(alloc, manner.form, game, line, &mut text, out, work)?;
+        put_line(alloc, manner.form, game, line, &mut trace, out, work)?;
     }
     Ok(())
 }
 
-/// Takes a line and writes what it tells; the text is a buffer for that.
+/// Takes a line and writes what it tells; the trace is a buffer for that.
 fn put_line<O: Sink, L: Ledgers>(
     alloc: Global,
     form: Form,
     game: &mut Game,
     line: Line,
-    text: &mut Vec<u8>,
+    trace: &mut Trace,
     out: &mut O,
     work: &mut Work<L>,
 ) -> Result<(), PutError>
@@ -80,6 +81,6 @@ fn put_line<O: Sink, L: Ledgers>(
         (O.written out.new)) }
     ensures frames { OnOk result (game.new.frames ≤ game.old.frames + 1) }
 {
-    let taken = game.take(alloc, line, text, work)?;
-    put_told(alloc, form, game, &taken, text.as_slice(), out)
+    let taken = game.take(alloc, line, trace, work)?;
+    put_told(alloc, form, game, &taken, trace.text.as_slice(), out)
 }

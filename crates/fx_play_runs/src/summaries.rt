@@ -13,6 +13,7 @@ ghost use Rattle.fx_script_commands.specs.Requests.{line_view};
 use fx_base::{Ledgers, Work};
 use fx_plain_runs::Manner;
 use fx_play_frames::{Counts, Game};
+use fx_play_steps::Trace;
 use fx_port::{PutError, Sink};
 use fx_script_commands::Line;
 use std::alloc::{AllocError, Global};
@@ -63,23 +64,23 @@ fn count_lines<L: Ledgers>(
     ensures { IfOk result (λ totals. (form : Form) →
         AreCounted form (game_of game.old) (map line_view lines.items) (totals_in totals)) }
 {
-    let mut text = Vec::new(alloc);
+    let mut trace = Trace::new(alloc);
     let mut totals = Counts::NONE;
     let mut left = lines;
     left.reverse();
     while let Some(line) = left.pop() {
-        let more = count_line(alloc, game, line, &mut text, work)?;
+        let more = count_line(alloc, game, line, &mut trace, work)?;
         totals = totals.with(more);
     }
     Ok(totals)
 }
 
-/// Takes a line, and answers what it adds to the totals; the text is a buffer.
+/// Takes a line, and answers what it adds to the totals; the trace is a buffer.
 fn count_line<L: Ledgers>(
     alloc: Global,
     game: &mut Game,
     line: Line,
-    text: &mut Vec<u8>,
+    trace: &mut Trace,
     work: &mut Work<L>,
 ) -> Result<Counts, AllocError>
     requires few { game.old.frames < 2 ^ 64 - 1 }
@@ -88,6 +89,6 @@ fn count_line<L: Ledgers>(
     ensures small { IfOk result (λ more. AreSmall (totals_in more)) }
     ensures frames { OnOk result (game.new.frames ≤ game.old.frames + 1) }
 {
-    let taken = game.take(alloc, line, text, work)?;
+    let taken = game.take(alloc, line, trace, work)?;
     Ok(game.counts(&taken))
 }

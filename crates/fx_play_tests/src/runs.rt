@@ -11,9 +11,12 @@ use std::test::Fail;
 
 const SCENE: &str = "<?import javafx.scene.layout.*?>\n<Pane prefWidth=\"4\" prefHeight=\"2\"/>";
 
-/// A run over a scene and a script, with the calls of the shelf and the sink that fail.
+const FILES: &str = "s.fxml s.txt";
+
+/// A run beside a scene and a script, with the calls of the shelf and the sink that fail.
 #[derive(Drop)]
 struct Trial<'a> {
+    words: &'a str,
     script: &'a str,
     failing_fetches: &'a [u64],
     failing_puts: &'a [(u64, usize)],
@@ -33,8 +36,9 @@ fn played<L: Ledgers>(
     requires painted { (painted.name ≡ L.painted_name) × (painted.parts ≡ 1) }
 {
     let mut words = Vec::new(alloc);
-    words.push(String::from_str(alloc, "s.fxml")?)?;
-    words.push(String::from_str(alloc, "s.txt")?)?;
+    for word in trial.words.split(' ') {
+        words.push(String::from_str(alloc, word)?)?;
+    }
     let mut files = Vec::new(alloc);
     files.push((
         String::from_str(alloc, "s.fxml")?,
@@ -54,8 +58,9 @@ fn played<L: Ledgers>(
 #[test]
 fn plays_worked_runs(rt: HostRuntime) -> Result<(), Fail> {
     let alloc = rt.alloc();
-    let rows: [(&str, &[u64], &[(u64, usize)], Status, &str); 4] = [
+    let rows: [(&str, &str, &[u64], &[(u64, usize)], Status, &str); 5] = [
         (
+            FILES,
             "get root.x\n",
             &[],
             &[],
@@ -63,9 +68,19 @@ fn plays_worked_runs(rt: HostRuntime) -> Result<(), Fail> {
             "refused 1 unknown\n",
         ),
         // A third fetch would fail: the script and the scene are fetched once.
-        ("", &[3], &[], Status::Done, ""),
-        ("pulse", &[1], &[], Status::ReadFault, ""),
+        (FILES, "", &[3], &[], Status::Done, ""),
+        (FILES, "pulse", &[1], &[], Status::ReadFault, ""),
+        // A first fetch would fail: a demo fetches nothing.
         (
+            "demo:1 --summary",
+            "pulse",
+            &[1],
+            &[],
+            Status::Done,
+            "summary 20 78348 17 25754767047204\n",
+        ),
+        (
+            FILES,
             "say one\nsay two\n",
             &[],
             &[(3, 3)],
@@ -73,8 +88,9 @@ fn plays_worked_runs(rt: HostRuntime) -> Result<(), Fail> {
             "say one\nsay",
         ),
     ];
-    for (script, failing_fetches, failing_puts, status, written) in rows {
+    for (words, script, failing_fetches, failing_puts, status, written) in rows {
         let trial = Trial {
+            words,
             script,
             failing_fetches,
             failing_puts,
@@ -87,8 +103,8 @@ fn plays_worked_runs(rt: HostRuntime) -> Result<(), Fail> {
             Blank::new(1),
             Blank::new(1),
         )?;
-        assert_eq!(rt; bytes.as_slice(), written.as_bytes(), "{script}");
-        assert!(rt; answer == status, "{script}");
+        assert_eq!(rt; bytes.as_slice(), written.as_bytes(), "{words} {script}");
+        assert!(rt; answer == status, "{words} {script}");
     }
     Ok(())
 }

@@ -23,7 +23,7 @@ folded_is digits = folded_behind 0 digits ∙ number_behind_is 0 digits ∙ omeg
 pub all_folded : (digits : List ℕ) (i : ℕ) → length digits ≤ i → fold more 0 (take i digits) ≡ number_of_digits digits
 all_folded digits i h = ap (fold more 0) (take_all i digits h) ∙ folded_is digits
 
-first_digit : (c : ℕ) → not (eqb c 48) ≡ true → is_ascii_digit c ≡ true → 1 ≤ c - 48
+pub first_digit : (c : ℕ) → not (eqb c 48) ≡ true → is_ascii_digit c ≡ true → 1 ≤ c - 48
 first_digit c some digit = let q = and_parts (leb 48 c) (leb c 57) digit in grind (arith, nat_tests, some, q.0, q.1)
 
 not_le : (n m : ℕ) → m < n → leb n m ≡ false

@@ -1,5 +1,5 @@
 -- The command line: how its words are put together, and what they ask for.
-use Rattle.std.specs.Prelude.{◌≡◌, ℕ, Bool, true, false, ◌+◌, ◌||◌, List, [], ◌∷◌, ◌++◌, All, Option, Some, None, codes, drop, nat_eq, not, if◌then◌else◌}
+use Rattle.std.specs.Prelude.{◌≡◌, ◌≤◌, ℕ, Bool, true, false, ◌+◌, ◌||◌, List, [], ◌∷◌, ◌++◌, All, Option, Some, None, codes, drop, nat_eq, not, if◌then◌else◌}
 use Rattle.std.specs.List.{flat_map, fold, starts_with}
 use Rattle.std.specs.Option.{option_map}
 use Rattle.std.specs.Str.{bytes_eq}
@@ -97,6 +97,11 @@ files_of scene (script ∷ sheets) = Some (Files scene script sheets)
 abbrev pub source_of : List Word → Option Source
 source_of [] = None
 source_of (scene ∷ words) = if is_demo scene then demo_of scene words else files_of scene words
+
+-- a demo has from 1 to 3,600 labels
+abbrev pub IsNumbered : Source → Type 0
+IsNumbered (Demo number) = (1 ≤ number) × (number ≤ 3600)
+IsNumbered (Files scene script sheets) = Unit {0}
 
 -- no size, or one that is of the form
 abbrev pub size_asked : List (Option Size) → Option (Option Size)

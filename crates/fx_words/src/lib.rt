@@ -2,7 +2,8 @@
 //! It stands between the program's words and the files that are fetched.
 #![tactic(auto)]
 
-ghost use Rattle.std.specs.Prelude.{◌≡◌, IfOk};
+ghost use Rattle.std.specs.Prelude.{◌≡◌, IfOk, IfSome};
+ghost use Rattle.fx_words.specs.Asking.{IsNumbered};
 ghost use Rattle.fx_words.specs.Reading.{accept, texts};
 
 mod arguments;
@@ -25,7 +26,8 @@ pub const USAGE: &str = "usage: fxplay SCENE SCRIPT [SHEET..] [--size WxH] \
 /// The run that the words behind the program's name ask for, if they ask for one.
 #[tactic(auto, unfolding(crate::specs::Reading::accept))]
 pub fn accept(alloc: Global, words: &[String]) -> Result<Option<Run>, AllocError>
-    ensures { IfOk result (λ run. run ≡ accept (texts words.now)) }
+    ensures run { IfOk result (λ run. run ≡ accept (texts words.now)) }
+    ensures numbered { IfOk result (λ run. IfSome run (λ asked. IsNumbered asked.source)) }
 {
     match read_arguments(alloc, words)? {
         Some(arguments) => Ok(run_of(arguments)),

@@ -5,24 +5,21 @@
 mod exits;
 mod start;
 
-use exits::exit_code;
 use fx_edge::{FileShelf, OutSink};
-use fx_play::Status;
-use start::start;
+use start::{Ending, start};
 use std::alloc::AllocError;
 use std::marker::Brand;
-use std::process::ExitCode;
 use std::rt::Env;
 use std::sync::ledger::Blank;
 use std::{env, io};
 
-fn main(rt: HostRuntime) -> ExitCode {
+fn main(rt: HostRuntime) -> Ending {
     let Ok(words) = words_of(&rt) else {
-        return exit_code(Status::NoMemory);
+        return Ending::without_memory();
     };
     let mut shelf = FileShelf::new(&rt);
     let mut out = OutSink::new(rt.stdout());
-    exit_code(start::<FileShelf<'_, HostRuntime>, _, Brand>(
+    start::<FileShelf<'_, HostRuntime>, _, Brand>(
         rt.alloc(),
         words.as_slice(),
         &mut shelf,
@@ -31,7 +28,7 @@ fn main(rt: HostRuntime) -> ExitCode {
         Blank::new(1),
         Blank::new(1),
         Blank::new(1),
-    ))
+    )
 }
 
 /// The words after the program's name; none where one of them isn't UTF-8, which asks for no run.

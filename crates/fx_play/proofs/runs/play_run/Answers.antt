@@ -1,7 +1,7 @@
 -- files that weren't loaded, and a run whose files are
 use Rattle.fx_load.specs.Loads.{loaded_of}
 use Rattle.fx_load_parts.specs.Views.{run_of}
-use Rattle.fx_play.proofs.RunLemmas.{loaded_played, not_loaded}
+use Rattle.fx_play.proofs.RunLemmas.{loaded_played, never_idle, not_loaded}
 use Rattle.fx_play.proofs.runs.play_run.Goals as goal
 
 pub returns-in-Err-clause-played : goal.returns-in-Err-clause-played
@@ -21,3 +21,7 @@ returns-clause-played g c =
     (shelf.faults c.args.shelf.now) (shelf.faults c.load.new.shelf) (loaded_of c.in-Ok.loaded)
     (sink.faults c.args.out.now) (sink.faults c.play_loaded.new.out) (sink.written c.args.out.now)
     (sink.written c.play_loaded.new.out) c.play_loaded.result c.in-Ok.ensures.says c.play_loaded.ensures
+
+pub returns-clause-idle : goal.returns-clause-idle
+returns-clause-idle g c idle =
+    absurd (never_idle c.play_loaded.result c.play_loaded.ensures.usage c.play_loaded.ensures.read idle)

@@ -6,4 +6,5 @@ use Rattle.fx_play.proofs.top.play.Goals as goal
 
 pub returns-in-Ok-clause-within : goal.returns-in-Ok-clause-within
 returns-in-Ok-clause-within g c =
-    within_as (g.F.Shelf.held c.args.shelf.now) (c.plan_of.ensures ∙ ap plan_of c.in-Ok.ensures) c.play_plan.ensures.played.within
+    within_as (g.F.Shelf.held c.args.shelf.now) (c.plan_of.ensures.plan ∙ ap plan_of c.in-Ok.ensures.run)
+    c.play_plan.ensures.played.within

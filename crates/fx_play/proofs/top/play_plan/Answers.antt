@@ -1,4 +1,4 @@
--- what isn't built, and where no run is asked for
+-- a demo, what isn't built, and where no run is asked for
 use Rattle.std.proofs.Common.{subst, sym}
 use Rattle.fx_load_parts.specs.Views.{fault_of}
 use Rattle.fx_play.specs.Ends.{IsPlayed}
@@ -6,6 +6,17 @@ use Rattle.fx_play.specs.Plans.{plan_view}
 use Rattle.fx_play.specs.declared.plans.Plan.{Plan}
 use Rattle.fx_play.proofs.RunLemmas.{refused, usage_shown}
 use Rattle.fx_play.proofs.top.play_plan.Goals as goal
+
+pub returns-in-PlaysDemo-clause-played : goal.returns-in-PlaysDemo-clause-played
+returns-in-PlaysDemo-clause-played g c =
+    let shelf = g.F.Shelf in
+    let sink = g.O.Sink in
+    let IsSo : Plan → Type 0 =
+    λ plan. IsPlayed (plan_view plan) (shelf.held c.args.shelf.now) (shelf.faults c.args.shelf.now)
+    (shelf.faults c.args.shelf.now) (sink.faults c.args.out.now) (sink.faults c.play_demo.new.out)
+    (sink.written c.args.out.now) (sink.written c.play_demo.new.out) c.play_demo.result in
+    subst IsSo (sym c.in-PlaysDemo.is)
+    (c.play_demo.ensures.played (shelf.held c.args.shelf.now) (shelf.faults c.args.shelf.now) (shelf.faults c.args.shelf.now))
 
 pub returns-in-Refuses-clause-played : goal.returns-in-Refuses-clause-played
 returns-in-Refuses-clause-played g c =

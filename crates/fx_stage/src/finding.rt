@@ -77,7 +77,7 @@ impl Stage {
 
     /// The property of this path, or the word for why there is none.
     #[tactic(auto, unfolding(fx_stage_model::specs::Looking::find))]
-    pub(crate) fn find_property(&self, path: &[Text]) -> Result<Name, Refusal>
+    pub fn find_property(&self, path: &[Text]) -> Result<Name, Refusal>
         ensures { result ≡ spec.find self.now path.now }
     {
         match path {

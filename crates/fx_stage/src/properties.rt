@@ -2,13 +2,14 @@
 ghost use Rattle.std.specs.Prelude.{◌≡◌, false};
 ghost use Rattle.fx_graph_model.specs.Refusals.{kind_at};
 ghost use Rattle.fx_graph_model.specs.Uses.{unknown_in};
+ghost use Rattle.fx_store_model.specs.declared.changes.Change.TheVariants.{Set};
 ghost use Rattle.fx_store_model.specs.Laws.{takes_away};
 ghost use Rattle.fx_store_model.specs.Step.{IsFit};
 ghost use Rattle.fx_stage_model.specs.Properties as spec;
 ghost use Rattle.fx_stage_model.specs.Taking.{IsTaken};
 
 use crate::stage::Stage;
-use fx_base::{Kind, Ledgers, Name, Text, Work};
+use fx_base::{Kind, Ledgers, Name, Text, Value, Work};
 use fx_stage_types::{Outcome, Refusal, StageError};
 use fx_stage_words::{read, told, told_value};
 use fx_store_model::Change;
@@ -55,8 +56,21 @@ impl Stage {
         self.change_store(alloc, Change::Set(name, value), work)
     }
 
+    /// The property, and all that are joined with it, have this value from now on.
+    pub fn animate<L: Ledgers>(
+        &mut self,
+        alloc: Global,
+        name: Name,
+        value: Value,
+        work: &mut Work<L>,
+    ) -> Result<Outcome, StageError>
+        ensures { IsTaken (spec.changed (Set name value) self.old) self.old self.new result }
+    {
+        self.change_store(alloc, Change::Set(name, value), work)
+    }
+
     /// The kind of a property, which is known.
-    fn kind_of(&self, name: Name) -> Kind
+    pub fn kind_of(&self, name: Name) -> Kind
         ensures { unknown_in self.now.store.entries name.0 ≡ false
             → result ≡ kind_at self.now.store.entries name.0 }
     {

@@ -131,8 +131,8 @@ impl View {
         &self.pixels[start..start + self.width as usize]
     }
 
-    /// Shows the pixels from column `x` of row `y` on.
-    pub(crate) fn put(&mut self, x: u32, y: u32, pixels: &[u32])
+    /// Shows the pixels from column `x` of row `y` on, and sends nothing.
+    pub fn put(&mut self, x: u32, y: u32, pixels: &[u32])
         requires { Lies self.old x y (length pixels.now) }
         ensures { self.new ≡ with_pixels self.old x y pixels.now }
     {
@@ -140,14 +140,16 @@ impl View {
         replace(self.pixels.as_mut_slice(), start, pixels);
     }
 
-    pub(crate) fn holds(&self, x: u32, y: u32, count: usize) -> bool
+    /// Whether so many pixels from column `x` of row `y` on lie within the picture.
+    pub fn holds(&self, x: u32, y: u32, count: usize) -> bool
         ensures { result ≡ lies self.now x y count }
     {
         y < self.height && x <= self.width && count <= (self.width - x) as usize
     }
 
-    /// What is true of every view.
-    pub(crate) fn laws(&self)
+    /// What is true of every view: it has as many pixels as its size says, and no more than 2,048 columns and rows.
+    pub fn laws(&self)
+        ensures full { length self.now.pixels ≡ self.now.height * self.now.width }
         ensures narrow { self.now.width ≤ 2048 }
         ensures low { self.now.height ≤ 2048 }
     {

@@ -10,7 +10,8 @@ use Rattle.fx_delta.specs.Lines.{Item, frame_in, frame_of, is_number, is_rectang
 use Rattle.fx_delta.specs.Pictures.{Picture, begun, image, is_size, lies, with_pixels}
 use Rattle.fx_delta.specs.Rows.{pixel_text, pixels_text}
 use Rattle.fx_delta.specs.Stream.{Flaw, Screen, Step, after_frame, after_item, after_line, begins, copied, is_line_feed, no_rectangle, outside, stray}
-use Rattle.fx_delta_laws.specs.Streams.{Area, Frame, IsArea, IsBetween, IsFrame, IsItem, area_line, ended, frame_line}
+use Rattle.fx_delta.specs.Items.{ended}
+use Rattle.fx_delta_laws.specs.Streams.{Area, Frame, IsArea, IsBetween, IsFrame, IsItem, area_line, frame_line}
 use Rattle.fx_delta_laws.proofs.NumberLemmas.{above-append, above-decimal, are_above, is_number-decimal, none_at, number_of-decimal}
 use Rattle.fx_delta_laws.proofs.PixelLemmas.{above-pixel, pixels_of-texts, words-pixels}
 

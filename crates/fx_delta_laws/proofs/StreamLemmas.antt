@@ -8,11 +8,12 @@ use Rattle.std.proofs.lemmas.List.Elements.{All-head, All-tail}
 use Rattle.std.proofs.lemmas.List.Splits.{slice_split_at}
 use Rattle.fx_text.specs.Characters.{line_feed}
 use Rattle.fx_base.specs.Pixel.{white}
+use Rattle.fx_delta.specs.Items.{ended, item_text, items_text, with_items}
 use Rattle.fx_delta.specs.Lines.{Item, item_line}
 use Rattle.fx_delta.specs.Pictures.{Picture, begun, image, no_picture, shows, with_pixels}
 use Rattle.fx_delta.specs.Stream.{Flaw, Screen, Shown, Step, after_line, first_screen, is_line_feed, shown, shown_from, shown_parts, told}
 use Rattle.fx_delta.proofs.PictureLemmas.{with_pixels-same}
-use Rattle.fx_delta_laws.specs.Streams.{Area, Frame, IsArea, IsBetween, IsFrame, IsItem, IsPart, Part, area_line, ended, frame, frame_line, frame_picture, frames_of, head, item_text, items_text, line, stream_of, with_items}
+use Rattle.fx_delta_laws.specs.Streams.{Area, Frame, IsArea, IsBetween, IsFrame, IsItem, IsPart, Part, area_line, frame, frame_line, frame_picture, frames_of, head, line, stream_of}
 use Rattle.fx_delta_laws.proofs.LineLemmas.{after-area, after-between, after-end, after-frame, after-item, area-one, end-one, frame-one, item-one, screen, step}
 
 -- what is shown of a text from a line on

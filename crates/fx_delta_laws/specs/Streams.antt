@@ -1,10 +1,11 @@
 -- The stream that a view writes, and the frames that it shows.
-use Rattle.std.specs.Prelude.{ℕ, ◌≡◌, ◌<◌, ◌≤◌, ◌+◌, ◌^◌, true, false, List, [], ◌∷◌, ◌++◌, All, codes, length, if◌then◌else◌}
+use Rattle.std.specs.Prelude.{ℕ, ◌≡◌, ◌<◌, ◌≤◌, ◌+◌, ◌^◌, true, false, List, [], ◌∷◌, ◌++◌, All, codes, length}
 use Rattle.std.specs.Fmt.{decimal}
 use Rattle.std.specs.List.{flat_map}
-use Rattle.fx_text.specs.Characters.{line_feed, space}
-use Rattle.fx_delta.specs.Lines.{Item, item_line}
-use Rattle.fx_delta.specs.Pictures.{Picture, begun, image, is_size, shows, with_pixels}
+use Rattle.fx_text.specs.Characters.{space}
+use Rattle.fx_delta.specs.Items.{ended, items_text, with_items}
+use Rattle.fx_delta.specs.Lines.{Item}
+use Rattle.fx_delta.specs.Pictures.{Picture, begun, image, is_size}
 use Rattle.fx_delta.specs.Stream.{begins, is_line_feed}
 
 -- a damaged rectangle
@@ -27,9 +28,6 @@ pub data Part : Type 0 where
   line : List ℕ → Part
   frame : Frame → Part
 
-abbrev pub ended : List ℕ → List ℕ
-ended text = text ++ (line_feed ∷ [])
-
 -- `frame N W H damage K`
 unfoldable pub frame_line : Frame → List ℕ
 frame_line f =
@@ -43,19 +41,6 @@ area_line a = decimal a.x ++ (space ∷ (decimal a.y ++ (space ∷ (decimal a.w 
 -- what stands before a frame's row items
 abbrev pub head : Frame → List ℕ
 head f = ended (frame_line f) ++ flat_map (λ (a : Area). ended (area_line a)) f.areas
-
--- an item is written unless its pixels are shown already
-abbrev pub item_text : Picture → Item → List ℕ
-item_text picture i = if shows picture i.x i.y i.pixels then [] else ended (item_line i)
-
-abbrev pub items_text : Picture → List Item → List ℕ
-items_text picture [] = []
-items_text picture (i ∷ is) = item_text picture i ++ items_text (with_pixels picture i.x i.y i.pixels) is
-
--- the picture with the pixels of all items
-abbrev pub with_items : Picture → List Item → Picture
-with_items picture [] = picture
-with_items picture (i ∷ is) = with_items (with_pixels picture i.x i.y i.pixels) is
 
 -- the picture at the end of a frame
 abbrev pub frame_picture : Picture → Frame → Picture

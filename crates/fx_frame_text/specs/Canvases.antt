@@ -3,7 +3,7 @@ use Rattle.std.specs.Prelude.{◌≡◌, ◌<◌, ℕ, false}
 use Rattle.fx_canvas.specs.Surfaces.{Surface, row_at}
 use Rattle.fx_frame_text.specs.Frames.{Image}
 use Rattle.fx_frame_text.specs.declared.forms.Form.{Form}
-use Rattle.fx_frame_text.specs.declared.forms.Form.TheVariants.{Text, Ppm, Nothing}
+use Rattle.fx_frame_text.specs.declared.forms.Form.TheVariants.{Text, Ppm, Nothing, Delta}
 
 abbrev pub image_on : Surface → Image
 image_on surface =
@@ -18,3 +18,4 @@ abbrev pub IsFresh : Form → Surface → Type 0
 IsFresh Text surface = AreTold surface
 IsFresh Ppm surface = Unit {0}
 IsFresh Nothing surface = Unit {0}
+IsFresh Delta surface = Unit {0}

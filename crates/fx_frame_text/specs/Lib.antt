@@ -1,2 +1,3 @@
 pub mod Canvases
 pub mod Frames
+pub mod Writers

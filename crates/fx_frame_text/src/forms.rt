@@ -9,4 +9,6 @@ pub enum Form {
     Ppm,
     /// Not at all.
     Nothing,
+    /// By the rows of its damage that a viewer of the frames doesn't show yet, and `endframe`.
+    Delta,
 }

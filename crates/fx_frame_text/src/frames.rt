@@ -1,38 +1,30 @@
-//! A frame's lines, and behind them its image.
-ghost use Rattle.std.specs.Prelude.{◌≡◌, ◌<◌, ◌++◌, ℕ, IfOk, OnOk, false, length};
+//! What stands before the image of a frame.
+ghost use Rattle.std.specs.Prelude.{◌≡◌, ◌++◌, IfOk, OnOk};
 ghost use Rattle.std.specs.List.{flat_map};
-ghost use Rattle.fx_canvas.specs.Surfaces.{row_at};
-ghost use Rattle.fx_frame_text.specs.Canvases.{IsFresh, image_on};
-ghost use Rattle.fx_frame_text.specs.Frames.{frame_head, frame_text, head_line, rect_line};
+ghost use Rattle.fx_frame_text.specs.Frames.{frame_head, head_line, rect_line};
 ghost use Rattle.fx_port.specs.Causes.{HasCause};
 ghost use Rattle.fx_port.specs.Pieces.{Writes};
 ghost use Rattle.fx_port.specs.declared.pieces.PutError.TheVariants.{Failed};
 
-use crate::forms::Form;
-use crate::images::put_image;
 use fx_base::Rect;
 use fx_canvas::Canvas;
 use fx_port::{PutError, Sink};
 use std::alloc::{AllocError, Global};
 
-/// Writes the frame of this number: the line that tells it, a line for each rectangle of its damage, and what the
-/// canvas shows, in this form. Rows of text are those that the canvas keeps, so none of them may be stale.
-pub fn put_frame<O: Sink>(
+/// Writes the line that tells the frame of this number, and a line for each rectangle of its damage.
+pub(crate) fn put_head<O: Sink>(
     alloc: Global,
-    form: Form,
     number: u64,
     damage: &[Rect],
     canvas: &Canvas,
     out: &mut O,
 ) -> Result<(), PutError>
-    requires fresh { IsFresh form canvas.now }
     ensures cause { HasCause Failed (O.faults out.old) (O.faults out.new) result }
     ensures writes { Writes (O.written out.old) (O.written out.new) result
-        (frame_text form number damage.now (image_on canvas.now)) }
+        (frame_head number canvas.now.width canvas.now.height damage.now) }
 {
     let head = head_text(alloc, number, canvas, damage)?;
-    out.put(head.as_slice())?;
-    put_image(alloc, form, canvas, out)
+    out.put(head.as_slice())
 }
 
 fn head_text(

@@ -1,39 +1,19 @@
 //! The image of a frame, row by row.
 ghost use Rattle.std.specs.Prelude.{◌≡◌, ◌<◌, ◌++◌, IfOk, OnOk};
 ghost use Rattle.std.specs.List.{flat_map};
-ghost use Rattle.fx_frame_text.specs.Canvases.{AreTold, IsFresh, image_on};
-ghost use Rattle.fx_frame_text.specs.Frames.{image_text, pixel_bytes, ppm_header, rows_in};
+ghost use Rattle.fx_frame_text.specs.Canvases.{AreTold, image_on};
+ghost use Rattle.fx_frame_text.specs.Frames.{pixel_bytes, ppm_header, rows_in};
 ghost use Rattle.fx_frame_text.specs.declared.forms.Form.TheVariants as form;
 ghost use Rattle.fx_port.specs.Causes.{HasCause};
 ghost use Rattle.fx_port.specs.Pieces.{Writes};
 ghost use Rattle.fx_port.specs.declared.pieces.PutError.TheVariants.{Failed};
 
-use crate::forms::Form;
 use fx_canvas::Canvas;
 use fx_port::{PutError, Sink};
 use std::alloc::{AllocError, Global};
 
-/// Writes what the canvas shows.
-pub(crate) fn put_image<O: Sink>(
-    alloc: Global,
-    form: Form,
-    canvas: &Canvas,
-    out: &mut O,
-) -> Result<(), PutError>
-    requires fresh { IsFresh form canvas.now }
-    ensures cause { HasCause Failed (O.faults out.old) (O.faults out.new) result }
-    ensures writes { Writes (O.written out.old) (O.written out.new) result
-        (image_text form (image_on canvas.now)) }
-{
-    match form {
-        Form::Text => put_lines(canvas, out),
-        Form::Ppm => put_pixmap(alloc, canvas, out),
-        Form::Nothing => Ok(()),
-    }
-}
-
 /// Writes the rows' texts.
-fn put_lines<O: Sink>(canvas: &Canvas, out: &mut O) -> Result<(), PutError>
+pub(crate) fn put_lines<O: Sink>(canvas: &Canvas, out: &mut O) -> Result<(), PutError>
     requires told { AreTold canvas.now }
     ensures cause { HasCause Failed (O.faults out.old) (O.faults out.new) result }
     ensures writes { Writes (O.written out.old) (O.written out.new) result
@@ -45,7 +25,12 @@ fn put_lines<O: Sink>(canvas: &Canvas, out: &mut O) -> Result<(), PutError>
     Ok(())
 }
 
-fn put_pixmap<O: Sink>(alloc: Global, canvas: &Canvas, out: &mut O) -> Result<(), PutError>
+/// Writes the canvas as a binary Netpbm pixmap.
+pub(crate) fn put_pixmap<O: Sink>(
+    alloc: Global,
+    canvas: &Canvas,
+    out: &mut O,
+) -> Result<(), PutError>
     ensures cause { HasCause Failed (O.faults out.old) (O.faults out.new) result }
     ensures writes { Writes (O.written out.old) (O.written out.new) result
         (ppm_header canvas.now.width canvas.now.height ++ rows_in form.Ppm (image_on canvas.now)) }

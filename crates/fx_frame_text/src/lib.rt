@@ -1,11 +1,13 @@
 //! Frames as output: the line that tells a frame, its damage, and its image in each form.
 #![tactic(auto)]
 
+mod changes;
 mod forms;
 mod frames;
 mod images;
 mod sums;
+mod writers;
 
 pub use forms::Form;
-pub use frames::put_frame;
 pub use sums::canvas_sum;
+pub use writers::FrameWriter;

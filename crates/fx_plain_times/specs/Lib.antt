@@ -1,0 +1,4 @@
+pub mod Clocks
+pub mod Lines
+pub mod Ticks
+pub mod Times

@@ -12,7 +12,7 @@ use Rattle.fx_port.specs.Files.{Files}
 use Rattle.fx_port.specs.Pieces.{GrewByPrefix, grown}
 use Rattle.fx_scene_flaws.specs.declared.flaws.Fault.{Fault as SceneFault}
 use Rattle.fx_script_commands.specs.Requests.{Numbered}
-use Rattle.fx_plain.specs.CommandLine.{Plan, Plays, PlaysDemo, Refuses, ShowsUsage, usage_line}
+use Rattle.fx_plain.specs.CommandLine.{Plan, Plays, PlaysDemo, ShowsUsage, usage_line}
 use Rattle.fx_plain.specs.Demos.{demo_files, demo_run}
 use Rattle.fx_plain.specs.declared.answers.Status.{Status}
 use Rattle.fx_plain.specs.declared.answers.Status.TheVariants.{Done, Usage, Refused, ReadFault, WriteFault, NoMemory}
@@ -61,14 +61,12 @@ pub data IsOutputOfRun (run : Run) (manner : Manner) (files : Files) (extent : E
 abbrev pub IsOutput : Plan → Files → Extent → Output → Type 0
 IsOutput (Plays run manner) files extent out = IsOutputOfRun run manner files extent out
 IsOutput (PlaysDemo number manner) files extent out = IsOutputOfRun demo_run manner (demo_files number) extent out
-IsOutput (Refuses fault) files extent out = out ≡ refused_with fault
 IsOutput ShowsUsage files extent out = out ≡ usage_told
 
 -- the files that a run is over: those that the shelf tells, and any where nothing is fetched
 abbrev pub IsOver : Option Files → Plan → Files → Type 0
 IsOver told (Plays run manner) files = told ≡ Some files
 IsOver told (PlaysDemo number manner) files = Unit {0}
-IsOver told (Refuses fault) files = Unit {0}
 IsOver told ShowsUsage files = Unit {0}
 
 -- the run came to its end

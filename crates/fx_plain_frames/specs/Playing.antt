@@ -1,13 +1,16 @@
 -- What the lines of a script tell, one after another.
-use Rattle.std.specs.Prelude.{◌≡◌, ℕ, Bool, true, false, List, [], ◌∷◌, length}
+use Rattle.std.specs.Prelude.{◌≡◌, ℕ, Bool, true, false, List, [], ◌∷◌, length, Option, Some, None, if◌then◌else◌}
 use Rattle.fx_frame_text.specs.declared.forms.Form.{Form}
 use Rattle.fx_plain_dispatch.specs.Settling.{IsSettledWhole}
 use Rattle.fx_plain_dispatch.specs.Taking.{IsLine}
+use Rattle.fx_plain_explain.specs.Explaining.{IsExplainLine}
 use Rattle.fx_plain_steps.specs.Courses.{Course}
+use Rattle.fx_plain_steps.specs.Lines.{Step}
 use Rattle.fx_plain_steps.specs.Told.{Told, lines_told}
+use Rattle.fx_plain_times.specs.Lines.{is_time_line, time_step}
 use Rattle.fx_script_commands.specs.Requests.{Numbered, Request, asks}
 use Rattle.fx_script_lines.specs.declared.instructions.Instruction.{Instruction}
-use Rattle.fx_script_lines.specs.declared.instructions.Instruction.TheVariants.{Pulse}
+use Rattle.fx_script_lines.specs.declared.instructions.Instruction.TheVariants.{Explain, Pulse}
 use Rattle.fx_plain_frames.specs.Games.{Game, entries_in, with_world}
 use Rattle.fx_plain_frames.specs.Pulses.{IsPulsed, Pulsed, course_behind, told_of}
 
@@ -19,6 +22,20 @@ unfoldable pub is_pulse : Request → Bool
 is_pulse (asks instruction) = is_pulse_line instruction
 is_pulse other = false
 
+-- the line, if it is one on timelines
+unfoldable pub time_line : Request → Option Instruction
+time_line (asks instruction) = if is_time_line instruction then Some instruction else None
+time_line other = None
+
+-- the path of a node and the name of a property, if the line asks why the property is as it is
+abbrev pub explained_in : Instruction → Option (List (List ℕ) × List ℕ)
+explained_in (Explain path name) = Some (path, name)
+explained_in other = None
+
+unfoldable pub explained_by : Request → Option (List (List ℕ) × List ℕ)
+explained_by (asks instruction) = explained_in instruction
+explained_by other = None
+
 -- a frame is told, and then the actions run of the listeners that were told of the sizes
 pub record IsShown (form : Form) (number : ℕ) (before now : Game) (told : Told) : Type 0 where
   pub pulsed : Pulsed
@@ -27,7 +44,23 @@ pub record IsShown (form : Form) (number : ℕ) (before now : Game) (told : Told
   pub course : Course
   pub settled : IsSettledWhole number (course_behind drawn.world pulsed.notices) course
   pub after : now ≡ with_world course.world drawn
-  pub told_so : told ≡ told_of form drawn pulsed course
+  pub told_so : told ≡ told_of form before drawn pulsed course
+
+-- a line on timelines: what it makes of them, and then the actions of the listeners that were told of what it sets
+pub record IsTimed (number : ℕ) (instruction : Instruction) (before now : Game) (told : Told) : Type 0 where
+  pub course : Course
+  pub settled : IsSettledWhole number (time_step number instruction before.clock before.world).course course
+  pub after : now ≡ record (with_world course.world before) {
+    clock = (time_step number instruction before.clock before.world).clock;
+  }
+  pub told_so : told ≡ lines_told course.text (length course.heard)
+
+-- a line that asks why a property is as it is
+pub record IsExplained (number : ℕ) (asked : List (List ℕ) × List ℕ) (before now : Game) (told : Told) : Type 0 where
+  pub step : Step
+  pub explained : IsExplainLine number asked.0 asked.1 before.world step
+  pub after : now ≡ with_world step.world before
+  pub told_so : told ≡ lines_told step.text (length step.heard)
 
 -- any other line, which meets the last picture
 pub record IsStep (line : Numbered) (before now : Game) (told : Told) : Type 0 where
@@ -36,9 +69,17 @@ pub record IsStep (line : Numbered) (before now : Game) (told : Told) : Type 0 w
   pub after : now ≡ with_world course.world before
   pub told_so : told ≡ lines_told course.text (length course.heard)
 
+-- a line that draws no frame
+abbrev pub IsToldOf
+    : Option Instruction → Option (List (List ℕ) × List ℕ) → Numbered → Game → Game → Told → Type 0
+IsToldOf (Some instruction) asked line before now told = IsTimed line.number instruction before now told
+IsToldOf None (Some asked) line before now told = IsExplained line.number asked before now told
+IsToldOf None None line before now told = IsStep line before now told
+
 abbrev pub IsToldBy : Bool → Form → Numbered → Game → Game → Told → Type 0
 IsToldBy true form line before now told = IsShown form line.number before now told
-IsToldBy false form line before now told = IsStep line before now told
+IsToldBy false form line before now told =
+    IsToldOf (time_line line.request) (explained_by line.request) line before now told
 
 -- what is told of a line, and the game behind it
 abbrev pub IsTold : Form → Numbered → Game → Game → Told → Type 0

@@ -1,6 +1,7 @@
 -- What a `pulse` makes and tells.
 use Rattle.std.specs.Prelude.{◌≡◌, ℕ, ◌+◌, ◌*◌, false, List, [], ◌∷◌, ◌++◌, length, Option, Some}
 use Rattle.std.specs.List.{sum_by}
+use Rattle.std.specs.Option.{option_map}
 use Rattle.fx_base.specs.declared.geometry.Rect.{Rect}
 use Rattle.fx_frame_text.specs.Frames.{Image, frame_text, image_of, pixel_sum}
 use Rattle.fx_frame_text.specs.declared.forms.Form.{Form}
@@ -79,10 +80,11 @@ course_behind world notices =
     }
 
 -- what is told of it: the frame, and then what the course behind it printed
-abbrev pub told_of : Form → Game → Pulsed → Course → Told
-told_of form now pulsed course =
+abbrev pub told_of : Form → Game → Game → Pulsed → Course → Told
+told_of form before now pulsed course =
     record {
-      text = frame_text form now.frames pulsed.damage (image_in pulsed.frame) ++ course.text;
+      text = frame_text form now.frames (option_map image_in before.last) pulsed.damage (image_in pulsed.frame)
+          ++ course.text;
       totals = record {
         frames = 1;
         area = sum_by area_of pulsed.damage;

@@ -1,5 +1,5 @@
 -- What a line of a script prints, whom it tells and what it makes of the world, frames and events aside.
-use Rattle.std.specs.Prelude.{ℕ, Bool, true, false, List, [], ◌++◌, codes, map, Option, Some, None, Result, Ok, Err, if◌then◌else◌}
+use Rattle.std.specs.Prelude.{ℕ, Bool, true, false, List, [], ◌++◌, map, Option, Some, None, Result, Ok, Err, if◌then◌else◌}
 use Rattle.fx_base.specs.declared.keys.Name.{Name}
 use Rattle.fx_base.specs.declared.values.Value.{Value}
 use Rattle.fx_script_commands.specs.Requests.{Request, asks, defines}
@@ -30,10 +30,6 @@ heard_in notices =
 abbrev pub printing : List ℕ → World → Step
 printing text world = record { text = text; heard = []; world = world }
 
--- a line that isn't carried out yet
-unfoldable pub not_built : ℕ → World → Step
-not_built number world = printing (refused_line number (codes "notbuilt")) world
-
 -- a line that the stage takes: what it makes and whom it tells, or the word that refuses it
 abbrev pub answered : ℕ → List (List ℕ) → Result Taken Refusal → World → Step
 answered number path (Ok taken) world =
@@ -49,7 +45,7 @@ unfoldable pub asked_by : Instruction → List (List ℕ)
 asked_by (line.Get path) = path
 asked_by other = []
 
--- The stage takes the line. Explanations and timelines aren't built yet.
+-- The stage takes the line. Event lines, frames, timelines and explanations are taken by others.
 unfoldable pub is_carried : Instruction → Bool
 is_carried (line.Explain path name) = false
 is_carried (line.Say text) = false
@@ -73,16 +69,16 @@ unfoldable pub saying : Instruction → Option (List ℕ)
 saying (line.Say text) = Some text
 saying other = None
 
--- a line that the stage doesn't take says something, or isn't built
-abbrev pub said_by : ℕ → Option (List ℕ) → World → Step
-said_by number None world = not_built number world
-said_by number (Some text) world = printing (said_line text) world
+-- a line that the stage doesn't take says something, or nothing
+abbrev pub said_by : Option (List ℕ) → World → Step
+said_by None world = printing [] world
+said_by (Some text) world = printing (said_line text) world
 
 unfoldable pub instruction_step : ℕ → ℕ → Instruction → World → Step
 instruction_step slot number instruction world =
     if is_carried instruction
     then answered number (asked_by instruction) (instructed slot instruction world) world
-    else said_by number (saying instruction) world
+    else said_by (saying instruction) world
 
 -- The line of this number. What it makes anew, a node or an owner, is kept in this slot.
 unfoldable pub line_step : ℕ → ℕ → Request → World → Step

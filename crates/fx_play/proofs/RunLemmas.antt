@@ -10,7 +10,7 @@ use Rattle.fx_load_parts.specs.Views.{fault_of}
 use Rattle.fx_load_parts.specs.declared.files.LoadError.{LoadError}
 use Rattle.fx_load_parts.specs.declared.files.LoadError.TheVariants as load
 use Rattle.fx_frame_text.specs.declared.forms.Form.{Form}
-use Rattle.fx_plain.specs.CommandLine.{Plan, Plays, PlaysDemo, Refuses, ShowsUsage, form_of, manner_of, plan_of, plan_with, played}
+use Rattle.fx_plain.specs.CommandLine.{Plan, Plays, PlaysDemo, ShowsUsage, manner_of, plan_of, played}
 use Rattle.fx_plain.specs.Demos.{demo_files, demo_run}
 use Rattle.fx_plain.specs.PlainPlayer.{IsAnswer, IsOutput, IsOutputOfLoaded, IsOver, IsWithin, Output, all_lines, files_at_fault, files_loaded, first_lines, nothing_written, part_written, refused_with, scene_at_fault, scene_fault, script_played, usage_told}
 use Rattle.fx_plain.specs.declared.answers.Status.{Status}
@@ -239,14 +239,6 @@ not_loaded run manner told fetches_old fetches_new puts_old puts_new old new ans
     subst (λ (status : Status). IsPlayed (Plays run manner) told fetches_old fetches_new puts_old puts_new old new status) (sym so.ends)
     (no_memory (Plays run manner) told fetches_old fetches_new puts_old puts_new old new so.same)
 
--- something that is asked for isn't built
-pub refused : (told : Option Files) (fetches_old fetches_new puts_old puts_new : ℕ) (old new : Option (List ℕ))
-    (answer : Status) (fault : Fault) → IsTold (refused_with fault) puts_old puts_new old new answer
-    → IsPlayed (Refuses fault) told fetches_old fetches_new puts_old puts_new old new answer
-refused told fetches_old fetches_new puts_old puts_new old new answer fault so =
-    plan_told (Refuses fault) told fetches_old fetches_new puts_old puts_new old new answer fault (λ same. cc)
-    (λ files over. refl) so
-
 -- no run is asked for
 pub usage_shown : (told : Option Files) (fetches_old fetches_new puts_old puts_new : ℕ) (old new : Option (List ℕ))
     (answer : Status) → IsTold usage_told puts_old puts_new old new answer
@@ -345,13 +337,9 @@ plays_something : (source : Source) (manner : Manner) → ¬ (played source mann
 plays_something (source.Demo number) manner e = cc
 plays_something (source.Files scene script sheets) manner e = cc
 
-shows_no_usage : (run : Asked) (form : Option Form) → ¬ (plan_with run form ≡ ShowsUsage)
-shows_no_usage run None e = cc
-shows_no_usage run (Some form) e = plays_something run.source (manner_of run form) e
-
 pub asks_for_none : (asked : Option Asked) → plan_of asked ≡ ShowsUsage → asked ≡ None
 asks_for_none None e = refl
-asks_for_none (Some run) e = absurd (shows_no_usage run (form_of run.frames) e)
+asks_for_none (Some run) e = absurd (plays_something run.source (manner_of run) e)
 
 pub asks_for_some : (asked : Option Asked) → ¬ (plan_of asked ≡ ShowsUsage) → IsSome asked
 asks_for_some None shows = absurd (shows refl)

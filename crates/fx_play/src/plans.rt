@@ -1,24 +1,20 @@
 //! What is played for the run that the words ask for.
-//! Between the words and the files: what isn't built yet is told here.
+//! It stands between the words and the files.
 ghost use Rattle.std.specs.Prelude.{◌≡◌, IfSome};
 ghost use Rattle.std.specs.Option.{option_map};
 ghost use Rattle.fx_plain.specs.CommandLine as spec;
 ghost use Rattle.fx_play.specs.Plans.{HasLabels, plan_view};
 ghost use Rattle.fx_words.specs.Asking.{IsNumbered};
 
-use crate::demos::DEMO_SCENE;
 use fx_frame_text::Form;
-use fx_load_parts::{FaultKind, FileFault, Run};
+use fx_load_parts::Run;
 use fx_plain_runs::Manner;
-use fx_scene_flaws::Flaw;
 use fx_words::{Frames, Size, Source};
 
-/// A run over files, and how it shows what it does; or the demo of so many labels; or what of a run isn't built; or no
-/// run.
+/// A run over files, and how it shows what it does; or the demo of so many labels; or no run.
 pub(crate) enum Plan<'a> {
     Plays(Run<'a>, Manner),
     PlaysDemo(u32, Manner),
-    Refuses(FileFault<'a>),
     ShowsUsage,
 }
 
@@ -39,10 +35,7 @@ fn plan_of_run(run: &fx_words::Run) -> Plan<'_>
     ensures plan { plan_view result ≡ spec.plan_of_run run.now }
     ensures labels { HasLabels (plan_view result) }
 {
-    let Some(form) = form_of(run.frames) else {
-        return not_built(&run.source);
-    };
-    played(&run.source, manner_of(run, form))
+    played(&run.source, manner_of(run))
 }
 
 fn played(source: &Source, manner: Manner) -> Plan<'_>
@@ -63,12 +56,12 @@ fn played(source: &Source, manner: Manner) -> Plan<'_>
     }
 }
 
-fn manner_of(run: &fx_words::Run, form: Form) -> Manner
-    ensures { result ≡ spec.manner_of run.now form }
+fn manner_of(run: &fx_words::Run) -> Manner
+    ensures { result ≡ spec.manner_of run.now }
 {
     Manner {
         window: window_of(run.size),
-        form,
+        form: form_of(run.frames),
         summary: run.summary,
     }
 }
@@ -82,28 +75,13 @@ fn window_of(size: Option<Size>) -> Option<(u32, u32)>
     }
 }
 
-fn not_built(source: &Source) -> Plan<'_>
-    ensures { plan_view result ≡ spec.not_built source.now }
-{
-    Plan::Refuses(FileFault::whole(FaultKind::Flawed(Flaw::NotBuilt), scene_name(source)))
-}
-
-fn form_of(frames: Frames) -> Option<Form>
+fn form_of(frames: Frames) -> Form
     ensures { result ≡ spec.form_of frames }
 {
     match frames {
-        Frames::Text => Some(Form::Text),
-        Frames::Ppm => Some(Form::Ppm),
-        Frames::Nothing => Some(Form::Nothing),
-        Frames::Delta => None,
-    }
-}
-
-fn scene_name(source: &Source) -> &str
-    ensures { result.now ≡ spec.scene_name source.now }
-{
-    match source {
-        Source::Demo(_) => DEMO_SCENE,
-        Source::Files(scene, _, _) => scene.as_str(),
+        Frames::Text => Form::Text,
+        Frames::Ppm => Form::Ppm,
+        Frames::Nothing => Form::Nothing,
+        Frames::Delta => Form::Delta,
     }
 }

@@ -9,7 +9,7 @@ ghost use Rattle.fx_play.specs.Ends.{IsIdle, IsPlayed};
 ghost use Rattle.fx_play.specs.Plans.{HasLabels, plan_view};
 ghost use Rattle.fx_words.specs.Reading.{accept, texts};
 
-use crate::endings::{tell_fault, tell_usage};
+use crate::endings::tell_usage;
 use crate::plans::{Plan, plan_of};
 use crate::runs::{play_demo, play_run};
 use fx_base::{Ledgers, Work};
@@ -79,7 +79,6 @@ fn play_plan<F: Shelf, O: Sink, L: Ledgers>(
     match plan {
         Plan::Plays(run, manner) => play_run(alloc, &run, manner, shelf, out, work),
         Plan::PlaysDemo(number, manner) => play_demo(alloc, number, manner, out, work),
-        Plan::Refuses(fault) => tell_fault(alloc, &fault, out),
         Plan::ShowsUsage => tell_usage(out),
     }
 }

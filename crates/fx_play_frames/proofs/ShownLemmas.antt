@@ -1,11 +1,16 @@
 -- What a canvas shows is its picture's image.
-use Rattle.std.proofs.Common.{◌≡◌, ◌<◌, ℕ, List, ◌++◌, Option, append_assoc, length, map, sym, ◌∙◌, ap, refl, zero-add, arith}
+use Rattle.std.proofs.Common.{◌≡◌, ◌<◌, ℕ, List, ◌++◌, OnOk, Option, Some, Result, Ok, Err, append_assoc, length, map, sym, ◌∙◌, ap, refl, zero-add, arith}
 use Rattle.std.specs.List.{range_with_len}
 use Rattle.fx_canvas.specs.Surfaces.{IsSurface, Surface, row_at}
 use Rattle.fx_canvas_laws.specs.Frames.{Shows}
 use Rattle.fx_frame_text.specs.Canvases.{image_on}
-use Rattle.fx_frame_text.specs.Frames.{image_of}
-use Rattle.fx_frame_text.proofs.AlikeLemmas.{AreAlike}
+use Rattle.fx_delta.specs.Pictures.{Picture}
+use Rattle.fx_frame_text.specs.Frames.{Image, image_of}
+use Rattle.fx_frame_text.specs.Writers.{Follows, IsBehind}
+use Rattle.fx_frame_text.specs.declared.forms.Form.{Form}
+use Rattle.fx_frame_text.specs.declared.forms.Form.TheVariants as form
+use Rattle.fx_frame_text.specs.declared.writers.FrameWriter.{FrameWriter}
+use Rattle.fx_frame_text.proofs.AlikeLemmas.{AreAlike, picture_alike}
 use Rattle.fx_picture.specs.Pixels.{pixel}
 use Rattle.fx_picture.specs.declared.entries.Entry.{Entry}
 use Rattle.fx_port.specs.Pieces.{GrewByPrefix}
@@ -39,3 +44,16 @@ part_of {old} {new} {front} text part = record {
   );
   told = part.told;
 }
+
+-- a writer that stands behind an image stands behind one that is alike
+behind_alike : (form : Form) (shown : Picture) {one other : Image} → AreAlike one other → IsBehind form shown (Some one)
+    → IsBehind form shown (Some other)
+behind_alike form.Text shown alike behind = tt
+behind_alike form.Ppm shown alike behind = tt
+behind_alike form.Nothing shown alike behind = tt
+behind_alike form.Delta shown alike behind = behind ∙ picture_alike alike
+
+pub follows_alike : {E : Type 0} (result : Result (Unit {0}) E) (writer : FrameWriter) {one other : Image} → AreAlike one other
+    → OnOk result (Follows writer (Some one)) → OnOk result (Follows writer (Some other))
+follows_alike (Ok done) writer alike behind = behind_alike writer.form writer.view alike behind
+follows_alike (Err error) writer alike behind = tt

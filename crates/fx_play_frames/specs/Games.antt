@@ -1,7 +1,9 @@
 -- A game as the plain player has it.
 use Rattle.fx_plain_frames.specs.Games.{Game as Played}
+use Rattle.fx_play_times.specs.Shown.{clock_of}
 use Rattle.fx_pulse.specs.Rendering.{last_frame}
 use Rattle.fx_play_frames.specs.declared.game.Game.{Game}
 
 abbrev pub game_of : Game → Played
-game_of g = record { world = g.stage; frames = g.frames; last = last_frame g.renderer }
+game_of g =
+    record { world = g.stage; clock = clock_of g.clock; frames = g.frames; last = last_frame g.renderer }

@@ -1,3 +1,4 @@
 pub mod Drawn
 pub mod Games
+pub mod Lines
 pub mod Takings

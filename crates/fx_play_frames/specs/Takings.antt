@@ -1,9 +1,12 @@
 -- What taking a line answers, and what is told of it.
 use Rattle.std.specs.Prelude.{◌≤ℤ◌, ℕ, pos, All, List, ◌++◌, Option, Some, None, IsSome}
 use Rattle.std.specs.List.{sum_by}
+use Rattle.std.specs.Option.{option_map}
 use Rattle.fx_base.specs.declared.geometry.Rect.{Rect}
 use Rattle.fx_frame_text.specs.Frames.{Image, frame_text, image_of, pixel_sum}
+use Rattle.fx_frame_text.specs.Writers.{Follows}
 use Rattle.fx_frame_text.specs.declared.forms.Form.{Form}
+use Rattle.fx_frame_text.specs.declared.writers.FrameWriter.{FrameWriter}
 use Rattle.fx_plain_frames.specs.Games.{Game}
 use Rattle.fx_plain_frames.specs.Pulses.{area_of, image_in}
 use Rattle.fx_plain_steps.specs.Told.{Told, Totals, lines_told}
@@ -31,14 +34,23 @@ frame_totals last shown =
       pixels = pixel_sum (image_last last);
     }
 
--- what is told of a line whose own text is this
-abbrev pub told_as : Form → Game → Taken → List ℕ → Told
-told_as form game (taken.Line notices) text = lines_told text notices
-told_as form game (taken.Frame shown) text =
+-- what is told of a line whose own text is this, where this was the last frame before it
+abbrev pub told_as : Form → Option Framed → Game → Taken → List ℕ → Told
+told_as form last game (taken.Line notices) text = lines_told text notices
+told_as form last game (taken.Frame shown) text =
     record {
-      text = frame_text form game.frames shown.damage.items (image_last game.last) ++ text;
+      text = frame_text form game.frames (option_map image_in last) shown.damage.items (image_last game.last) ++ text;
       totals = frame_totals game.last shown;
     }
+
+-- the last frame behind the line
+abbrev pub last_behind : Taken → Option Framed → Game → Option Framed
+last_behind (taken.Line notices) last game = last
+last_behind (taken.Frame shown) last game = game.last
+
+-- a writer of frames stands behind this one
+abbrev pub IsAt : FrameWriter → Option Framed → Type 0
+IsAt writer last = Follows writer (option_map image_in last)
 
 -- where a frame was made there is a last one
 abbrev pub HasFrame : Game → Taken → Type 0

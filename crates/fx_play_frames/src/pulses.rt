@@ -6,7 +6,7 @@ ghost use Rattle.fx_plain_dispatch.specs.Settling.{IsSettledWhole};
 ghost use Rattle.fx_plain_frames.specs.Pulses.{IsDrawn, course_behind, sizes_of as sizes};
 ghost use Rattle.fx_play_frames.specs.Drawn.{IsDrawnAs, pulsed_as};
 ghost use Rattle.fx_play_frames.specs.Games.{game_of};
-ghost use Rattle.fx_play_frames.specs.Takings.{HasFrame, IsSmallRect, IsSmallTaken, told_as};
+ghost use Rattle.fx_play_frames.specs.Takings.{HasFrame, IsSmallRect, IsSmallTaken, last_behind, told_as};
 ghost use Rattle.fx_play_steps.specs.Traces.{course_of};
 ghost use Rattle.fx_pulse.specs.Rendering.{last_frame};
 ghost use Rattle.fx_stage_facts.specs.Publishing.{AreOnce, IsPublished};
@@ -47,8 +47,10 @@ impl Game {
         requires few { self.old.frames < 2 ^ 64 - 1 }
         ensures shown { IfOk result (λ taken. (form : Image) →
             IsShown form number (game_of self.old) (game_of self.new)
-            (told_as form (game_of self.new) taken trace.new.text.items)) }
+            (told_as form (game_of self.old).last (game_of self.new) taken trace.new.text.items)) }
         ensures frame { IfOk result (HasFrame (game_of self.new)) }
+        ensures last { IfOk result (λ taken.
+            last_behind taken (game_of self.old).last (game_of self.new) ≡ (game_of self.new).last) }
         ensures small { IfOk result IsSmallTaken }
         ensures count { OnOk result (self.new.frames ≡ self.old.frames + 1) }
     {

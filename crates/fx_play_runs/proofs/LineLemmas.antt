@@ -19,12 +19,13 @@ use Rattle.fx_play_runs.specs.Lines.{IsLinePart, IsLineWhole, none_written, part
 -- of a line that is taken, a part is written
 pub part_told : {E : Type 0} (form : Form) (line : Numbered) (before now : Game) (taken : Taken) {text bytes : List ℕ}
     {old new : Option (List ℕ)} (result : Result (Unit {0}) E) → text ≡ bytes
-    → IsTold form line before now (told_as form now taken bytes) → Writes old new result (told_as form now taken text).text
+    → IsTold form line before now (told_as form before.last now taken bytes)
+    → Writes old new result (told_as form before.last now taken text).text
     → OnErr result (IsLinePart form line before old new)
 part_told form line before now taken (Ok done) same is writes = tt
 part_told form line before now taken {text} {bytes} {old} {new} (Err error) same is writes =
-    part_written now (told_as form now taken text)
-    (subst (λ (t : List ℕ). IsTold form line before now (told_as form now taken t)) (sym same) is) writes.err
+    part_written now (told_as form before.last now taken text)
+    (subst (λ (t : List ℕ). IsTold form line before now (told_as form before.last now taken t)) (sym same) is) writes.err
 
 -- the next line stands last where the order is turned
 next_line : (left rest : List Line) (line : Line) → left ≡ rest ++ (line ∷ [])

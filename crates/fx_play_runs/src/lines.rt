@@ -2,6 +2,7 @@
 ghost use Rattle.std.specs.Prelude.{◌≡◌, ◌≤◌, ◌<◌, ◌+◌, ◌-◌, ◌^◌, ℕ, List, OnErr, OnOk, Option, false, map, vec_len};
 ghost use Rattle.fx_plain_runs.specs.Runs.{IsPut};
 ghost use Rattle.fx_play_frames.specs.Games.{game_of};
+ghost use Rattle.fx_play_frames.specs.Takings.{IsAt};
 ghost use Rattle.fx_play_runs.specs.Lines.{IsLinePart, IsLineWhole};
 ghost use Rattle.fx_port.specs.Causes.{HasCause};
 ghost use Rattle.fx_port.specs.Pieces.{grown};
@@ -9,7 +10,7 @@ ghost use Rattle.fx_port.specs.declared.pieces.PutError.TheVariants.{Failed};
 ghost use Rattle.fx_script_commands.specs.Requests.{line_view};
 
 use fx_base::{Ledgers, Work};
-use fx_frame_text::Form;
+use fx_frame_text::FrameWriter;
 use fx_plain_runs::Manner;
 use fx_play_frames::{Game, put_told};
 use fx_play_steps::Trace;
@@ -55,10 +56,11 @@ fn put_each<O: Sink, L: Ledgers>(
         IsPut manner warnings (game_of game.old) (map line_view lines.items) begun (O.written out.new) result }
 {
     let mut trace = Trace::new(alloc);
+    let mut writer = FrameWriter::new(alloc, manner.form);
     let mut left = lines;
     left.reverse();
     while let Some(line) = left.pop() {
-        put_line(alloc, manner.form, game, line, &mut trace, out, work)?;
+        put_line(alloc, &mut writer, game, line, &mut trace, out, work)?;
     }
     Ok(())
 }
@@ -66,7 +68,7 @@ fn put_each<O: Sink, L: Ledgers>(
 /// Takes a line and writes what it tells; the trace is a buffer for that.
 fn put_line<O: Sink, L: Ledgers>(
     alloc: Global,
-    form: Form,
+    writer: &mut FrameWriter,
     game: &mut Game,
     line: Line,
     trace: &mut Trace,
@@ -74,13 +76,16 @@ fn put_line<O: Sink, L: Ledgers>(
     work: &mut Work<L>,
 ) -> Result<(), PutError>
     requires few { game.old.frames < 2 ^ 64 - 1 }
+    requires behind { IsAt writer.old (game_of game.old).last }
+    ensures form { writer.new.form ≡ writer.old.form }
     ensures cause { HasCause Failed (O.faults out.old) (O.faults out.new) result }
-    ensures done { OnOk result (IsLineWhole form (line_view line) (game_of game.old) (game_of game.new)
+    ensures done { OnOk result (IsLineWhole writer.old.form (line_view line) (game_of game.old) (game_of game.new)
         (O.written out.old) (O.written out.new)) }
-    ensures cut { OnErr result (IsLinePart form (line_view line) (game_of game.old) (O.written out.old)
+    ensures cut { OnErr result (IsLinePart writer.old.form (line_view line) (game_of game.old) (O.written out.old)
         (O.written out.new)) }
+    ensures behind { OnOk result (IsAt writer.new (game_of game.new).last) }
     ensures frames { OnOk result (game.new.frames ≤ game.old.frames + 1) }
 {
     let taken = game.take(alloc, line, trace, work)?;
-    put_told(alloc, form, game, &taken, trace.text.as_slice(), out)
+    put_told(alloc, writer, game, &taken, trace.text.as_slice(), out)
 }

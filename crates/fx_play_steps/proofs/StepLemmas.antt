@@ -1,6 +1,8 @@
 -- What a refusal tells of a line, and which step a line is.
-use Rattle.std.proofs.Common.{◌≡◌, inl, inr, ℕ, true, false, List, [], Result, Ok, Err, ap, sym, subst, refl}
+use Rattle.std.proofs.Common.{◌≡◌, ◌++◌, ◌∙◌, inl, inr, ℕ, true, false, List, [], None, Result, Ok, Err, ap, append-nil, sym, subst, refl}
 use Rattle.std.specs.declared.alloc.AllocError.{AllocError}
+use Rattle.fx_base.specs.declared.keys.Name.{Name}
+use Rattle.fx_plain_steps.specs.Courses.{after}
 use Rattle.fx_script_commands.specs.Requests.{Request, bad}
 use Rattle.fx_script_lines.specs.declared.instructions.Instruction.{Instruction}
 use Rattle.fx_stage_model.specs.Answers.{Taken}
@@ -42,7 +44,7 @@ refused_so number path word (Err other) world now before after result (same, inl
     word_is (made path world))
 
 pub step_other : (slot number : ℕ) (instruction : Instruction) (world : World) → is_carried instruction ≡ false
-    → instruction_step slot number instruction world ≡ said_by number (saying instruction) world
+    → instruction_step slot number instruction world ≡ said_by (saying instruction) world
 unfolding instruction_step
 step_other slot number instruction world h = rw h refl
 
@@ -60,3 +62,10 @@ pub step_barred : (slot number : ℕ) (request : Request) (world : World) → is
     → inner_step slot number request world ≡ answered number [] (Err word.Syntax) world
 unfolding inner_step
 step_barred slot number request world h = rw h refl
+
+-- a line that says nothing leaves the trace as it is
+pub says_nothing : (world : World) (trace : Trace) → course_of world trace ≡ after (said_by None world) (course_of world trace)
+says_nothing world trace =
+    ap (λ (t : List ℕ). record (course_of world trace) { text = t }) (sym (append-nil trace.text.items))
+    ∙ ap (λ (h : List (Name × ℕ)). record (course_of world trace) { text = trace.text.items ++ []; heard = h })
+    (sym (append-nil trace.heard.items))

@@ -134,7 +134,7 @@ fn take_instruction<L: Ledgers>(
         (course_of stage.old trace.old) (course_of stage.new trace.new) result }
 {
     if !is_carried(instruction) {
-        return say(alloc, number, saying(instruction), trace);
+        return say(saying(instruction), trace);
     }
     let answer = stage.carry_out(alloc, instruction, work);
     print_answer(alloc, stage, number, asked_by(instruction), answer, trace)

@@ -19,29 +19,15 @@ use fx_stage_types::{Outcome, Refusal, StageError};
 use fx_store_model::Notices;
 use std::alloc::{AllocError, Global};
 
-/// A line that the stage doesn't take.
-pub(crate) fn say(
-    alloc: Global,
-    number: u32,
-    text: Option<&str>,
-    trace: &mut Trace,
-) -> Result<(), AllocError>
-    ensures { (world : World) → IsMade (spec.said_by number (option_map (λ t. t.now) text.entry) world)
+/// Prints what a line says that the stage doesn't take.
+pub(crate) fn say(text: Option<&str>, trace: &mut Trace) -> Result<(), AllocError>
+    ensures { (world : World) → IsMade (spec.said_by (option_map (λ t. t.now) text.entry) world)
         (course_of world trace.old) (course_of world trace.new) result }
 {
     match text {
         Some(text) => print_saying(&mut trace.text, text),
-        None => refuse_unbuilt(alloc, number, trace),
+        None => Ok(()),
     }
-}
-
-/// A line that isn't carried out yet.
-#[tactic(auto, unfolding(fx_plain_steps::specs::Lines::not_built))]
-fn refuse_unbuilt(alloc: Global, number: u32, trace: &mut Trace) -> Result<(), AllocError>
-    ensures { (world : World) → IsMade (spec.not_built number world)
-        (course_of world trace.old) (course_of world trace.new) result }
-{
-    print_refusal(alloc, &mut trace.text, number, "notbuilt")
 }
 
 /// Prints that the line is refused by this word.

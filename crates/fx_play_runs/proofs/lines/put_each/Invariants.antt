@@ -3,6 +3,7 @@ use Rattle.std.proofs.Common.{◌≡◌, ◌≤◌, ◌+◌, ℕ, List, Option, 
 use Rattle.std.specs.Prelude.{reverse}
 use Rattle.fx_plain_runs.proofs.PlayingLemmas.{IsPlaying}
 use Rattle.fx_play_frames.specs.Games.{game_of}
+use Rattle.fx_play_frames.specs.Takings.{IsAt}
 use Rattle.fx_port.specs.Pieces.{grown}
 use Rattle.fx_script_commands.specs.Requests.{line_view}
 use Rattle.fx_play_runs.proofs.lines.put_each.Given as goal
@@ -16,6 +17,8 @@ invariant-loop-line g l =
           → IsPlaying l.fn.manner.form warnings (game_of l.fn.game) (game_of l.game) (map line_view l.fn.lines.items)
           (map line_view (reverse l.left.items)) begun (sink.written l.out);
       few : l.game.frames + length l.left.items ≤ 100000;
+      form : l.writer.form ≡ l.fn.manner.form;
+      behind : IsAt l.writer (game_of l.game).last;
     }
 
 abbrev pub decreases-loop-line : goal.decreases-loop-line

@@ -9,7 +9,7 @@ use Rattle.fx_play_steps.proofs.lines.take_instruction.Goals as goal
 pub returns-then-not-is_carried : goal.returns-then-not-is_carried
 returns-then-not-is_carried g c =
     let world = c.args.stage.now in
-    let same = ap (λ text. said_by c.args.number text world) c.saying.ensures in
+    let same = ap (λ text. said_by text world) c.saying.ensures in
     let step = step_other 0 c.args.number c.args.instruction.now world (sym c.is_carried.ensures ∙ c.if-not-is_carried.true) in (
       0,
       subst (λ (s : Step). IsMade s (course_of world c.args.trace.now) (course_of world c.say.new.trace) c.say.result)

@@ -1,5 +1,8 @@
 use Rattle.std.proofs.Common.{◌≡◌, ◌∙◌, ◌+◌, ◌++◌, Option, ap, arith, length, refl, vec_len}
+use Rattle.std.specs.Option.{option_map}
 use Rattle.fx_frame_text.specs.Frames.{frame_text}
+use Rattle.fx_plain_frames.specs.Pulses.{image_in}
+use Rattle.fx_play_times.specs.Shown.{clock_of}
 use Rattle.fx_play_steps.specs.Traces.{course_of}
 use Rattle.fx_pulse.specs.Rendering.{last_frame}
 use Rattle.fx_pulse_model.specs.Frames.{Framed}
@@ -12,24 +15,30 @@ returns-clause-shown g c = λ form.
     let made = c.in_ok-pulsed.pulsed in
     let drawn = c.in_ok-pulsed.ensures.drawn in
     let now = c.drawn.new.renderer in
+    let before = option_map image_in (last_frame c.args.self.now.renderer) in
     let course = course_of c.tell.new.stage c.tell.new.trace in
     let heard = c.tell.new.trace.heard in
     let long : vec_len heard ≡ length heard.items = omega (arith, heard.ok.0) in
     record {
       pulsed = pulsed_as now made;
-      drawn = record { world = c.drawn.new.stage; frames = c.args.self.now.frames + 1; last = last_frame now };
+      drawn = record {
+        world = c.drawn.new.stage;
+        clock = clock_of c.args.self.now.clock;
+        frames = c.args.self.now.frames + 1;
+        last = last_frame now;
+      };
       made = record { drawn = drawn; count = refl };
       course = course;
       settled = c.in_ok-tell.ensures;
       after = refl;
       told_so =
           ap (λ n. record {
-            text = frame_text form (c.args.self.now.frames + 1) made.frame.damage.items (image_last (last_frame now))
+            text = frame_text form (c.args.self.now.frames + 1) before made.frame.damage.items (image_last (last_frame now))
                 ++ c.tell.new.trace.text.items;
             totals = frame_totals (last_frame now) (record { damage = made.frame.damage; notices = n });
           }) (c.len.ensures ∙ long)
           ∙ ap (λ (last : Option Framed). record {
-            text = frame_text form (c.args.self.now.frames + 1) made.frame.damage.items (image_last last)
+            text = frame_text form (c.args.self.now.frames + 1) before made.frame.damage.items (image_last last)
                 ++ c.tell.new.trace.text.items;
             totals = frame_totals last (record { damage = made.frame.damage; notices = length c.tell.new.trace.heard.items });
           }) drawn.last_one;

@@ -1,0 +1,27 @@
+-- the line, and then the actions of those who were told
+use Rattle.std.proofs.Common.{ap, refl, subst}
+use Rattle.fx_plain_dispatch.specs.Settling.{IsSettledWhole}
+use Rattle.fx_plain_steps.specs.Courses.{Course}
+use Rattle.fx_plain_times.specs.Lines.{Passed}
+use Rattle.fx_play_steps.specs.Traces.{course_of}
+use Rattle.fx_pulse.specs.Rendering.{last_frame}
+use Rattle.fx_play_frames.proofs.LineLemmas.{on_ok}
+use Rattle.fx_play_frames.proofs.game.Game.pass.Goals as goal
+
+pub returns-clause-timed : goal.returns-clause-timed
+returns-clause-timed g c =
+    let before = c.args.self.now in
+    let course = course_of c.settle.new.stage c.settle.new.trace in
+    let same = c.in_ok-take.ensures in
+    on_ok c.settle.result c.settle.ensures
+    (λ settled. record {
+      course = course;
+      settled = subst (λ (first : Course). IsSettledWhole c.args.number first course) (ap (λ (p : Passed). p.course) same) settled;
+      after = ap (λ (p : Passed). record {
+        world = c.settle.new.stage;
+        clock = p.clock;
+        frames = before.frames;
+        last = last_frame before.renderer;
+      }) same;
+      told_so = refl;
+    })

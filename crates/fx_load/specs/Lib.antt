@@ -1,3 +1,4 @@
 pub mod Loading
 pub mod Loads
+pub mod Making
 pub mod Telling

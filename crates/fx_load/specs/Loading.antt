@@ -1,20 +1,20 @@
 -- Loading: the files of a run, in the order of work, and the first fault.
-use Rattle.std.specs.Prelude.{◌≡◌, ℕ, List, ◌++◌, None, Result, Ok, Err, length, map, take}
+use Rattle.std.specs.Prelude.{◌≡◌, ℕ, ◌+◌, List, ◌∷◌, ◌++◌, None, Result, Ok, Err, length, map, take}
 use Rattle.fx_base.specs.Positions.{after_all, start}
 use Rattle.fx_css_types.specs.declared.sheets.Sheet.{Sheet}
 use Rattle.fx_doc_grammar.specs.Judgements.{Judgement, NoText, Judged, document_text, judgement}
 use Rattle.fx_doc_grammar.specs.Verdicts.{Verdict, Reads, Stops, Deep, Long}
-use Rattle.fx_load.specs.Telling.{style_warnings}
+use Rattle.fx_load.specs.Making.{AreMade, task_at}
+use Rattle.fx_load.specs.Telling.{warnings_of}
 use Rattle.fx_load_parts.specs.Faults.{Fault, fault_at, nowhere}
 use Rattle.fx_load_parts.specs.Files.{Run, fetched}
 use Rattle.fx_load_parts.specs.Scripts.{script_in}
 use Rattle.fx_load_parts.specs.Sheets.{AreSheets}
-use Rattle.fx_load_parts.specs.Warnings.{warnings_of}
-use Rattle.fx_load_parts.specs.declared.files.FaultKind.TheVariants.{NotUtf8, Markup, Flawed}
+use Rattle.fx_scene_flaws.specs.declared.flaws.FaultKind.TheVariants.{NotUtf8, Markup, Flawed}
 use Rattle.fx_port.specs.Files.{Files}
-use Rattle.fx_scene_acts.specs.Acts.{act_of}
 use Rattle.fx_scene_acts.specs.declared.acts.Act.{Act}
-use Rattle.fx_scene_acts.specs.declared.acts.Deed.TheVariants.{Step}
+use Rattle.fx_scene_acts.specs.declared.tasks.Doing.TheVariants.{Step}
+use Rattle.fx_scene_acts.specs.declared.tasks.Task.{Task}
 use Rattle.fx_scene_flaws.specs.declared.flaws.Flaw.TheVariants.{Limit}
 use Rattle.fx_scene_plan.specs.declared.steps.PlannedStep.TheVariants as planned
 use Rattle.fx_scene_read.specs.Documents.{acts_of}
@@ -46,24 +46,27 @@ abbrev pub scene_in : Files → ℕ → List ℕ → Result (List Act) Fault
 scene_in files file name = acts_of_bytes name (fetched files file name)
 
 -- a sheet of the words is one of the scene
-abbrev pub sheet_act : Sheet → Act
-sheet_act sheet = act_of nowhere (Step (planned.Sheet None sheet))
+abbrev pub sheet_task : Sheet → Task
+sheet_task sheet = task_at 0 nowhere (Step (planned.Sheet None sheet))
 
--- what builds the scene, the lines that are played on it, and what is told before them of what was dropped of sheets
+-- what builds the scene, all files that were fetched behind the script, the lines that are played on the scene, and what
+-- is told before them of what was dropped of sheets
 pub record Loaded : Type 0 where
-  pub acts : List Act
+  pub tasks : List Task
+  pub files : List (List ℕ)
   pub lines : List Numbered
   pub warnings : List ℕ
 
--- what is told of the sheets, and behind it what is told of the inline styles of the scene
-abbrev pub all_warnings : Run → List Sheet → List Act → List ℕ
-all_warnings run sheets acts = warnings_of run.sheets sheets ++ style_warnings run.scene acts
+abbrev pub loaded_by : List Task → List (List ℕ) → List Numbered → Loaded
+loaded_by tasks files lines =
+    record { tasks = tasks; files = files; lines = lines; warnings = warnings_of files tasks }
 
-abbrev pub loaded_with : Run → List Numbered → List Sheet → List Act → Loaded
-loaded_with run lines sheets acts =
-    record { acts = map sheet_act sheets ++ acts; lines = lines; warnings = all_warnings run sheets acts }
+-- the sheets of the words, the scene, and then the files that it asks for
+abbrev pub loaded_with : Run → List Numbered → List Sheet → List Task → List (List ℕ) → Loaded
+loaded_with run lines sheets tasks names =
+    loaded_by (map sheet_task sheets ++ tasks) (run.sheets ++ (run.scene ∷ names)) lines
 
--- the script is fetched and read first, then the sheets in their order, then the scene
+-- the script is fetched and read first, then the sheets in their order, then the scene with the files that it asks for
 pub data IsElaborated (run : Run) (files : Files) : Result Loaded Fault → Type 0 where
   script_refused : (fault : Fault) → script_in files run.script ≡ Err fault → IsElaborated run files (Err fault)
   sheet_refused : (lines : List Numbered) (fault : Fault) → script_in files run.script ≡ Ok lines
@@ -71,7 +74,8 @@ pub data IsElaborated (run : Run) (files : Files) : Result Loaded Fault → Type
   scene_refused : (lines : List Numbered) (sheets : List Sheet) (fault : Fault)
       → script_in files run.script ≡ Ok lines → AreSheets files run.sheets (Ok sheets)
       → scene_in files (length run.sheets) run.scene ≡ Err fault → IsElaborated run files (Err fault)
-  all_read : (lines : List Numbered) (sheets : List Sheet) (acts : List Act)
+  all_read : (lines : List Numbered) (sheets : List Sheet) (acts : List Act) (tasks : List Task) (names : List (List ℕ))
       → script_in files run.script ≡ Ok lines → AreSheets files run.sheets (Ok sheets)
       → scene_in files (length run.sheets) run.scene ≡ Ok acts
-      → IsElaborated run files (Ok (loaded_with run lines sheets acts))
+      → AreMade files (length run.sheets) run.scene (length run.sheets + 1) acts tasks names
+      → IsElaborated run files (Ok (loaded_with run lines sheets tasks names))

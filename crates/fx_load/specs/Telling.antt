@@ -1,34 +1,39 @@
--- What is told of the inline styles of a scene of which something was dropped.
+-- What is told of the sheets and inline styles of a scene of which something was dropped.
 use Rattle.std.specs.Prelude.{ℕ, List, []}
 use Rattle.std.specs.List.{flat_map}
 use Rattle.fx_base.specs.declared.positions.Place.{Place}
-use Rattle.fx_base.specs.declared.positions.Position.{Position}
+use Rattle.fx_load_parts.specs.Files.{name_in}
 use Rattle.fx_load_parts.specs.Warnings.{warn_line}
-use Rattle.fx_scene_acts.specs.declared.acts.Act.{Act}
-use Rattle.fx_scene_acts.specs.declared.acts.Deed.{Deed}
-use Rattle.fx_scene_acts.specs.declared.acts.Deed.TheVariants as deed
+use Rattle.fx_scene_acts.specs.declared.tasks.Doing.{Doing}
+use Rattle.fx_scene_acts.specs.declared.tasks.Doing.TheVariants as doing
+use Rattle.fx_scene_acts.specs.declared.tasks.Task.{Task}
 use Rattle.fx_scene_plan.specs.declared.steps.PlannedStep.{PlannedStep}
 use Rattle.fx_scene_plan.specs.declared.steps.PlannedStep.TheVariants as planned
 
--- a part that was dropped, told at this place
-abbrev pub at : Place → Position → Place
-at part place = record { file = part.file; position = place }
+-- `warn FILE LINE COLUMN`, in one of these files
+abbrev pub line_at : List (List ℕ) → Place → List ℕ
+line_at files place = warn_line (name_in files place.file) place
 
 -- a line at the style for each part that was dropped of it
-abbrev pub lines_of : List ℕ → Position → List Place → List ℕ
-lines_of name place dropped = flat_map (λ (part : Place). warn_line name (at part place)) dropped
+abbrev pub style_lines : List (List ℕ) → Place → List Place → List ℕ
+style_lines files place dropped = flat_map (λ (part : Place). line_at files place) dropped
 
-abbrev pub step_lines : List ℕ → Position → PlannedStep → List ℕ
-step_lines name place (planned.Inline node sheet) = lines_of name place sheet.warnings
-step_lines name place _ = []
+-- a line for each part that was dropped of a sheet, where it stands
+abbrev pub sheet_lines : List (List ℕ) → List Place → List ℕ
+sheet_lines files dropped = flat_map (line_at files) dropped
 
-abbrev pub deed_lines : List ℕ → Position → Deed → List ℕ
-deed_lines name place (deed.Step step) = step_lines name place step
-deed_lines name place (deed.Flaw mistake) = []
+abbrev pub step_lines : List (List ℕ) → Place → PlannedStep → List ℕ
+step_lines files place (planned.Inline node sheet) = style_lines files place sheet.warnings
+step_lines files place (planned.Sheet owner sheet) = sheet_lines files sheet.warnings
+step_lines files place _ = []
 
-unfoldable pub act_lines : List ℕ → Act → List ℕ
-act_lines name act = deed_lines name act.place act.deed
+abbrev pub doing_lines : List (List ℕ) → Place → Doing → List ℕ
+doing_lines files place (doing.Step step) = step_lines files place step
+doing_lines files place (doing.Fault kind) = []
 
--- those of the acts of the scene of this name, in their order
-abbrev pub style_warnings : List ℕ → List Act → List ℕ
-style_warnings name acts = flat_map (act_lines name) acts
+unfoldable pub task_lines : List (List ℕ) → Task → List ℕ
+task_lines files task = doing_lines files task.place task.doing
+
+-- those of tasks, in their order
+abbrev pub warnings_of : List (List ℕ) → List Task → List ℕ
+warnings_of files tasks = flat_map (task_lines files) tasks

@@ -3,6 +3,7 @@
 #![tactic(auto)]
 
 mod loading;
+mod making;
 mod scene;
 mod telling;
 

@@ -1,5 +1,5 @@
 //! Loading a run: the script first, then the sheets, and then the scene.
-ghost use Rattle.std.specs.Prelude.{◌≡◌, ◌≤◌, ◌++◌, IfOk, Some, map, vec_len};
+ghost use Rattle.std.specs.Prelude.{◌≡◌, ◌≤◌, [], ◌∷◌, ◌++◌, IfOk, Some, map, vec_len};
 ghost use Rattle.fx_load.specs.Loading as spec;
 ghost use Rattle.fx_load.specs.Loading.{IsElaborated};
 ghost use Rattle.fx_load.specs.Loads.{loaded_of};
@@ -11,27 +11,30 @@ ghost use Rattle.fx_port.specs.Causes.{HasCause};
 ghost use Rattle.fx_port.specs.Files.{Files};
 ghost use Rattle.fx_script_commands.specs.Requests.{line_view};
 
+use crate::making::add_tasks;
 use crate::scene::read_scene;
-use crate::telling::with_styles;
-use fx_base::Position;
+use crate::telling::warnings_of;
+use fx_base::{Place, Position, Str};
 use fx_css_types::Sheet;
-use fx_load_parts::{LoadError, Run, read_file, read_script, read_sheets, warning_text};
+use fx_load_parts::{LoadError, Run, read_file, read_script, read_sheets};
 use fx_port::Shelf;
-use fx_scene_acts::{Act, Deed};
+use fx_scene_acts::{Doing, Task};
 use fx_scene_plan::PlannedStep;
 use fx_script_commands::Line;
 use std::alloc::{AllocError, Global};
 
-/// What builds the scene of a run, the lines of its script, and the lines that tell what was dropped of its sheets
-/// and of the inline styles of its scene.
+/// What builds the scene of a run, the names of all files that were fetched behind its script, the lines of the script, and
+/// the lines that tell what was dropped of sheets and of inline styles.
 #[derive(Drop)]
 pub struct Loaded {
-    pub acts: Vec<Act>,
+    pub tasks: Vec<Task>,
+    pub files: Vec<Str>,
     pub lines: Vec<Line>,
     pub warnings: Vec<u8>,
 }
 
-/// The script, the sheets and the scene of a run, or the first fault in the order of work.
+/// The script, the sheets and the scene of a run with the files that it asks for, or the first fault in the order of work
+/// that comes before the scene is known. What comes later is the last task.
 pub fn load<'a, F: Shelf>(
     alloc: Global,
     run: &Run<'a>,
@@ -46,14 +49,29 @@ pub fn load<'a, F: Shelf>(
     let lines = read_lines(alloc, shelf, run.script)?;
     let sheets = read_sheets(alloc, shelf, run.sheets)?;
     let acts = read_scene(alloc, shelf, run.sheets.len(), run.scene)?;
-    let told = warning_text(alloc, run.sheets, sheets.as_slice())?;
-    let warnings = with_styles(alloc, told, run.scene, acts.as_slice())?;
-    let acts = with_sheets(alloc, sheets, acts)?;
+    let mut files = names_of(alloc, run.sheets, run.scene)?;
+    let mut tasks = sheet_tasks(alloc, sheets)?;
+    let file = run.sheets.len() as u32;
+    add_tasks(alloc, shelf, file, run.scene, acts, &mut files, &mut tasks)?;
+    let warnings = warnings_of(alloc, files.as_slice(), tasks.as_slice())?;
     Ok(Loaded {
-        acts,
+        tasks,
+        files,
         lines,
         warnings,
     })
+}
+
+/// The names of the sheets, and behind them that of the scene.
+fn names_of(alloc: Global, sheets: &[Str], scene: &str) -> Result<Vec<Str>, AllocError>
+    ensures { IfOk result (λ names. names.items ≡ sheets.now ++ (scene.now ∷ [])) }
+{
+    let mut names = Vec::with_capacity(alloc, sheets.len())?;
+    for sheet in sheets {
+        names.push(sheet.copy(alloc)?)?;
+    }
+    names.push(Str::from_string(String::from_str(alloc, scene)?))?;
+    Ok(names)
 }
 
 /// The lines of the script of this name.
@@ -72,25 +90,25 @@ fn read_lines<'a, F: Shelf>(
     read_script(alloc, name, bytes.as_slice())
 }
 
-/// The acts that give the scene these sheets, in front of others.
-fn with_sheets(alloc: Global, sheets: Vec<Sheet>, acts: Vec<Act>) -> Result<Vec<Act>, AllocError>
-    ensures { IfOk result (λ all. all.items ≡ map spec.sheet_act sheets.items ++ acts.items) }
+/// The tasks that give the scene these sheets.
+fn sheet_tasks(alloc: Global, sheets: Vec<Sheet>) -> Result<Vec<Task>, AllocError>
+    ensures { IfOk result (λ tasks. tasks.items ≡ map spec.sheet_task sheets.items) }
 {
-    let mut all = Vec::with_capacity(alloc, sheets.len())?;
+    let mut tasks = Vec::with_capacity(alloc, sheets.len())?;
     for sheet in sheets {
-        all.push(sheet_act(sheet))?;
+        tasks.push(sheet_task(sheet))?;
     }
-    for act in acts {
-        all.push(act)?;
-    }
-    Ok(all)
+    Ok(tasks)
 }
 
-fn sheet_act(sheet: Sheet) -> Act
-    ensures { result ≡ spec.sheet_act sheet }
+fn sheet_task(sheet: Sheet) -> Task
+    ensures { result ≡ spec.sheet_task sheet }
 {
-    Act {
-        place: Position { line: 0, column: 0 },
-        deed: Deed::Step(PlannedStep::Sheet(None, sheet)),
+    Task {
+        place: Place {
+            file: 0,
+            position: Position { line: 0, column: 0 },
+        },
+        doing: Doing::Step(PlannedStep::Sheet(None, sheet)),
     }
 }

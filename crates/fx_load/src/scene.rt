@@ -1,5 +1,5 @@
 //! Reading a scene: its document, and what that asks for.
-ghost use Rattle.std.specs.Prelude.{◌≡◌, ◌≤◌, Err, Some, Vec, length};
+ghost use Rattle.std.specs.Prelude.{◌≡◌, ◌<◌, ◌≤◌, Err, IfOk, Some, Vec, length};
 ghost use Rattle.std.specs.Global.{Global};
 ghost use Rattle.fx_doc.specs.Judgements.{Tells};
 ghost use Rattle.fx_doc.specs.Reads.{HasFault};
@@ -14,10 +14,10 @@ ghost use Rattle.fx_port.specs.Files.{Files};
 ghost use Rattle.fx_scene_acts.specs.declared.acts.Act.{Act};
 
 use fx_doc::{DocError, Document, place_behind, read_document};
-use fx_load_parts::{FaultKind, FileFault, LoadError, fetch_file};
+use fx_load_parts::{FileFault, LoadError, fetch_file};
 use fx_port::Shelf;
 use fx_scene_acts::Act;
-use fx_scene_flaws::Flaw;
+use fx_scene_flaws::{FaultKind, Flaw};
 use fx_scene_read::acts_of;
 use std::alloc::Global;
 
@@ -32,6 +32,7 @@ pub(crate) fn read_scene<'a, F: Shelf>(
     ensures cause { HasCause Failed (F.faults shelf.old) (F.faults shelf.new) result }
     ensures says { (files : Files) → F.held shelf.old ≡ Some files → LoadSays (λ acts. acts.items) result
         (scene_in files file name.now) }
+    ensures few { IfOk result (λ _. file < 63) }
 {
     let bytes = fetch_file(alloc, shelf, file, name)?;
     scene_of(alloc, name, bytes.as_slice())

@@ -1,3 +1,2 @@
 pub mod ScriptLemmas
 pub mod SheetLemmas
-pub mod WarningLemmas

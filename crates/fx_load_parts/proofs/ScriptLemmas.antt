@@ -7,7 +7,7 @@ use Rattle.std.proofs.lemmas.Str.{is_utf8-from_IsUtf8, IsUtf8-from_is_utf8, utf8
 use Rattle.fx_base.specs.Positions.{after_all, start}
 use Rattle.fx_load_parts.specs.Faults.{fault_at}
 use Rattle.fx_load_parts.specs.Scripts.{first_past, script_of}
-use Rattle.fx_load_parts.specs.declared.files.FaultKind.TheVariants as kind
+use Rattle.fx_scene_flaws.specs.declared.flaws.FaultKind.TheVariants as kind
 use Rattle.fx_scene_flaws.specs.declared.flaws.Flaw.TheVariants as flaw
 use Rattle.fx_script_commands.specs.Commands.{is_end, is_skipped}
 use Rattle.fx_script_commands.specs.Requests.{Numbered}

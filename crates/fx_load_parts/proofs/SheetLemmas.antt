@@ -1,5 +1,5 @@
 -- Sheets that are read one after another.
-use Rattle.std.proofs.Common.{◌≡◌, ◌<◌, ◌≤◌, ◌+◌, ℕ, List, [], ◌∷◌, ◌++◌, Result, Ok, Err, drop, get_or, length, refl, sym, ◌∙◌, ap, subst, append_assoc, append-nil, IsErrAnd, Vec}
+use Rattle.std.proofs.Common.{◌≡◌, ◌<◌, ◌≤◌, ◌+◌, ℕ, List, [], ◌∷◌, ◌++◌, Result, Ok, Err, drop, get_or, length, sym, ◌∙◌, ap, subst, append_assoc, append-nil, IsErrAnd, Vec}
 use Rattle.std.specs.Global.{Global}
 use Rattle.std.proofs.lemmas.List.{at_drop_all, drop_more}
 use Rattle.fx_css_types.specs.declared.sheets.Sheet.{Sheet}

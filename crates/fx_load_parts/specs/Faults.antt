@@ -3,8 +3,8 @@ use Rattle.std.specs.Prelude.{ℕ, List, [], ◌∷◌, ◌++◌, codes}
 use Rattle.std.specs.Fmt.{decimal}
 use Rattle.fx_text.specs.Characters.{line_feed, space}
 use Rattle.fx_base.specs.declared.positions.Position.{Position}
-use Rattle.fx_load_parts.specs.declared.files.FaultKind.{FaultKind}
-use Rattle.fx_load_parts.specs.declared.files.FaultKind.TheVariants.{Missing, TooLarge, NotUtf8, Markup, Flawed}
+use Rattle.fx_scene_flaws.specs.declared.flaws.FaultKind.{FaultKind}
+use Rattle.fx_scene_flaws.specs.declared.flaws.FaultKind.TheVariants.{Missing, TooLarge, NotUtf8, Markup, Flawed}
 use Rattle.fx_scene_flaws.specs.declared.flaws.Flaw.{Flaw}
 use Rattle.fx_scene_flaws.specs.declared.flaws.Flaw.TheVariants as flaw
 

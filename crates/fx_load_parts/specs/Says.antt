@@ -4,6 +4,8 @@ use Rattle.fx_load_parts.specs.Faults.{Fault}
 use Rattle.fx_load_parts.specs.Views.{fault_of}
 use Rattle.fx_load_parts.specs.declared.files.LoadError.{LoadError}
 use Rattle.fx_load_parts.specs.declared.files.LoadError.TheVariants.{Fault as IsFault, Failed, Memory}
+use Rattle.fx_port.specs.declared.files.FetchError.{FetchError}
+use Rattle.fx_port.specs.declared.files.FetchError.TheVariants as fetch
 
 -- the value, seen as the definition's, or exactly that fault; a failed fetch and want of memory say nothing
 abbrev pub LoadSays : {A B : Type 0} → (A → B) → Result A LoadError → Result B Fault → Type 0
@@ -18,3 +20,8 @@ SaysSuch seen IsSuch (Ok x) = IsSuch (Ok (seen x))
 SaysSuch seen IsSuch (Err (IsFault fault)) = IsSuch (Err (fault_of fault))
 SaysSuch seen IsSuch (Err Failed) = ⊤
 SaysSuch seen IsSuch (Err Memory) = ⊤
+
+-- a fetch that gave nothing
+abbrev pub load_error : FetchError → LoadError
+load_error fetch.Failed = Failed
+load_error fetch.Memory = Memory

@@ -7,7 +7,7 @@ use Rattle.fx_base.specs.Positions.{after_all, start}
 use Rattle.fx_base.specs.declared.positions.Position.{Position}
 use Rattle.fx_load_parts.specs.Faults.{Fault, fault_at}
 use Rattle.fx_load_parts.specs.Files.{bytes_of}
-use Rattle.fx_load_parts.specs.declared.files.FaultKind.TheVariants.{NotUtf8, Flawed}
+use Rattle.fx_scene_flaws.specs.declared.flaws.FaultKind.TheVariants.{NotUtf8, Flawed}
 use Rattle.fx_port.specs.Files.{Files}
 use Rattle.fx_scene_flaws.specs.declared.flaws.Flaw.TheVariants.{Limit}
 use Rattle.fx_script_commands.specs.Requests.{Numbered}

@@ -7,7 +7,7 @@ use Rattle.fx_css.specs.Sheets.{IsPastLimit, IsSheetText}
 use Rattle.fx_css_types.specs.declared.sheets.Sheet.{Sheet}
 use Rattle.fx_load_parts.specs.Faults.{Fault, fault_at}
 use Rattle.fx_load_parts.specs.Files.{fetched}
-use Rattle.fx_load_parts.specs.declared.files.FaultKind.TheVariants.{NotUtf8, Flawed}
+use Rattle.fx_scene_flaws.specs.declared.flaws.FaultKind.TheVariants.{NotUtf8, Flawed}
 use Rattle.fx_port.specs.Files.{Files}
 use Rattle.fx_scene_flaws.specs.declared.flaws.Flaw.TheVariants.{Limit}
 

@@ -1,9 +1,7 @@
 -- What is told of what was dropped while sheets were read.
 use Rattle.std.specs.Prelude.{ℕ, List, [], ◌∷◌, ◌++◌, codes}
 use Rattle.std.specs.Fmt.{decimal}
-use Rattle.std.specs.List.{flat_map}
 use Rattle.fx_base.specs.declared.positions.Place.{Place}
-use Rattle.fx_css_types.specs.declared.sheets.Sheet.{Sheet}
 use Rattle.fx_text.specs.Characters.{line_feed, space}
 
 -- `warn FILE LINE COLUMN`
@@ -11,8 +9,3 @@ unfoldable pub warn_line : List ℕ → Place → List ℕ
 warn_line name place =
     codes "warn " ++ (name ++ (space ∷ (decimal place.position.line ++ (space ∷ (decimal place.position.column
     ++ (line_feed ∷ []))))))
-
--- those of the sheets of these names, in order of reading
-unfoldable pub warnings_of : List (List ℕ) → List Sheet → List ℕ
-warnings_of (name ∷ names) (sheet ∷ sheets) = flat_map (warn_line name) sheet.warnings ++ warnings_of names sheets
-warnings_of names sheets = []

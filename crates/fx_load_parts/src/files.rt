@@ -1,8 +1,9 @@
 //! Fetching the files of a run, and why one is refused.
-ghost use Rattle.std.specs.Prelude.{◌≡◌, ◌≤◌, ◌<◌, IfOk, Some, length};
+ghost use Rattle.std.specs.Prelude.{◌≡◌, ◌≤◌, ◌<◌, IfOk, Some, length, map};
 ghost use Rattle.fx_port.specs.Causes.{HasCause};
 ghost use Rattle.fx_port.specs.Files.{Files};
 ghost use Rattle.fx_load_parts.specs.Faults.{fault_at, whole_fault};
+ghost use Rattle.fx_load_parts.specs.Files as spec;
 ghost use Rattle.fx_load_parts.specs.Files.{bytes_of, fetched};
 ghost use Rattle.fx_load_parts.specs.Says.{LoadSays};
 ghost use Rattle.fx_load_parts.specs.Views.{fault_of};
@@ -10,11 +11,11 @@ ghost use Rattle.fx_load_parts.specs.declared.files.LoadError.TheVariants.{Faile
 
 use fx_base::{Position, Str};
 use fx_port::{FetchError, Fetched, Shelf};
-use fx_scene_flaws::Flaw;
+use fx_scene_flaws::{FaultKind, Flaw};
 use std::alloc::{AllocError, AllocFailed, Global};
 
 /// The most files that are fetched behind the script.
-const MOST_FETCHES: usize = 63;
+pub const MOST_FETCHES: usize = 63;
 
 /// The most bytes of a file.
 pub const FILE_LIMIT: usize = 4_194_304;
@@ -25,21 +26,6 @@ pub struct Run<'a> {
     pub scene: &'a str,
     pub script: &'a str,
     pub sheets: &'a [Str],
-}
-
-/// Why a file is refused.
-#[derive(Clone, Copy, PartialEq, Eq, Debug)]
-pub enum FaultKind {
-    /// The file is absent.
-    Missing,
-    /// The file has more than 4,194,304 bytes.
-    TooLarge,
-    /// The file isn't UTF-8.
-    NotUtf8,
-    /// No document goes on as the file does.
-    Markup,
-    /// Something in it is wrong.
-    Flawed(Flaw),
 }
 
 /// Why a file is refused, and where: a position in it, or line 0 and column 0 for the whole file.
@@ -104,6 +90,20 @@ impl<'a, T: Drop> From<AllocFailed<T>> for LoadError<'a> {
     }
 }
 
+impl<'a> From<FetchError> for LoadError<'a> {
+    ghost use Rattle.std.specs.Prelude.{◌≡◌};
+    ghost use Rattle.fx_load_parts.specs.Says.{load_error};
+
+    ghost from_gives = { λ error e. e ≡ load_error error };
+
+    fn from(error: FetchError) -> LoadError<'a> {
+        match error {
+            FetchError::Failed => LoadError::Failed,
+            FetchError::Memory => LoadError::Memory,
+        }
+    }
+}
+
 /// The bytes of a file, or why it is refused.
 pub fn read_file<'a, F: Shelf>(
     alloc: Global,
@@ -142,4 +142,15 @@ pub fn fetch_file<'a, F: Shelf>(
         return Err(LoadError::Fault(FileFault::whole(FaultKind::Flawed(Flaw::Limit), name)));
     }
     read_file(alloc, shelf, name)
+}
+
+/// The name of the file of this number among those that were fetched.
+#[tactic(auto, unfolding(crate::specs::Files::name_in))]
+pub fn name_in(files: &[Str], file: u32) -> &str
+    ensures { result.now ≡ spec.name_in files.now file }
+{
+    match files.get(file as usize) {
+        Some(name) => name.as_str(),
+        None => "",
+    }
 }

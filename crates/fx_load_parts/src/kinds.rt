@@ -7,10 +7,10 @@ ghost use Rattle.fx_port.specs.Causes.{HasCause};
 ghost use Rattle.fx_port.specs.Pieces.{Writes};
 ghost use Rattle.fx_port.specs.declared.pieces.PutError.TheVariants.{Failed};
 
-use crate::files::{FaultKind, FileFault};
+use crate::files::FileFault;
 use fx_base::Position;
 use fx_port::{PutError, Sink};
-use fx_scene_flaws::Flaw;
+use fx_scene_flaws::{FaultKind, Flaw};
 use std::alloc::{AllocError, Global};
 
 /// Writes `fault KIND FILE LINE COLUMN`.

@@ -7,8 +7,8 @@ mod scripts;
 mod sheets;
 mod warnings;
 
-pub use files::{FaultKind, FileFault, LoadError, Run, fetch_file, read_file};
+pub use files::{FileFault, LoadError, MOST_FETCHES, Run, fetch_file, name_in, read_file};
 pub use kinds::put_fault;
 pub use scripts::read_script;
-pub use sheets::read_sheets;
-pub use warnings::{warning_line, warning_text};
+pub use sheets::{fetch_sheet, read_sheets};
+pub use warnings::warning_line;

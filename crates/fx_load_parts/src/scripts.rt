@@ -9,9 +9,9 @@ ghost use Rattle.fx_script_commands.specs.Requests.{line_view};
 ghost use Rattle.fx_script_commands.specs.Scripts.{HasFault};
 ghost use Rattle.fx_script_commands.specs.declared.commands.Line.{Line};
 
-use crate::files::{FaultKind, FileFault, LoadError};
+use crate::files::{FileFault, LoadError};
 use fx_base::Position;
-use fx_scene_flaws::Flaw;
+use fx_scene_flaws::{FaultKind, Flaw};
 use fx_script_commands::{Line, ScriptError};
 use std::alloc::Global;
 use std::str;

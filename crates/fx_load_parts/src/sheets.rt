@@ -9,13 +9,13 @@ ghost use Rattle.fx_load_parts.specs.declared.files.LoadError.TheVariants.{Faile
 ghost use Rattle.fx_port.specs.Causes.{HasCause};
 ghost use Rattle.fx_port.specs.Files.{Files};
 
-use crate::files::{FaultKind, FileFault, LoadError, fetch_file};
+use crate::files::{FileFault, LoadError, fetch_file};
 use crate::scripts::place_behind;
 use fx_base::Str;
 use fx_css::{SheetError, read_sheet};
 use fx_css_types::Sheet;
 use fx_port::Shelf;
-use fx_scene_flaws::Flaw;
+use fx_scene_flaws::{FaultKind, Flaw};
 use std::alloc::Global;
 
 /// The sheets of these names, in their order, or the first fault. Warnings have the number of a sheet among them.
@@ -31,13 +31,13 @@ pub fn read_sheets<'a, F: Shelf>(
 {
     let mut sheets = Vec::new(alloc);
     for file in 0..names.len() {
-        sheets.push(read_one(alloc, shelf, file, names[file].as_str())?)?;
+        sheets.push(fetch_sheet(alloc, shelf, file, names[file].as_str())?)?;
     }
     Ok(sheets)
 }
 
 /// The sheet of this name, the file of this number behind the script.
-fn read_one<'a, F: Shelf>(
+pub fn fetch_sheet<'a, F: Shelf>(
     alloc: Global,
     shelf: &mut F,
     file: usize,

@@ -3,14 +3,13 @@
 use Rattle.std.specs.Prelude.{◌≡◌, ℕ, List, Option, Some, Ok, Err, take}
 use Rattle.fx_load.specs.Loading.{IsElaborated, Loaded}
 use Rattle.fx_load_parts.specs.Faults.{Fault, fault_at, fault_line}
-use Rattle.fx_load_parts.specs.Files.{Run}
-use Rattle.fx_load_parts.specs.declared.files.FaultKind.TheVariants.{Flawed}
+use Rattle.fx_load_parts.specs.Files.{Run, name_in}
 use Rattle.fx_plain_frames.specs.Games.{Game}
 use Rattle.fx_plain_runs.specs.Runs.{IsBegun, IsFaulty, IsWritten}
 use Rattle.fx_plain_runs.specs.declared.manners.Manner.{Manner}
 use Rattle.fx_port.specs.Files.{Files}
 use Rattle.fx_port.specs.Pieces.{GrewByPrefix, grown}
-use Rattle.fx_scene_flaws.specs.declared.flaws.Fault.{Fault as SceneFault}
+use Rattle.fx_scene_acts.specs.declared.tasks.SceneFault.{SceneFault}
 use Rattle.fx_script_commands.specs.Requests.{Numbered}
 use Rattle.fx_plain.specs.CommandLine.{Plan, Plays, PlaysDemo, ShowsUsage, usage_line}
 use Rattle.fx_plain.specs.Demos.{demo_files, demo_run}
@@ -38,24 +37,24 @@ abbrev pub lines_in : Extent → List Numbered → List Numbered
 lines_in all_lines lines = lines
 lines_in (first_lines count) lines = take count lines
 
--- a fault of what a document asks for, told of its file
-abbrev pub scene_fault : Run → SceneFault → Fault
-scene_fault run fault = fault_at (Flawed fault.flaw) run.scene fault.place
+-- a fault of what is done for a scene, told of its file
+abbrev pub scene_fault : List (List ℕ) → SceneFault → Fault
+scene_fault files fault = fault_at fault.kind (name_in files fault.place.file) fault.place.position
 
 -- what is written of a run whose files were loaded
-pub data IsOutputOfLoaded (run : Run) (manner : Manner) (extent : Extent) (loaded : Loaded) : Output → Type 0 where
-  scene_at_fault : (fault : SceneFault) → IsFaulty loaded.acts fault
-      → IsOutputOfLoaded run manner extent loaded (refused_with (scene_fault run fault))
-  script_played : (first : Game) (bytes : List ℕ) → IsBegun manner.window loaded.acts first
+pub data IsOutputOfLoaded (manner : Manner) (extent : Extent) (loaded : Loaded) : Output → Type 0 where
+  scene_at_fault : (fault : SceneFault) → IsFaulty loaded.tasks fault
+      → IsOutputOfLoaded manner extent loaded (refused_with (scene_fault loaded.files fault))
+  script_played : (first : Game) (bytes : List ℕ) → IsBegun manner.window loaded.tasks first
       → IsWritten manner loaded.warnings first (lines_in extent loaded.lines) bytes
-      → IsOutputOfLoaded run manner extent loaded (record { bytes = bytes; status = Done })
+      → IsOutputOfLoaded manner extent loaded (record { bytes = bytes; status = Done })
 
 -- what is written of a run over files
 pub data IsOutputOfRun (run : Run) (manner : Manner) (files : Files) (extent : Extent) : Output → Type 0 where
   files_at_fault : (fault : Fault) → IsElaborated run files (Err fault)
       → IsOutputOfRun run manner files extent (refused_with fault)
   files_loaded : (loaded : Loaded) (out : Output) → IsElaborated run files (Ok loaded)
-      → IsOutputOfLoaded run manner extent loaded out → IsOutputOfRun run manner files extent out
+      → IsOutputOfLoaded manner extent loaded out → IsOutputOfRun run manner files extent out
 
 -- what the plain player writes over these files; a demo has its own
 abbrev pub IsOutput : Plan → Files → Extent → Output → Type 0

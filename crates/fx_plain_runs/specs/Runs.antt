@@ -6,8 +6,8 @@ use Rattle.fx_plain_frames.specs.Playing.{IsPlayed}
 use Rattle.fx_plain_steps.specs.Told.{Told, Totals, summary_line, texts_of, totals_of}
 use Rattle.fx_port.specs.Pieces.{GrewByPrefix, grown}
 use Rattle.fx_scene_acts.specs.Acts.{IsActed}
-use Rattle.fx_scene_acts.specs.declared.acts.Act.{Act}
-use Rattle.fx_scene_flaws.specs.declared.flaws.Fault.{Fault}
+use Rattle.fx_scene_acts.specs.declared.tasks.SceneFault.{SceneFault}
+use Rattle.fx_scene_acts.specs.declared.tasks.Task.{Task}
 use Rattle.fx_scene_plan.specs.Plans.{Standing}
 use Rattle.fx_script_commands.specs.Requests.{Numbered}
 use Rattle.fx_stage_model.specs.World.{World, nowhere}
@@ -18,15 +18,15 @@ abbrev pub in_window : Option (ℕ × ℕ) → World → World
 in_window None world = world
 in_window (Some window) world = record world { window = Some window }
 
--- the acts of a scene are done on a bare stage, and no frame was made
-pub record IsBegun (window : Option (ℕ × ℕ)) (acts : List Act) (first : Game) : Type 0 where
+-- the tasks of a scene are done on a bare stage, and no frame was made
+pub record IsBegun (window : Option (ℕ × ℕ)) (tasks : List Task) (first : Game) : Type 0 where
   pub standing : Standing
-  pub built : IsActed acts nowhere (Ok standing)
+  pub built : IsActed tasks nowhere (Ok standing)
   pub begins : first ≡ begun (in_window window standing.world)
 
--- this is the first fault of the acts
-abbrev pub IsFaulty : List Act → Fault → Type 0
-IsFaulty acts fault = IsActed acts nowhere (Err fault)
+-- this is the first fault of the tasks
+abbrev pub IsFaulty : List Task → SceneFault → Type 0
+IsFaulty tasks fault = IsActed tasks nowhere (Err fault)
 
 -- what is written of what lines tell: what was dropped of sheets, and then one line behind the other; or the totals of
 -- them all

@@ -24,7 +24,7 @@ use Rattle.fx_port.specs.Files.{Files}
 use Rattle.fx_port.specs.Pieces.{GrewByPrefix, Writes, grown}
 use Rattle.fx_port.specs.declared.pieces.PutError.{PutError}
 use Rattle.fx_port.specs.declared.pieces.PutError.TheVariants as put
-use Rattle.fx_scene_flaws.specs.declared.flaws.Fault.{Fault as SceneFault}
+use Rattle.fx_scene_acts.specs.declared.tasks.SceneFault.{SceneFault}
 use Rattle.fx_scene_raise.specs.declared.errors.RaiseError.{RaiseError}
 use Rattle.fx_scene_raise.specs.declared.errors.RaiseError.TheVariants as raise
 use Rattle.fx_words.specs.declared.runs.Run.{Run as Asked}
@@ -43,53 +43,53 @@ part_of old new bytes (Ok done) writes = whole old bytes writes.ok
 part_of old new bytes (Err error) writes = writes.err
 
 -- A scene that is at fault: it is told, or a part of that.
-scene_told : (run : Run) (manner : Manner) (loaded : Loaded) (puts_old puts_new : ℕ) (old new : Option (List ℕ)) (answer : Status)
-    (fault : SceneFault) → IsFaulty loaded.acts fault
-    → IsTold (refused_with (scene_fault run fault)) puts_old puts_new old new answer
-    → IsLoadedPlayed run manner loaded puts_old puts_new old new answer
-scene_told run manner loaded puts_old puts_new old new answer fault faulty told =
-    subst (λ (status : Status). IsLoadedPlayed run manner loaded puts_old puts_new old new status) (sym told.ends)
+scene_told : (manner : Manner) (loaded : Loaded) (puts_old puts_new : ℕ) (old new : Option (List ℕ)) (answer : Status)
+    (fault : SceneFault) → IsFaulty loaded.tasks fault
+    → IsTold (refused_with (scene_fault loaded.files fault)) puts_old puts_new old new answer
+    → IsLoadedPlayed manner loaded puts_old puts_new old new answer
+scene_told manner loaded puts_old puts_new old new answer fault faulty told =
+    subst (λ (status : Status). IsLoadedPlayed manner loaded puts_old puts_new old new status) (sym told.ends)
     (by_written told.written told.cause told.writes)
   where
     by_written : (w : Result (Unit {0}) PutError) → HasCause put.Failed puts_old puts_new w
-        → Writes old new w (fault_line (scene_fault run fault))
-        → IsLoadedPlayed run manner loaded puts_old puts_new old new (ended_as w Refused)
+        → Writes old new w (fault_line (scene_fault loaded.files fault))
+        → IsLoadedPlayed manner loaded puts_old puts_new old new (ended_as w Refused)
     by_written (Ok done) cause writes = record {
       answers = λ final. record {
-        out = refused_with (scene_fault run fault);
+        out = refused_with (scene_fault loaded.files fault);
         plain = scene_at_fault fault faulty;
         bytes = writes.ok;
         status = refl;
       };
-      within = some_written all_lines (refused_with (scene_fault run fault)) (scene_at_fault fault faulty) (whole old _ writes.ok);
+      within = some_written all_lines (refused_with (scene_fault loaded.files fault)) (scene_at_fault fault faulty) (whole old _ writes.ok);
       write = λ e. absurd (cc);
       usage = λ e. cc;
       read = λ e. cc;
     }
     by_written (Err put.Failed) cause writes = record {
       answers = λ final. absurd final;
-      within = some_written all_lines (refused_with (scene_fault run fault)) (scene_at_fault fault faulty) writes.err;
+      within = some_written all_lines (refused_with (scene_fault loaded.files fault)) (scene_at_fault fault faulty) writes.err;
       write = λ e. cause.rose refl;
       usage = λ e. cc;
       read = λ e. cc;
     }
     by_written (Err put.Memory) cause writes = record {
       answers = λ final. absurd final;
-      within = some_written all_lines (refused_with (scene_fault run fault)) (scene_at_fault fault faulty) writes.err;
+      within = some_written all_lines (refused_with (scene_fault loaded.files fault)) (scene_at_fault fault faulty) writes.err;
       write = λ e. absurd (cc);
       usage = λ e. cc;
       read = λ e. cc;
     }
 
 -- a scene that wasn't raised
-pub not_staged : (run : Run) (manner : Manner) (loaded : Loaded) (puts_old puts_new : ℕ) (old new : Option (List ℕ))
-    (answer : Status) (error : RaiseError) → IsStaged manner.window loaded.acts (Err error)
-    → IsUnstagedTold run.scene error puts_old puts_new old new answer
-    → IsLoadedPlayed run manner loaded puts_old puts_new old new answer
-not_staged run manner loaded puts_old puts_new old new answer (raise.Fault fault) faulty told =
-    scene_told run manner loaded puts_old puts_new old new answer fault faulty told
-not_staged run manner loaded puts_old puts_new old new answer raise.Memory faulty told =
-    subst (λ (status : Status). IsLoadedPlayed run manner loaded puts_old puts_new old new status) (sym told.ends)
+pub not_staged : (manner : Manner) (loaded : Loaded) (puts_old puts_new : ℕ) (old new : Option (List ℕ))
+    (answer : Status) (error : RaiseError) → IsStaged manner.window loaded.tasks (Err error)
+    → IsUnstagedTold loaded.files error puts_old puts_new old new answer
+    → IsLoadedPlayed manner loaded puts_old puts_new old new answer
+not_staged manner loaded puts_old puts_new old new answer (raise.Fault fault) faulty told =
+    scene_told manner loaded puts_old puts_new old new answer fault faulty told
+not_staged manner loaded puts_old puts_new old new answer raise.Memory faulty told =
+    subst (λ (status : Status). IsLoadedPlayed manner loaded puts_old puts_new old new status) (sym told.ends)
     (record {
       answers = λ final. absurd final;
       within = none_written told.same;
@@ -99,13 +99,13 @@ not_staged run manner loaded puts_old puts_new old new answer raise.Memory fault
     })
 
 -- the lines of a script were taken, or some of them
-pub lines_put : (run : Run) (manner : Manner) (loaded : Loaded) (puts_old puts_new : ℕ) (old new : Option (List ℕ)) (first : Game)
-    (w : Result (Unit {0}) PutError) → IsBegun manner.window loaded.acts first
+pub lines_put : (manner : Manner) (loaded : Loaded) (puts_old puts_new : ℕ) (old new : Option (List ℕ)) (first : Game)
+    (w : Result (Unit {0}) PutError) → IsBegun manner.window loaded.tasks first
     → HasCause put.Failed puts_old puts_new w → IsPut manner loaded.warnings first loaded.lines old new w
-    → IsLoadedPlayed run manner loaded puts_old puts_new old new (ended_as w Done)
-lines_put run manner loaded puts_old puts_new old new first (Ok done) begun cause so =
+    → IsLoadedPlayed manner loaded puts_old puts_new old new (ended_as w Done)
+lines_put manner loaded puts_old puts_new old new first (Ok done) begun cause so =
     let out : Output = record { bytes = so.ok.bytes; status = Done } in
-    let plain : IsOutputOfLoaded run manner all_lines loaded out = script_played first so.ok.bytes begun so.ok.written in
+    let plain : IsOutputOfLoaded manner all_lines loaded out = script_played first so.ok.bytes begun so.ok.written in
     record {
       answers = λ final. record { out = out; plain = plain; bytes = so.ok.told; status = refl };
       within = some_written all_lines out plain (whole old so.ok.bytes so.ok.told);
@@ -113,7 +113,7 @@ lines_put run manner loaded puts_old puts_new old new first (Ok done) begun caus
       usage = λ e. cc;
       read = λ e. cc;
     }
-lines_put run manner loaded puts_old puts_new old new first (Err put.Failed) begun cause so =
+lines_put manner loaded puts_old puts_new old new first (Err put.Failed) begun cause so =
     record {
       answers = λ final. absurd final;
       within = some_written (first_lines so.err.count) (record { bytes = so.err.bytes; status = Done })
@@ -122,7 +122,7 @@ lines_put run manner loaded puts_old puts_new old new first (Err put.Failed) beg
       usage = λ e. cc;
       read = λ e. cc;
     }
-lines_put run manner loaded puts_old puts_new old new first (Err put.Memory) begun cause so =
+lines_put manner loaded puts_old puts_new old new first (Err put.Memory) begun cause so =
     record {
       answers = λ final. absurd final;
       within = some_written (first_lines so.err.count) (record { bytes = so.err.bytes; status = Done })
@@ -133,7 +133,7 @@ lines_put run manner loaded puts_old puts_new old new first (Err put.Memory) beg
     }
 
 lifted : (run : Run) (manner : Manner) (files : Files) (loaded : Loaded) (old new : Option (List ℕ))
-    → IsElaborated run files (Ok loaded) → IsWithinLoaded run manner loaded old new
+    → IsElaborated run files (Ok loaded) → IsWithinLoaded manner loaded old new
     → IsWithin (Plays run manner) files old new
 lifted run manner files loaded old new loads (none_written same) = nothing_written same
 lifted run manner files loaded old new loads (some_written extent out plain part) =
@@ -143,7 +143,7 @@ lifted run manner files loaded old new loads (some_written extent out plain part
 pub loaded_played : (run : Run) (manner : Manner) (told : Option Files) (fetches_old fetches_new : ℕ) (loaded : Loaded)
     (puts_old puts_new : ℕ) (old new : Option (List ℕ)) (answer : Status)
     → ((files : Files) → told ≡ Some files → IsElaborated run files (Ok loaded))
-    → IsLoadedPlayed run manner loaded puts_old puts_new old new answer
+    → IsLoadedPlayed manner loaded puts_old puts_new old new answer
     → IsPlayed (Plays run manner) told fetches_old fetches_new puts_old puts_new old new answer
 loaded_played run manner told fetches_old fetches_new loaded puts_old puts_new old new answer loads so = record {
   answers = λ files over final. record {

@@ -1,14 +1,11 @@
 -- How a run ends, and what is said of it.
 use Rattle.std.specs.Prelude.{◌≡◌, ◌⊎◌, ℕ, List, Option, Result, Ok, Err}
 use Rattle.fx_load.specs.Loading.{Loaded}
-use Rattle.fx_load_parts.specs.Faults.{fault_at}
-use Rattle.fx_load_parts.specs.Files.{Run}
 use Rattle.fx_load_parts.specs.Views.{fault_of}
-use Rattle.fx_load_parts.specs.declared.files.FaultKind.TheVariants.{Flawed}
 use Rattle.fx_load_parts.specs.declared.files.LoadError.{LoadError}
 use Rattle.fx_load_parts.specs.declared.files.LoadError.TheVariants as load
 use Rattle.fx_plain.specs.CommandLine.{Fetches, Plan, PlaysDemo, ShowsUsage}
-use Rattle.fx_plain.specs.PlainPlayer.{Answers, Extent, IsAnswer, IsOutputOfLoaded, IsOver, IsWithin, Output, all_lines, refused_with}
+use Rattle.fx_plain.specs.PlainPlayer.{Answers, Extent, IsAnswer, IsOutputOfLoaded, IsOver, IsWithin, Output, all_lines, refused_with, scene_fault}
 use Rattle.fx_plain.specs.declared.answers.Status.{Status}
 use Rattle.fx_plain.specs.declared.answers.Status.TheVariants.{Done, Usage, Refused, ReadFault, WriteFault, NoMemory}
 use Rattle.fx_plain_runs.specs.declared.manners.Manner.{Manner}
@@ -45,31 +42,31 @@ IsUnloadedTold (load.Fault fault) puts_old puts_new old new answer =
 IsUnloadedTold load.Failed puts_old puts_new old new answer = IsSilent ReadFault old new answer
 IsUnloadedTold load.Memory puts_old puts_new old new answer = IsSilent NoMemory old new answer
 
--- why the scene of this name wasn't raised is told
-abbrev pub IsUnstagedTold : List ℕ → RaiseError → ℕ → ℕ → Option (List ℕ) → Option (List ℕ) → Status → Type 0
-IsUnstagedTold scene (raise.Fault fault) puts_old puts_new old new answer =
-    IsTold (refused_with (fault_at (Flawed fault.flaw) scene fault.place)) puts_old puts_new old new answer
-IsUnstagedTold scene raise.Memory puts_old puts_new old new answer = IsSilent NoMemory old new answer
+-- why a scene wasn't raised is told, of one of these files
+abbrev pub IsUnstagedTold : List (List ℕ) → RaiseError → ℕ → ℕ → Option (List ℕ) → Option (List ℕ) → Status → Type 0
+IsUnstagedTold files (raise.Fault fault) puts_old puts_new old new answer =
+    IsTold (refused_with (scene_fault files fault)) puts_old puts_new old new answer
+IsUnstagedTold files raise.Memory puts_old puts_new old new answer = IsSilent NoMemory old new answer
 
 -- a beginning of what is written of loaded files
-pub data IsWithinLoaded (run : Run) (manner : Manner) (loaded : Loaded) (old new : Option (List ℕ)) : Type 0 where
-  none_written : new ≡ old → IsWithinLoaded run manner loaded old new
-  some_written : (extent : Extent) (out : Output) → IsOutputOfLoaded run manner extent loaded out
-      → GrewByPrefix old new out.bytes → IsWithinLoaded run manner loaded old new
+pub data IsWithinLoaded (manner : Manner) (loaded : Loaded) (old new : Option (List ℕ)) : Type 0 where
+  none_written : new ≡ old → IsWithinLoaded manner loaded old new
+  some_written : (extent : Extent) (out : Output) → IsOutputOfLoaded manner extent loaded out
+      → GrewByPrefix old new out.bytes → IsWithinLoaded manner loaded old new
 
 -- all that is written of loaded files
-pub record AnswersLoaded (run : Run) (manner : Manner) (loaded : Loaded) (old new : Option (List ℕ)) (answer : Status)
+pub record AnswersLoaded (manner : Manner) (loaded : Loaded) (old new : Option (List ℕ)) (answer : Status)
     : Type 0 where
   pub out : Output
-  pub plain : IsOutputOfLoaded run manner all_lines loaded out
+  pub plain : IsOutputOfLoaded manner all_lines loaded out
   pub bytes : new ≡ grown old out.bytes
   pub status : answer ≡ out.status
 
 -- what is said of a run whose files are loaded
-pub record IsLoadedPlayed (run : Run) (manner : Manner) (loaded : Loaded) (puts_old puts_new : ℕ)
+pub record IsLoadedPlayed (manner : Manner) (loaded : Loaded) (puts_old puts_new : ℕ)
     (old new : Option (List ℕ)) (answer : Status) : Type 0 where
-  pub answers : IsAnswer answer → AnswersLoaded run manner loaded old new answer
-  pub within : IsWithinLoaded run manner loaded old new
+  pub answers : IsAnswer answer → AnswersLoaded manner loaded old new answer
+  pub within : IsWithinLoaded manner loaded old new
   pub write : answer ≡ WriteFault → Rose puts_old puts_new
   pub usage : ¬ (answer ≡ Usage)
   pub read : ¬ (answer ≡ ReadFault)

@@ -2,7 +2,8 @@
 ghost use Rattle.fx_play.specs.Ends.{IsUnloadedTold, IsUnstagedTold};
 
 use crate::endings::tell_fault;
-use fx_load_parts::{FaultKind, FileFault, LoadError};
+use fx_base::Str;
+use fx_load_parts::{FileFault, LoadError, name_in};
 use fx_plain::Status;
 use fx_port::Sink;
 use fx_scene_raise::RaiseError;
@@ -20,19 +21,20 @@ pub(crate) fn tell_unloaded<O: Sink>(alloc: Global, error: LoadError<'_>, out: &
     }
 }
 
-/// Ends a run whose scene, in the file of this name, wasn't raised.
+/// Ends a run whose scene wasn't raised; the fault is in one of these files.
 pub(crate) fn tell_unstaged<O: Sink>(
     alloc: Global,
-    scene: &str,
+    files: &[Str],
     error: RaiseError,
     out: &mut O,
 ) -> Status
-    ensures { IsUnstagedTold scene.now error (O.faults out.old) (O.faults out.new) (O.written out.old)
+    ensures { IsUnstagedTold files.now error (O.faults out.old) (O.faults out.new) (O.written out.old)
         (O.written out.new) result }
 {
     match error {
         RaiseError::Fault(fault) => {
-            let told = FileFault::at(FaultKind::Flawed(fault.flaw), scene, fault.place);
+            let name = name_in(files, fault.place.file);
+            let told = FileFault::at(fault.kind, name, fault.place.position);
             tell_fault(alloc, &told, out)
         }
         RaiseError::Memory => Status::NoMemory,

@@ -64,30 +64,30 @@ pub(crate) fn play_run<F: Shelf, O: Sink, L: Ledgers>(
         Ok(loaded) => loaded,
         Err(error) => return tell_unloaded(alloc, error, out),
     };
-    play_loaded(alloc, run, manner, loaded, out, work)
+    play_loaded(alloc, manner, loaded, out, work)
 }
 
 /// Plays a run whose files are loaded.
 fn play_loaded<O: Sink, L: Ledgers>(
     alloc: Global,
-    run: &Run<'_>,
     manner: Manner,
     loaded: Loaded,
     out: &mut O,
     work: &mut Work<L>,
 ) -> Status
     requires few { vec_len loaded.lines ≤ 100000 }
-    ensures { IsLoadedPlayed (run_of run.now) manner (loaded_of loaded) (O.faults out.old) (O.faults out.new)
+    ensures { IsLoadedPlayed manner (loaded_of loaded) (O.faults out.old) (O.faults out.new)
         (O.written out.old) (O.written out.new) result }
 {
     let Loaded {
-        acts,
+        tasks,
+        files,
         lines,
         warnings,
     } = loaded;
-    let mut game = match staged(alloc, manner.window, acts, work) {
+    let mut game = match staged(alloc, manner.window, tasks, work) {
         Ok(game) => game,
-        Err(error) => return tell_unstaged(alloc, run.scene, error, out),
+        Err(error) => return tell_unstaged(alloc, files.as_slice(), error, out),
     };
     ended(
         put_played(

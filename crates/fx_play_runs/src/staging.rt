@@ -7,24 +7,24 @@ ghost use Rattle.fx_play_runs.specs.Staging.{IsStaged};
 
 use fx_base::{Ledgers, Work};
 use fx_play_frames::Game;
-use fx_scene_acts::Act;
+use fx_scene_acts::Task;
 use fx_scene_raise::{RaiseError, raise};
 use fx_stage::Stage;
 use std::alloc::Global;
 
 /// Raises a scene on a bare stage, in a window of this width and this height in pixels if one is asked for, or answers
-/// the first fault of what it asks for.
+/// the first fault of what is done for it.
 pub fn staged<L: Ledgers>(
     alloc: Global,
     window: Option<(u32, u32)>,
-    acts: Vec<Act>,
+    tasks: Vec<Task>,
     work: &mut Work<L>,
 ) -> Result<Game, RaiseError>
-    ensures staged { IsStaged window acts.items result }
+    ensures staged { IsStaged window tasks.items result }
     ensures fresh { IfOk result (λ game. game.frames ≡ 0) }
 {
     let mut stage = Stage::new(alloc);
-    raise(alloc, &mut stage, acts, work)?;
+    raise(alloc, &mut stage, tasks, work)?;
     Ok(game_in(alloc, window, stage))
 }
 

@@ -1,6 +1,7 @@
--- What acts make of a world: each is a step of building, or a flaw. The first flaw ends them, and so does the first step
--- that is refused, whose word is a flaw at its place.
+-- What tasks make of a world: each is a step of building, or a fault. The first fault ends them, and so does the first
+-- step that is refused, whose word is a flaw at its place.
 use Rattle.std.specs.Prelude.{◌≡◌, ℕ, List, [], ◌∷◌, Result, Ok, Err}
+use Rattle.fx_base.specs.declared.positions.Place.{Place}
 use Rattle.fx_base.specs.declared.positions.Position.{Position}
 use Rattle.fx_scene_plan.specs.Plans.{Standing, stepped, unbuilt}
 use Rattle.fx_stage_model.specs.World.{World}
@@ -8,8 +9,12 @@ use Rattle.fx_stage_types.specs.declared.refusals.Refusal.{Refusal}
 use Rattle.fx_stage_types.specs.declared.refusals.Refusal.TheVariants as word
 use Rattle.fx_scene_acts.specs.declared.acts.Act.{Act}
 use Rattle.fx_scene_acts.specs.declared.acts.Deed.{Deed}
-use Rattle.fx_scene_acts.specs.declared.acts.Deed.TheVariants as deed
-use Rattle.fx_scene_flaws.specs.declared.flaws.Fault.{Fault}
+use Rattle.fx_scene_acts.specs.declared.tasks.Doing.{Doing}
+use Rattle.fx_scene_acts.specs.declared.tasks.Doing.TheVariants as doing
+use Rattle.fx_scene_acts.specs.declared.tasks.SceneFault.{SceneFault}
+use Rattle.fx_scene_acts.specs.declared.tasks.Task.{Task}
+use Rattle.fx_scene_flaws.specs.declared.flaws.FaultKind.{FaultKind}
+use Rattle.fx_scene_flaws.specs.declared.flaws.FaultKind.TheVariants.{Flawed}
 use Rattle.fx_scene_flaws.specs.declared.flaws.Flaw.{Flaw}
 use Rattle.fx_scene_flaws.specs.declared.flaws.Flaw.TheVariants as flaw
 
@@ -37,36 +42,40 @@ flaw_of word.Used = flaw.Value
 flaw_of word.Button = flaw.Value
 flaw_of word.Full = flaw.Limit
 
-abbrev pub fault_at : Position → Flaw → Fault
-fault_at place flaw = record { flaw = flaw; place = place }
-
--- an act that is a step, and one that is a flaw
+-- what a place of a document asks for
 abbrev pub act_of : Position → Deed → Act
 act_of place deed = record { place = place; deed = deed }
 
+-- what is done at a place of a file
+abbrev pub task_of : Place → Doing → Task
+task_of place doing = record { place = place; doing = doing }
+
+abbrev pub fault_at : Place → FaultKind → SceneFault
+fault_at place kind = record { kind = kind; place = place }
+
 -- what a step makes, or the flaw that its word is
-abbrev pub told : Position → Result Standing Refusal → Result Standing Fault
+abbrev pub told : Place → Result Standing Refusal → Result Standing SceneFault
 told place (Ok standing) = Ok standing
-told place (Err word) = Err (fault_at place (flaw_of word))
+told place (Err word) = Err (fault_at place (Flawed (flaw_of word)))
 
-abbrev pub done : ℕ → Position → Deed → Standing → Result Standing Fault
-done slot place (deed.Step step) standing = told place (stepped slot step standing)
-done slot place (deed.Flaw flaw) standing = Err (fault_at place flaw)
+abbrev pub done : ℕ → Place → Doing → Standing → Result Standing SceneFault
+done slot place (doing.Step step) standing = told place (stepped slot step standing)
+done slot place (doing.Fault kind) standing = Err (fault_at place kind)
 
--- what one act makes of what stands, or its fault; what it makes anew is kept in this slot
-unfoldable pub acted : ℕ → Act → Standing → Result Standing Fault
-acted slot act standing = done slot act.place act.deed standing
+-- what one task makes of what stands, or its fault; what it makes anew is kept in this slot
+unfoldable pub acted : ℕ → Task → Standing → Result Standing SceneFault
+acted slot task standing = done slot task.place task.doing standing
 
--- What acts make of what stands, one after another, or the fault of the first that has one. Each node is kept in some
+-- What tasks make of what stands, one after another, or the fault of the first that has one. Each node is kept in some
 -- slot.
-pub data IsActedFrom : Standing → List Act → Result Standing Fault → Type 0 where
+pub data IsActedFrom : Standing → List Task → Result Standing SceneFault → Type 0 where
   all_done : (standing : Standing) → IsActedFrom standing [] (Ok standing)
-  one_ends : (slot : ℕ) (standing : Standing) (act : Act) (acts : List Act) (fault : Fault)
-      → acted slot act standing ≡ Err fault → IsActedFrom standing (act ∷ acts) (Err fault)
-  one_done : (slot : ℕ) (standing next : Standing) (act : Act) (acts : List Act)
-      (answer : Result Standing Fault) → acted slot act standing ≡ Ok next → IsActedFrom next acts answer
-      → IsActedFrom standing (act ∷ acts) answer
+  one_ends : (slot : ℕ) (standing : Standing) (task : Task) (tasks : List Task) (fault : SceneFault)
+      → acted slot task standing ≡ Err fault → IsActedFrom standing (task ∷ tasks) (Err fault)
+  one_done : (slot : ℕ) (standing next : Standing) (task : Task) (tasks : List Task)
+      (answer : Result Standing SceneFault) → acted slot task standing ≡ Ok next → IsActedFrom next tasks answer
+      → IsActedFrom standing (task ∷ tasks) answer
 
--- what acts make of a world in which none of their nodes is made yet
-abbrev pub IsActed : List Act → World → Result Standing Fault → Type 0
-IsActed acts world answer = IsActedFrom (unbuilt world) acts answer
+-- what tasks make of a world in which none of their nodes is made yet
+abbrev pub IsActed : List Task → World → Result Standing SceneFault → Type 0
+IsActed tasks world answer = IsActedFrom (unbuilt world) tasks answer

@@ -39,3 +39,18 @@ pub struct Fault {
     pub flaw: Flaw,
     pub place: Position,
 }
+
+/// Why a file is refused.
+#[derive(Clone, Copy, PartialEq, Eq, Debug)]
+pub enum FaultKind {
+    /// The file is absent.
+    Missing,
+    /// The file has more than 4,194,304 bytes.
+    TooLarge,
+    /// The file isn't UTF-8.
+    NotUtf8,
+    /// No document goes on as the file does.
+    Markup,
+    /// Something in it is wrong.
+    Flawed(Flaw),
+}

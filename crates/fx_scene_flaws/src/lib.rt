@@ -1,6 +1,6 @@
-//! What may be wrong with a document where it is read for a scene.
+//! What may be wrong with a document where it is read for a scene, and with the files of a run.
 #![tactic(auto)]
 
 mod flaws;
 
-pub use flaws::{Fault, Flaw};
+pub use flaws::{Fault, FaultKind, Flaw};

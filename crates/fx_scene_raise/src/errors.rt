@@ -2,7 +2,7 @@
 ghost use Rattle.std.specs.Prelude.{◌≡◌};
 ghost use Rattle.fx_scene_raise.specs.declared.errors.RaiseError.TheVariants.{Memory};
 
-use fx_scene_flaws::Fault;
+use fx_scene_acts::SceneFault;
 use std::alloc::{AllocError, AllocFailed};
 use thiserror::Error;
 
@@ -11,7 +11,7 @@ use thiserror::Error;
 pub enum RaiseError {
     /// The first fault in the order of work.
     #[error("at fault")]
-    Fault(Fault),
+    Fault(SceneFault),
     #[error("out of memory")]
     Memory,
 }

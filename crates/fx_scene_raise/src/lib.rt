@@ -1,4 +1,4 @@
-//! Carrying out what a document asks for: acts, one after another, on a stage.
+//! Carrying out what is done for a scene: tasks, one after another, on a stage.
 #![tactic(auto)]
 
 mod errors;

@@ -1,57 +1,57 @@
-//! One act after another.
+//! One task after another.
 ghost use Rattle.std.specs.Prelude.{◌≡◌};
 ghost use Rattle.fx_scene_acts.specs.Acts.{fault_at};
 ghost use Rattle.fx_scene_plan.specs.Plans.{standing_of};
-ghost use Rattle.fx_scene_raise.specs.Raising.{IsActTaken, IsErrorTold, IsRaised, IsTold};
+ghost use Rattle.fx_scene_raise.specs.Raising.{IsTaskTaken, IsErrorTold, IsRaised, IsTold};
 ghost use Rattle.fx_scene_raise.specs.declared.errors.RaiseError.TheVariants.{Fault as IsFault};
 
 use crate::errors::RaiseError;
-use fx_base::{Ledgers, NodeKey, Position, Work};
-use fx_scene_acts::{Act, Deed, flaw_of};
+use fx_base::{Ledgers, NodeKey, Place, Work};
+use fx_scene_acts::{Doing, SceneFault, Task, flaw_of};
 use fx_scene_build::take_step;
-use fx_scene_flaws::{Fault, Flaw};
+use fx_scene_flaws::FaultKind;
 use fx_stage::Stage;
 use fx_stage_types::StageError;
 use std::alloc::Global;
 
-/// Does what the acts ask for, and answers the nodes by their ordinals. What was built before an act at fault, or before
+/// Does the tasks, and answers the nodes by their ordinals. What was built before a task at fault, or before
 /// memory ran out, stays on the stage.
 pub fn raise<L: Ledgers>(
     alloc: Global,
     stage: &mut Stage,
-    acts: Vec<Act>,
+    tasks: Vec<Task>,
     work: &mut Work<L>,
 ) -> Result<Vec<NodeKey>, RaiseError>
-    ensures { IsRaised acts.items stage.old stage.new result }
+    ensures { IsRaised tasks.items stage.old stage.new result }
 {
     let mut keys = Vec::new(alloc);
-    let mut left = acts;
+    let mut left = tasks;
     left.reverse();
-    while let Some(act) = left.pop() {
-        take_act(alloc, stage, &mut keys, act, work)?;
+    while let Some(task) = left.pop() {
+        take_task(alloc, stage, &mut keys, task, work)?;
     }
     Ok(keys)
 }
 
 #[tactic(auto, unfolding(fx_scene_acts::specs::Acts::acted))]
-fn take_act<L: Ledgers>(
+fn take_task<L: Ledgers>(
     alloc: Global,
     stage: &mut Stage,
     keys: &mut Vec<NodeKey>,
-    act: Act,
+    task: Task,
     work: &mut Work<L>,
 ) -> Result<(), RaiseError>
-    ensures { IsActTaken act (standing_of stage.old keys.old.items) (standing_of stage.new keys.new.items) result }
+    ensures { IsTaskTaken task (standing_of stage.old keys.old.items) (standing_of stage.new keys.new.items) result }
 {
-    let Act { place, deed } = act;
-    match deed {
-        Deed::Step(step) => told(place, take_step(alloc, stage, keys, step, work)),
-        Deed::Flaw(flaw) => Err(fault(place, flaw)),
+    let Task { place, doing } = task;
+    match doing {
+        Doing::Step(step) => told(place, take_step(alloc, stage, keys, step, work)),
+        Doing::Fault(kind) => Err(fault(place, kind)),
     }
 }
 
 /// A word by which a step is refused is a fault at its place.
-fn told(place: Position, answer: Result<(), StageError>) -> Result<(), RaiseError>
+fn told(place: Place, answer: Result<(), StageError>) -> Result<(), RaiseError>
     ensures { IsTold place answer result }
 {
     match answer {
@@ -60,17 +60,17 @@ fn told(place: Position, answer: Result<(), StageError>) -> Result<(), RaiseErro
     }
 }
 
-fn error_at(place: Position, error: StageError) -> RaiseError
+fn error_at(place: Place, error: StageError) -> RaiseError
     ensures { IsErrorTold place error result }
 {
     match error {
-        StageError::Refused(word) => fault(place, flaw_of(word)),
+        StageError::Refused(word) => fault(place, FaultKind::Flawed(flaw_of(word))),
         StageError::Memory => RaiseError::Memory,
     }
 }
 
-fn fault(place: Position, flaw: Flaw) -> RaiseError
-    ensures { result ≡ IsFault (fault_at place flaw) }
+fn fault(place: Place, kind: FaultKind) -> RaiseError
+    ensures { result ≡ IsFault (fault_at place kind) }
 {
-    RaiseError::Fault(Fault { flaw, place })
+    RaiseError::Fault(SceneFault { kind, place })
 }

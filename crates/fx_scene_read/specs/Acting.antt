@@ -12,6 +12,7 @@ use Rattle.fx_scene_bindings.specs.Names.{Name, found}
 use Rattle.fx_scene_flaws.specs.declared.flaws.Flaw.TheVariants as flaw
 use Rattle.fx_scene_literals.specs.Needs.{has_attribute}
 use Rattle.fx_scene_plan.specs.declared.steps.PlannedStep.TheVariants as planned
+use Rattle.fx_scene_read.specs.Sheets.{sheet_deeds}
 use Rattle.fx_scene_values.specs.Forms as form
 use Rattle.fx_scene_values.specs.Forms.{Form, form_of}
 use Rattle.fx_scene_values.specs.Properties.{property_deed, property_named}
@@ -48,7 +49,7 @@ deeds_by imports names class node attributes a role.Name = name_deeds names node
 deeds_by imports names class node attributes a role.Ignored = []
 deeds_by imports names class node attributes a role.Style = style_deed node a.value ∷ []
 deeds_by imports names class node attributes a role.Classes = class_deeds node a.value
-deeds_by imports names class node attributes a role.Sheets = deed.Flaw flaw.NotBuilt ∷ []
+deeds_by imports names class node attributes a role.Sheets = sheet_deeds node a.value
 deeds_by imports names class node attributes a (role.Handler on) = handler_deed node on a.value ∷ []
 deeds_by imports names class node attributes a role.Static = static_deed imports node a.name a.value ∷ []
 deeds_by imports names class node attributes a role.Property =

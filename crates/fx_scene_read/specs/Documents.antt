@@ -89,7 +89,7 @@ bindings_behind names node (piece ∷ pieces) =
 
 abbrev pub is_flaw : Deed → Bool
 is_flaw (deed.Flaw mistake) = true
-is_flaw (deed.Step step) = false
+is_flaw _ = false
 
 abbrev pub has_flaw : List Act → Bool
 has_flaw acts = list_any (λ (act : Act). is_flaw act.deed) acts

@@ -7,6 +7,7 @@ ghost use Rattle.fx_scene_bindings.specs.Views.{named_view};
 ghost use Rattle.fx_scene_read.specs.Acting as spec;
 ghost use Rattle.fx_scene_values.specs.Views.{form_view};
 
+use crate::sheets::add_sheets;
 use fx_base::{List, Text, Value};
 use fx_doc::Attribute;
 use fx_kinds::{Class, Property};
@@ -43,7 +44,7 @@ pub(crate) fn add_deeds(
         Role::Ignored => Ok(()),
         Role::Style => add(deeds, style_deed(alloc, node, text)?),
         Role::Classes => add_classes(alloc, node, text, deeds),
-        Role::Sheets => add(deeds, Deed::Flaw(Flaw::NotBuilt)),
+        Role::Sheets => add_sheets(alloc, node, text, deeds),
         Role::Handler(on) => add(deeds, handler_deed(alloc, node, on, text)?),
         Role::Static => add(deeds, static_deed(alloc, imports, node, &a.name, text)?),
         Role::Property => {

@@ -16,6 +16,6 @@ fn is_flaw(deed: &Deed) -> bool
 {
     match deed {
         Deed::Flaw(_) => true,
-        Deed::Step(_) => false,
+        _ => false,
     }
 }

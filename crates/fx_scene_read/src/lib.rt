@@ -8,5 +8,6 @@ mod flaws;
 mod instances;
 mod opening;
 mod references;
+mod sheets;
 
 pub use documents::acts_of;

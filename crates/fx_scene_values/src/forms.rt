@@ -65,7 +65,7 @@ fn brace_form(inside: &str) -> Form<'_>
 }
 
 /// What stands behind the sign at the front.
-pub(crate) fn behind_sign(text: &str, sign: char) -> Option<&str>
+pub fn behind_sign(text: &str, sign: char) -> Option<&str>
     requires { sign < 128 }
     ensures { option_map (λ rest. rest.now) result ≡ behind_sign sign text.now }
 {

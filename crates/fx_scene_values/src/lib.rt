@@ -9,9 +9,9 @@ mod statics;
 mod styles;
 mod values;
 
-pub use forms::{Form, form_of};
+pub use forms::{Form, behind_sign, form_of};
 pub use properties::{property_deed, property_given, property_named};
 pub use roles::{Role, role_of};
 pub use statics::{static_deed, static_given};
-pub use styles::{add_classes, handler_deed, style_deed};
+pub use styles::{add_classes, handler_deed, items_of, style_deed, trim_white};
 pub use values::{Given, literal, planned_property, value_in};

@@ -76,7 +76,8 @@ fn add_items(
     Ok(())
 }
 
-fn items_of<'a>(alloc: Global, text: &'a str) -> Result<Vec<&'a str>, AllocError>
+/// The items of a list: what stands between commas.
+pub fn items_of<'a>(alloc: Global, text: &'a str) -> Result<Vec<&'a str>, AllocError>
     ensures { IfOk result (λ items. map (λ item. item.now) items.items ≡ slice_split spec.is_comma text.now) }
 {
     text.split(',').collect(alloc)
@@ -101,7 +102,7 @@ fn literal_class(alloc: Global, node: usize, name: &str) -> Result<Deed, AllocEr
 }
 
 /// The text without the white at its ends.
-fn trim_white(text: &str) -> &str
+pub fn trim_white(text: &str) -> &str
     ensures { result.now ≡ trimmed text.now }
 {
     match str::from_utf8(trimmed(text.as_bytes())) {

@@ -1,10 +1,9 @@
--- the script, the sheets or the scene is refused, or all of them are read
-use Rattle.std.proofs.Common.{Vec, map, ◌∙◌, ◌++◌, ap}
+-- the script, the sheets or the scene is refused, a further file isn't fetched, or all of them are read
+use Rattle.std.proofs.Common.{Vec, map, ◌∙◌, refl}
 use Rattle.std.specs.Global.{Global}
 use Rattle.fx_css_types.specs.declared.sheets.Sheet.{Sheet}
 use Rattle.fx_load.specs.Loads.{loaded_of}
-use Rattle.fx_load.specs.Telling.{style_warnings}
-use Rattle.fx_load.proofs.LoadLemmas.{all_loaded, scene_stops, script_stops, sheets_stop}
+use Rattle.fx_load.proofs.LoadLemmas.{all_loaded, fetch_stops, scene_stops, script_stops, sheets_stop}
 use Rattle.fx_load_parts.specs.Views.{run_of}
 use Rattle.fx_scene_acts.specs.declared.acts.Act.{Act}
 use Rattle.fx_script_commands.specs.Requests.{line_view}
@@ -31,18 +30,25 @@ returns-in_err-acts-clause-says g c = λ files e.
     (c.in_err-acts.ensures.says files (c.in_ok-sheets.ensures.held ∙ (c.in_ok-lines.ensures.held ∙ e)))
     c.from_residual-in_err-acts.ensures.1
 
+pub returns-in_err-add_tasks-clause-says : goal.returns-in_err-add_tasks-clause-says
+returns-in_err-add_tasks-clause-says g c = λ files e.
+    fetch_stops (run_of c.args.run.now) files c.in_err-add_tasks.field-0.0 c.from_residual-in_err-add_tasks.result
+    c.from_residual-in_err-add_tasks.ensures.1
+
 pub returns-clause-says : goal.returns-clause-says
 returns-clause-says g c = λ files e.
     all_loaded (run_of c.args.run.now) files (map line_view c.in_ok-lines.lines.items) c.in_ok-sheets.sheets.items
     c.in_ok-acts.acts.items
-    (loaded_of (record { acts = c.in_ok-acts-2.acts; lines = c.in_ok-lines.lines; warnings = c.in_ok-warnings.warnings }))
-    (c.in_ok-lines.ensures.says files e) (c.in_ok-sheets.ensures.says files (c.in_ok-lines.ensures.held ∙ e))
+    (loaded_of (record {
+      tasks = c.add_tasks.new.tasks;
+      files = c.add_tasks.new.files;
+      lines = c.in_ok-lines.lines;
+      warnings = c.in_ok-warnings.warnings;
+    }))
+    c.in_ok-files.files.items c.in_ok-tasks.tasks.items (c.in_ok-lines.ensures.says files e)
+    (c.in_ok-sheets.ensures.says files (c.in_ok-lines.ensures.held ∙ e))
     (c.in_ok-acts.ensures.says files (c.in_ok-sheets.ensures.held ∙ (c.in_ok-lines.ensures.held ∙ e)))
-    (λ i. record {
-      acts = c.in_ok-acts-2.ensures i;
-      lines = map line_view c.in_ok-lines.lines.items;
-      warnings =
-          ((rw c.as_slice-2.ensures.value at c.in_ok-warnings.ensures)
-          ∙ ap (λ told. told ++ style_warnings c.args.run.now.scene.now c.in_ok-acts.acts.items)
-          (rw c.as_slice.ensures.value at c.in_ok-told.ensures)) i;
-    })
+    c.in_ok-files.ensures c.in_ok-tasks.ensures
+    (c.in_ok-add_tasks.ensures.made files
+    (c.in_ok-acts.ensures.held ∙ (c.in_ok-sheets.ensures.held ∙ (c.in_ok-lines.ensures.held ∙ e)))) refl
+    (rw (c.as_slice.ensures.value, c.as_slice-2.ensures.value) at c.in_ok-warnings.ensures)

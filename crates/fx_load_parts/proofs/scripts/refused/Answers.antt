@@ -3,7 +3,7 @@ use Rattle.std.proofs.Common.{ℕ, List, Err, sym, ◌∙◌, ap, subst}
 use Rattle.std.specs.Str.{chars}
 use Rattle.fx_base.specs.Positions.{after_all, start}
 use Rattle.fx_load_parts.specs.Faults.{Fault, fault_at}
-use Rattle.fx_load_parts.specs.declared.files.FaultKind.TheVariants as kind
+use Rattle.fx_scene_flaws.specs.declared.flaws.FaultKind.TheVariants as kind
 use Rattle.fx_load_parts.proofs.ScriptLemmas.{IsFaultOf, script_refused}
 use Rattle.fx_load_parts.proofs.scripts.refused.Goals as goal
 

@@ -1,0 +1,8 @@
+-- the items so far
+use Rattle.std.proofs.Common.{◌≡◌, ◌++◌, map, take, List, ℕ, Bor}
+use Rattle.fx_scene_read.specs.Sheets.{item_deeds}
+use Rattle.fx_scene_read.proofs.sheets.add_items.Given as goal
+
+abbrev pub invariant-loop-item : goal.invariant-loop-item
+invariant-loop-item l =
+    l.deeds.items ≡ l.fn.deeds.items ++ item_deeds l.node (map (λ (item : Bor (List ℕ)). item.now) (take l.item-index l.items))

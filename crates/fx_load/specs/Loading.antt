@@ -49,8 +49,8 @@ scene_in files file name = acts_of_bytes name (fetched files file name)
 abbrev pub sheet_task : Sheet → Task
 sheet_task sheet = task_at 0 nowhere (Step (planned.Sheet None sheet))
 
--- what builds the scene, all files that were fetched behind the script, the lines that are played on the scene, and what
--- is told before them of what was dropped of sheets
+-- what builds the scene, all files that were fetched behind the script, the lines that are played on the scene, and
+-- what is told before them of what was dropped of sheets
 pub record Loaded : Type 0 where
   pub tasks : List Task
   pub files : List (List ℕ)

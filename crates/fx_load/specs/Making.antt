@@ -1,5 +1,5 @@
--- The tasks of a document: each of its acts is one, and the style sheets that it asks for are fetched and read where they
--- are asked for. The first fault ends them.
+-- The tasks of a document: each of its acts is one, and the style sheets that it asks for are fetched and read where
+-- they are asked for. The first fault ends them.
 use Rattle.std.specs.Prelude.{◌≡◌, ◌<◌, ◌≤◌, ℕ, ◌+◌, Bool, true, false, List, [], ◌∷◌, ◌++◌, Some, None, Ok, Err, length}
 use Rattle.fx_base.specs.declared.positions.Place.{Place}
 use Rattle.fx_base.specs.declared.positions.Position.{Position}
@@ -51,7 +51,8 @@ pub data IsMade (files : Files) (file : ℕ) (name : List ℕ) (count : ℕ) : A
   bad_location : (place : Position) (node : ℕ) (location : List ℕ) → joined name location ≡ None
       → IsMade files file name count (act_of place (deed.Sheet node location)) (flaw_at file place flaw.Value) []
   one_too_many : (place : Position) (node : ℕ) (location target : List ℕ) → joined name location ≡ Some target
-      → 63 ≤ count → IsMade files file name count (act_of place (deed.Sheet node location)) (flaw_at file place flaw.Limit) []
+      → 63 ≤ count
+      → IsMade files file name count (act_of place (deed.Sheet node location)) (flaw_at file place flaw.Limit) []
   sheet_refused : (place : Position) (node : ℕ) (location target : List ℕ) (fault : Fault)
       → joined name location ≡ Some target → count < 63 → IsSheetIn files count target (Err fault)
       → IsMade files file name count (act_of place (deed.Sheet node location)) (fault_in count fault) (target ∷ [])

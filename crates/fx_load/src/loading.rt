@@ -23,8 +23,8 @@ use fx_scene_plan::PlannedStep;
 use fx_script_commands::Line;
 use std::alloc::{AllocError, Global};
 
-/// What builds the scene of a run, the names of all files that were fetched behind its script, the lines of the script, and
-/// the lines that tell what was dropped of sheets and of inline styles.
+/// What builds the scene of a run, the names of all files that were fetched behind its script, the lines of the script,
+/// and the lines that tell what was dropped of sheets and of inline styles.
 #[derive(Drop)]
 pub struct Loaded {
     pub tasks: Vec<Task>,
@@ -33,8 +33,8 @@ pub struct Loaded {
     pub warnings: Vec<u8>,
 }
 
-/// The script, the sheets and the scene of a run with the files that it asks for, or the first fault in the order of work
-/// that comes before the scene is known. What comes later is the last task.
+/// The script, the sheets and the scene of a run with the files that it asks for, or the first fault in the order of
+/// work that comes before the scene is known. What comes later is the last task.
 pub fn load<'a, F: Shelf>(
     alloc: Global,
     run: &Run<'a>,

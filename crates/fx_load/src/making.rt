@@ -19,8 +19,8 @@ use fx_scene_places::joined;
 use fx_scene_plan::PlannedStep;
 use std::alloc::{AllocError, Global};
 
-/// Adds the tasks of the acts of a document, the file of this number and name, up to the first fault, and the names of the
-/// files that are fetched for them.
+/// Adds the tasks of the acts of a document, the file of this number and name, up to the first fault, and the names of
+/// the files that are fetched for them.
 pub(crate) fn add_tasks<F: Shelf>(
     alloc: Global,
     shelf: &mut F,

@@ -7,8 +7,8 @@ use crate::walking::{folder_of, parts_of, walk};
 use fx_base::Str;
 use std::alloc::{AllocError, Global};
 
-/// The name of the file at a location beside a file, or none where the location is bad. A location is judged by its text;
-/// it has parts between slashes, of which `.` is the folder itself and `..` the one above.
+/// The name of the file at a location beside a file, or none where the location is bad. A location is judged by its
+/// text; it has parts between slashes, of which `.` is the folder itself and `..` the one above.
 #[tactic(auto, unfolding(crate::specs::Places::joined))]
 pub fn joined(alloc: Global, file: &str, location: &str) -> Result<Option<Str>, AllocError>
     ensures { IfOk result (λ name. name ≡ spec.joined file.now location.now) }

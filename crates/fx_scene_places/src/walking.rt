@@ -24,8 +24,8 @@ pub(crate) fn folder_of<'a>(alloc: Global, file: &'a str) -> Result<Vec<&'a str>
 /// Goes from the folder along the parts; no, where one of them leads above the start.
 #[tactic(auto, unfolding(crate::specs::Places::walked))]
 pub(crate) fn walk<'a>(folder: &mut Vec<&'a str>, parts: &[&'a str]) -> Result<bool, AllocError>
-    ensures { IfOk result (λ found. spec.walked (map (λ part. part.now) folder.old.items) (map (λ part. part.now) parts.now)
-        ≡ (if found then Some (map (λ part. part.now) folder.new.items) else None)) }
+    ensures { IfOk result (λ found. spec.walked (map (λ part. part.now) folder.old.items)
+        (map (λ part. part.now) parts.now) ≡ (if found then Some (map (λ part. part.now) folder.new.items) else None)) }
 {
     for part in parts {
         if !step(folder, part)? {

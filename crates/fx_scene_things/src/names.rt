@@ -1,0 +1,69 @@
+//! The names of a document that are known so far.
+ghost use Rattle.std.specs.Prelude.{◌≡◌, OnOk};
+ghost use Rattle.std.specs.Option.{option_copied};
+ghost use Rattle.fx_scene_things.specs.Known.{known};
+ghost use Rattle.fx_scene_things.specs.Names as spec;
+
+use crate::things::{Named, Thing};
+use indexmap::IndexMap;
+use std::alloc::{AllocError, Global};
+
+/// Names with what they stand for.
+#[derive(Drop)]
+pub struct Names<'a> {
+    things: IndexMap<&'a str, Thing>,
+}
+
+impl<'a> Names<'a> {
+    /// No name is known.
+    pub fn new(alloc: Global) -> Names<'a>
+        ensures { known result ≡ spec.nothing }
+    {
+        Names {
+            things: IndexMap::new(alloc),
+        }
+    }
+
+    /// What the name stands for.
+    pub fn get(&self, name: &str) -> Option<&Thing>
+        ensures { option_copied result ≡ known self.now name.now }
+    {
+        self.things.get(name)
+    }
+
+    /// The node of this name.
+    pub fn node(&self, name: &str) -> Option<Named>
+        ensures { result ≡ spec.node_of (known self.now) name.now }
+    {
+        match self.get(name) {
+            Some(thing) => node_in(thing),
+            None => None,
+        }
+    }
+
+    /// Has anything the name?
+    pub fn has(&self, name: &str) -> bool
+        ensures { result ≡ spec.has_name (known self.now) name.now }
+    {
+        self.get(name).is_some()
+    }
+
+    /// The name stands for this from now on.
+    pub fn put(&mut self, name: &'a str, thing: Thing) -> Result<(), AllocError>
+        ensures ok { OnOk result (known self.new ≡ spec.with_name (known self.old) name.now thing) }
+    {
+        match self.things.insert(name, thing) {
+            Ok(_) => Ok(()),
+            Err(_) => Err(AllocError),
+        }
+    }
+}
+
+fn node_in(thing: &Thing) -> Option<Named>
+    ensures { result ≡ spec.node_in thing.now }
+{
+    match thing {
+        Thing::Node(named) => Some(*named),
+        _ => None,
+    }
+}

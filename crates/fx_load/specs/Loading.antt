@@ -22,7 +22,7 @@ use Rattle.fx_script_commands.specs.Requests.{Numbered}
 
 -- a document that is read asks for its acts; every other verdict has its fault at its place
 abbrev pub acts_of_verdict : List ℕ → Verdict → Result (List Act) Fault
-acts_of_verdict name (Reads document) = Ok (acts_of document)
+acts_of_verdict name (Reads document) = Ok (acts_of name document)
 acts_of_verdict name (Stops position) = Err (fault_at Markup name position)
 acts_of_verdict name (Deep position) = Err (fault_at (Flawed Limit) name position)
 acts_of_verdict name (Long position) = Err (fault_at (Flawed Limit) name position)

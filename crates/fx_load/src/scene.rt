@@ -54,7 +54,7 @@ fn acts_in<'a>(alloc: Global, name: &'a str, document: &Document) -> Result<Vec<
     ensures says { LoadSays (λ acts. acts.items) result (acts_of_verdict name.now (Reads (reading document.now))) }
     ensures fetches_nothing { ¬ (result ≡ Err LoadError.Failed) }
 {
-    Ok(acts_of(alloc, document)?)
+    Ok(acts_of(alloc, name, document)?)
 }
 
 /// The refusal of a file that is no document.

@@ -3,7 +3,7 @@ use Rattle.std.proofs.Common.{◌≡◌, ◌<◌, ◌≤◌, ℕ, ◌+◌, List,
 use Rattle.std.proofs.lemmas.Grind.{common_steps}
 use Rattle.std.proofs.lemmas.List.{append-nil, at_drop_all, drop_more}
 use Rattle.fx_scene_bindings.specs.Names.{behind}
-use Rattle.fx_scene_outline.specs.Pieces.{Piece as PlainPiece, Instance, Property, Reference, Wrong}
+use Rattle.fx_scene_outline.specs.Pieces.{Piece as PlainPiece, Instance, Property, Reference, Value, Wrong}
 use Rattle.fx_scene_outline.specs.Views.{piece_view, shown}
 use Rattle.fx_scene_outline.specs.declared.pieces.Piece.{Piece}
 
@@ -19,6 +19,7 @@ no_more node i h = grind (arith, common_steps)
 behind_within : (p : PlainPiece) (node i : ℕ) → node ≤ i → behind p node ≤ i + 1
 behind_within (Instance seat head) node i h = one_more node i h
 behind_within (Reference seat head) node i h = no_more node i h
+behind_within (Value head content) node i h = no_more node i h
 behind_within (Property owner class head content) node i h = no_more node i h
 behind_within (Wrong flaw place) node i h = no_more node i h
 

@@ -5,7 +5,9 @@ use Rattle.std.specs.Option.{option_map}
 use Rattle.std.specs.Str.{chars}
 use Rattle.fx_base.specs.declared.kinds.Kind.{Kind}
 use Rattle.fx_base.specs.declared.kinds.Kind.TheVariants as kind
+use Rattle.fx_base.specs.declared.values.Value.{Value as Content}
 use Rattle.fx_base.specs.declared.values.Value.TheVariants as value
+use Rattle.fx_expr.specs.Filling.{filled}
 use Rattle.fx_expr.specs.Reading.{reading_of}
 use Rattle.fx_expr.specs.Tree.{Tree, Leaf, Two, tree}
 use Rattle.fx_expr.specs.Typing.{kind_in}
@@ -16,10 +18,13 @@ use Rattle.fx_expr.specs.declared.tree.Parsed.{Parsed}
 use Rattle.fx_kinds.specs.Properties.{ListedProperty}
 use Rattle.fx_scene_acts.specs.declared.acts.Deed.{Deed}
 use Rattle.fx_scene_acts.specs.declared.acts.Deed.TheVariants as deed
-use Rattle.fx_scene_bindings.specs.Names.{Name, found}
 use Rattle.fx_scene_flaws.specs.declared.flaws.Flaw.TheVariants as flaw
 use Rattle.fx_scene_plan.specs.declared.steps.PlannedProperty.{PlannedProperty}
 use Rattle.fx_scene_plan.specs.declared.steps.PlannedStep.TheVariants as planned
+use Rattle.fx_scene_things.specs.Names.{Names, node_called}
+use Rattle.fx_scene_things.specs.declared.things.Named.{Named}
+use Rattle.fx_scene_things.specs.declared.things.Thing.{Thing}
+use Rattle.fx_scene_things.specs.declared.things.Thing.TheVariants as thing
 use Rattle.fx_scene_values.specs.Properties.{property_named}
 use Rattle.fx_scene_values.specs.Values.{property_of}
 
@@ -28,20 +33,35 @@ pub record Operand : Type 0 where
   pub node : ℕ
   pub property : ListedProperty
 
--- the node that a path leads to, of a node's name and a property's
-abbrev pub node_of : List Name → List (List ℕ) → Option Name
-node_of names (name ∷ property ∷ []) = found names name
-node_of names _ = None
+-- a value that stands right in a definition
+abbrev pub defined_value : Thing → Option Content
+defined_value (thing.Value content true) = Some content
+defined_value _ = None
+
+abbrev pub value_if : Option Thing → Option Content
+value_if None = None
+value_if (Some one) = defined_value one
+
+-- the value that a path of one name stands for
+abbrev pub value_of : Names → List (List ℕ) → Option Content
+value_of names (name ∷ []) = value_if (names name)
+value_of names _ = None
+
+-- a path leads to such a value, or to a node, by a node's name and a property's
+abbrev pub is_named : Names → List (List ℕ) → Bool
+is_named names (name ∷ []) = is_some (value_if (names name))
+is_named names (name ∷ property ∷ []) = is_some (node_called names name)
+is_named names _ = false
 
 abbrev pub operand_at : ℕ → ListedProperty → Operand
 operand_at node property = record { node = node; property = property }
 
-abbrev pub operand_in : List ℕ → Option Name → Option Operand
+abbrev pub operand_in : List ℕ → Option Named → Option Operand
 operand_in property None = None
 operand_in property (Some known) = option_map (operand_at known.node) (property_named known.class property)
 
-abbrev pub operand_of : List Name → List (List ℕ) → Option Operand
-operand_of names (name ∷ property ∷ []) = operand_in property (found names name)
+abbrev pub operand_of : Names → List (List ℕ) → Option Operand
+operand_of names (name ∷ property ∷ []) = operand_in property (node_called names name)
 operand_of names _ = None
 
 abbrev pub with_operand : Option Operand → Option (List Operand) → Option (List Operand)
@@ -49,14 +69,24 @@ with_operand None others = None
 with_operand (Some one) None = None
 with_operand (Some one) (Some others) = Some (one ∷ others)
 
--- all operands, unless one isn't there
-abbrev pub operands_of : List Name → List (List (List ℕ)) → Option (List Operand)
-operands_of names [] = Some []
-operands_of names (path ∷ paths) = with_operand (operand_of names path) (operands_of names paths)
+-- a value is no operand
+abbrev pub with_path : Option Content → Option Operand → Option (List Operand) → Option (List Operand)
+with_path (Some content) one others = others
+with_path None one others = with_operand one others
 
--- each path leads to a node
-abbrev pub are_named : List Name → List (List (List ℕ)) → Bool
-are_named names paths = list_all (λ path. is_some (node_of names path)) paths
+-- all operands, unless one isn't there
+abbrev pub operands_of : Names → List (List (List ℕ)) → Option (List Operand)
+operands_of names [] = Some []
+operands_of names (path ∷ paths) =
+    with_path (value_of names path) (operand_of names path) (operands_of names paths)
+
+-- the values among the paths
+abbrev pub values_of : Names → List (List (List ℕ)) → List (Option Content)
+values_of names paths = map (value_of names) paths
+
+-- each path leads to something
+abbrev pub are_named : Names → List (List (List ℕ)) → Bool
+are_named names paths = list_all (is_named names) paths
 
 -- a number or a truth is printed where a text is wanted
 abbrev pub is_printed : Option Kind → Bool
@@ -89,18 +119,19 @@ abbrev pub bound_if : ℕ → ListedProperty → Tree → Option (List Operand) 
 bound_if node property t None = deed.Flaw flaw.Property
 bound_if node property t (Some operands) = bound_to node property t operands
 
-abbrev pub bound_over : List Name → ℕ → ListedProperty → Tree → List (List (List ℕ)) → Deed
+abbrev pub bound_over : Names → ℕ → ListedProperty → Tree → List (List (List ℕ)) → Deed
 bound_over names node property t paths =
-    if are_named names paths then bound_if node property t (operands_of names paths) else deed.Flaw flaw.Name
+    if are_named names paths
+    then bound_if node property (filled (values_of names paths) t) (operands_of names paths) else deed.Flaw flaw.Name
 
 -- no expression; or one past its own limits; or a name that nothing has, before a property that isn't there
-abbrev pub bound_by : List Name → ℕ → ListedProperty → Result (Tree × List (List (List ℕ))) ExprError → Deed
+abbrev pub bound_by : Names → ℕ → ListedProperty → Result (Tree × List (List (List ℕ))) ExprError → Deed
 bound_by names node property (Ok read) = bound_over names node property read.0 read.1
 bound_by names node property (Err fault.Syntax) = deed.Flaw flaw.Expression
 bound_by names node property (Err other) = deed.Flaw flaw.Limit
 
 -- what binding the property of the node of an ordinal to the text asks for
-unfoldable pub bound_deed : List Name → ℕ → ListedProperty → List ℕ → Deed
+unfoldable pub bound_deed : Names → ℕ → ListedProperty → List ℕ → Deed
 bound_deed names node property text = bound_by names node property (reading_of (chars text))
 
 -- the answer of the reader of expressions; want of memory says nothing

@@ -1,12 +1,7 @@
--- Names and operands as definitions have them.
+-- Operands as definitions have them.
 use Rattle.fx_kinds.specs.Listing.{listed_property}
 use Rattle.fx_scene_bindings.specs.Bindings.{Operand as PlainOperand}
-use Rattle.fx_scene_bindings.specs.Names.{Name}
-use Rattle.fx_scene_bindings.specs.declared.names.Named.{Named}
 use Rattle.fx_scene_bindings.specs.declared.operands.Operand.{Operand}
-
-abbrev pub named_view : Named → Name
-named_view n = record { name = n.name.now; node = n.node; class = n.class }
 
 abbrev pub operand_view : Operand → PlainOperand
 operand_view o = record { node = o.node; property = listed_property o.property.now }

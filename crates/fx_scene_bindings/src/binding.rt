@@ -4,18 +4,19 @@ ghost use Rattle.std.specs.Result.{result_ok};
 ghost use Rattle.fx_expr.specs.Tree.{is_within, tree};
 ghost use Rattle.fx_kinds.specs.Listing.{listed_property};
 ghost use Rattle.fx_scene_bindings.specs.Bindings as spec;
-ghost use Rattle.fx_scene_bindings.specs.Views.{named_view, operand_view};
+ghost use Rattle.fx_scene_bindings.specs.Views.{operand_view};
+ghost use Rattle.fx_scene_things.specs.Known.{known};
 
-use crate::names::Named;
-use crate::operands::{Operand, are_named, kinds_of, operands_of, planned_of};
+use crate::operands::{Operand, are_named, kinds_of, operands_of, planned_of, values_of};
 use crate::reading::read;
 use fx_base::Kind;
-use fx_expr::{Expr, ExprError, KindError, Parsed, as_text, type_of};
+use fx_expr::{Expr, ExprError, KindError, Parsed, as_text, fill, type_of};
 use fx_graph_model::Formula;
 use fx_kinds::Property;
 use fx_scene_acts::Deed;
 use fx_scene_flaws::Flaw;
 use fx_scene_plan::PlannedStep;
+use fx_scene_things::Names;
 use fx_scene_values::planned_property;
 use std::alloc::{AllocError, Global};
 
@@ -23,13 +24,13 @@ use std::alloc::{AllocError, Global};
 #[tactic(auto, unfolding(crate::specs::Bindings::bound_deed))]
 pub fn bound_deed(
     alloc: Global,
-    names: &[Named<'_>],
+    names: &Names<'_>,
     node: usize,
     property: &Property,
     text: &str,
 ) -> Result<Deed, AllocError>
     ensures { IfOk result (λ deed. deed
-        ≡ spec.bound_deed (map named_view names.now) node (listed_property property.now) text.now) }
+        ≡ spec.bound_deed (known names.now) node (listed_property property.now) text.now) }
 {
     match read(alloc, text) {
         Ok(parsed) => bound_over(alloc, names, node, property, parsed),
@@ -49,21 +50,24 @@ fn refused(error: ExprError) -> Result<Deed, AllocError>
 
 fn bound_over(
     alloc: Global,
-    names: &[Named<'_>],
+    names: &Names<'_>,
     node: usize,
     property: &Property,
     parsed: Parsed,
 ) -> Result<Deed, AllocError>
     requires { IsTrue (is_within (tree parsed.expr) (length parsed.paths)) }
-    ensures { IfOk result (λ deed. deed ≡ spec.bound_over (map named_view names.now) node
+    ensures { IfOk result (λ deed. deed ≡ spec.bound_over (known names.now) node
         (listed_property property.now) (tree parsed.expr) parsed.paths) }
 {
-    let Parsed { expr, paths } = parsed;
-    if !are_named(names, paths.as_slice()) {
+    if !are_named(names, parsed.paths.as_slice()) {
         return Ok(Deed::Flaw(Flaw::Name));
     }
-    match operands_of(alloc, names, paths.as_slice())? {
-        Some(operands) => bound_to(alloc, node, property, expr, operands.as_slice()),
+    let values = values_of(alloc, names, parsed.paths.as_slice())?;
+    match operands_of(alloc, names, parsed.paths.as_slice())? {
+        Some(operands) => {
+            let expr = fill(alloc, parsed, values)?;
+            bound_to(alloc, node, property, expr, operands.as_slice())
+        }
         None => Ok(Deed::Flaw(Flaw::Property)),
     }
 }

@@ -7,4 +7,4 @@ mod operands;
 mod reading;
 
 pub use binding::bound_deed;
-pub use names::{Named, behind, found, names_of, value_at};
+pub use names::{add_name, behind, value_at};

@@ -1,39 +1,19 @@
 //! The names of a document's instances.
-ghost use Rattle.std.specs.Prelude.{◌≡◌, ◌<◌, ◌^◌, ◌++◌, IfOk, OnOk, map};
+ghost use Rattle.std.specs.Prelude.{◌≡◌, ◌<◌, ◌+◌, ◌^◌, OnOk, map};
 ghost use Rattle.std.specs.List.{find};
 ghost use Rattle.std.specs.Option.{option_map};
 ghost use Rattle.fx_doc.specs.Views.{attr_view};
 ghost use Rattle.fx_scene_bindings.specs.Names as spec;
-ghost use Rattle.fx_scene_bindings.specs.Views.{named_view};
-ghost use Rattle.fx_scene_outline.specs.Views.{head_of, piece_view, shown};
+ghost use Rattle.fx_scene_outline.specs.Views.{head_of, piece_view};
+ghost use Rattle.fx_scene_things.specs.Known.{known};
 
 use fx_base::Text;
 use fx_doc::{Attribute, Element};
 use fx_kinds::Class;
 use fx_scene_names::class_named;
 use fx_scene_outline::Piece;
-use std::alloc::{AllocError, Global};
-
-/// A name of an instance, which is the node of an ordinal.
-#[derive(Clone, Copy)]
-pub struct Named<'a> {
-    pub name: &'a Text,
-    pub node: usize,
-    pub class: Class,
-}
-
-/// The names of all instances whose class is known, in document order.
-pub fn names_of<'a>(alloc: Global, pieces: &[Piece<'a>]) -> Result<Vec<Named<'a>>, AllocError>
-    ensures { IfOk result (λ names. map named_view names.items ≡ spec.names_in 0 (shown pieces.now)) }
-{
-    let mut names = Vec::new(alloc);
-    let mut node = 0;
-    for piece in pieces {
-        add_name(piece, node, &mut names)?;
-        node = behind(piece, node);
-    }
-    Ok(names)
-}
+use fx_scene_things::{Named, Names, Thing};
+use std::alloc::AllocError;
 
 /// The ordinal of the next node behind the piece, which would be the node of this ordinal.
 pub fn behind(piece: &Piece<'_>, node: usize) -> usize
@@ -46,27 +26,13 @@ pub fn behind(piece: &Piece<'_>, node: usize) -> usize
     }
 }
 
-fn add_name<'a>(
-    piece: &Piece<'a>,
-    node: usize,
-    names: &mut Vec<Named<'a>>,
-) -> Result<(), AllocError>
-    ensures ok { OnOk result (map named_view names.new.items
-        ≡ map named_view names.old.items ++ spec.piece_names node (piece_view piece.now)) }
-{
-    match piece {
-        Piece::Instance(_, element) => add_instance(element, node, names),
-        _ => Ok(()),
-    }
-}
-
-fn add_instance<'a>(
+/// Adds the name of an instance that is the node of this ordinal, if it has one.
+pub fn add_name<'a>(
     element: &'a Element,
     node: usize,
-    names: &mut Vec<Named<'a>>,
+    names: &mut Names<'a>,
 ) -> Result<(), AllocError>
-    ensures ok { OnOk result (map named_view names.new.items
-        ≡ map named_view names.old.items ++ spec.instance_names node (head_of element.now)) }
+    ensures ok { OnOk result (known names.new ≡ spec.instance_names (known names.old) node (head_of element.now)) }
 {
     match class_named(element.name.as_str()) {
         Some(class) => add_named(element.attributes.as_slice(), node, class, names),
@@ -78,13 +44,13 @@ fn add_named<'a>(
     attributes: &'a [Attribute],
     node: usize,
     class: Class,
-    names: &mut Vec<Named<'a>>,
+    names: &mut Names<'a>,
 ) -> Result<(), AllocError>
-    ensures ok { OnOk result (map named_view names.new.items
-        ≡ map named_view names.old.items ++ spec.class_names node (map attr_view attributes.now) class) }
+    ensures ok { OnOk result (known names.new
+        ≡ spec.class_names (known names.old) node (map attr_view attributes.now) class) }
 {
     match value_at(attributes, "fx:id") {
-        Some(name) => Ok(names.push(Named { name, node, class })?),
+        Some(name) => names.put(name.as_str(), Thing::Node(Named { node, class })),
         None => Ok(()),
     }
 }
@@ -116,23 +82,4 @@ fn has_name(a: &Attribute, name: &str) -> bool
     ensures { result ≡ spec.has_name name.now (attr_view a.now) }
 {
     a.name.as_str() == name
-}
-
-/// The instance of this name.
-pub fn found<'a>(names: &[Named<'a>], name: &str) -> Option<Named<'a>>
-    ensures { option_map named_view result ≡ spec.found (map named_view names.now) name.now }
-{
-    first_called(names, name)
-}
-
-fn first_called<'a>(names: &[Named<'a>], name: &str) -> Option<Named<'a>>
-    ensures { result ≡ find (λ n. spec.is_called name.now (named_view n)) names.now }
-{
-    names.iter().copied().find(|n| is_called(n, name))
-}
-
-fn is_called(named: &Named<'_>, name: &str) -> bool
-    ensures { result ≡ spec.is_called name.now (named_view named.now) }
-{
-    named.name.as_str() == name
 }

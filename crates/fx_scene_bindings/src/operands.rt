@@ -1,14 +1,15 @@
 //! The operands of an expression.
-ghost use Rattle.std.specs.Prelude.{◌≡◌, IfOk, is_some, map};
-ghost use Rattle.std.specs.Option.{option_map};
+ghost use Rattle.std.specs.Prelude.{◌≡◌, IfOk, map};
+ghost use Rattle.std.specs.Option.{option_copied, option_map};
 ghost use Rattle.fx_kinds.specs.Listing.{listed_property};
 ghost use Rattle.fx_scene_bindings.specs.Bindings as spec;
-ghost use Rattle.fx_scene_bindings.specs.Views.{named_view, operand_view};
+ghost use Rattle.fx_scene_bindings.specs.Views.{operand_view};
+ghost use Rattle.fx_scene_things.specs.Known.{known};
 
-use crate::names::{Named, found};
-use fx_base::{Kind, List, Text};
+use fx_base::{Kind, List, Text, Value};
 use fx_kinds::Property;
 use fx_scene_plan::PlannedProperty;
+use fx_scene_things::{Named, Names, Thing};
 use fx_scene_values::{planned_property, property_named};
 use std::alloc::{AllocError, Global};
 
@@ -19,33 +20,91 @@ pub struct Operand {
     pub property: &'static Property,
 }
 
-/// Does each path lead to a node?
-pub(crate) fn are_named(names: &[Named<'_>], paths: &[List<Text>]) -> bool
-    ensures { result ≡ spec.are_named (map named_view names.now) paths.now }
+/// Does each path lead to something?
+pub(crate) fn are_named(names: &Names<'_>, paths: &[List<Text>]) -> bool
+    ensures { result ≡ spec.are_named (known names.now) paths.now }
 {
     paths.iter().all(|path| is_named(names, path.as_slice()))
 }
 
-fn is_named(names: &[Named<'_>], path: &[Text]) -> bool
-    ensures { result ≡ is_some (spec.node_of (map named_view names.now) path.now) }
+/// A path leads to a value of a definition by its name, or to a node by the node's name and a property's.
+fn is_named(names: &Names<'_>, path: &[Text]) -> bool
+    ensures { result ≡ spec.is_named (known names.now) path.now }
 {
     match path {
-        [name, _] => found(names, name.as_str()).is_some(),
+        [name] => value_if(names.get(name.as_str())).is_some(),
+        [name, _] => names.node(name.as_str()).is_some(),
         _ => false,
     }
 }
 
-/// The operands at the paths, unless a property isn't there.
+fn value_if(thing: Option<&Thing>) -> Option<&Value>
+    ensures { option_copied result ≡ spec.value_if (option_copied thing.entry) }
+{
+    match thing {
+        Some(thing) => defined_value(thing),
+        None => None,
+    }
+}
+
+/// A value that stands right in a definition.
+fn defined_value(thing: &Thing) -> Option<&Value>
+    ensures { option_copied result ≡ spec.defined_value thing.now }
+{
+    match thing {
+        Thing::Value(value, true) => Some(value),
+        _ => None,
+    }
+}
+
+/// The value that a path of one name stands for.
+fn value_of<'n>(names: &'n Names<'_>, path: &[Text]) -> Option<&'n Value>
+    ensures { option_copied result ≡ spec.value_of (known names.now) path.now }
+{
+    match path {
+        [name] => value_if(names.get(name.as_str())),
+        _ => None,
+    }
+}
+
+/// The values among the paths.
+pub(crate) fn values_of(
+    alloc: Global,
+    names: &Names<'_>,
+    paths: &[List<Text>],
+) -> Result<Vec<Option<Value>>, AllocError>
+    ensures { IfOk result (λ values. values.items ≡ spec.values_of (known names.now) paths.now) }
+{
+    let mut values = Vec::with_capacity(alloc, paths.len())?;
+    for path in paths {
+        values.push(copied(alloc, value_of(names, path.as_slice()))?)?;
+    }
+    Ok(values)
+}
+
+fn copied(alloc: Global, value: Option<&Value>) -> Result<Option<Value>, AllocError>
+    ensures { IfOk result (λ copy. copy ≡ option_copied value.entry) }
+{
+    match value {
+        Some(value) => Ok(Some(value.copy(alloc)?)),
+        None => Ok(None),
+    }
+}
+
+/// The operands at the paths, unless a property isn't there. A value is no operand.
 pub(crate) fn operands_of(
     alloc: Global,
-    names: &[Named<'_>],
+    names: &Names<'_>,
     paths: &[List<Text>],
 ) -> Result<Option<Vec<Operand>>, AllocError>
     ensures { IfOk result (λ operands. option_map (λ all. map operand_view all.items) operands
-        ≡ spec.operands_of (map named_view names.now) paths.now) }
+        ≡ spec.operands_of (known names.now) paths.now) }
 {
     let mut operands = Vec::with_capacity(alloc, paths.len())?;
     for path in paths {
+        if value_of(names, path.as_slice()).is_some() {
+            continue;
+        }
         match operand_of(names, path.as_slice()) {
             Some(operand) => operands.push(operand)?,
             None => return Ok(None),
@@ -54,17 +113,17 @@ pub(crate) fn operands_of(
     Ok(Some(operands))
 }
 
-fn operand_of(names: &[Named<'_>], path: &[Text]) -> Option<Operand>
-    ensures { option_map operand_view result ≡ spec.operand_of (map named_view names.now) path.now }
+fn operand_of(names: &Names<'_>, path: &[Text]) -> Option<Operand>
+    ensures { option_map operand_view result ≡ spec.operand_of (known names.now) path.now }
 {
     match path {
-        [name, property] => operand_in(property.as_str(), found(names, name.as_str())),
+        [name, property] => operand_in(property.as_str(), names.node(name.as_str())),
         _ => None,
     }
 }
 
-fn operand_in(property: &str, known: Option<Named<'_>>) -> Option<Operand>
-    ensures { option_map operand_view result ≡ spec.operand_in property.now (option_map named_view known.entry) }
+fn operand_in(property: &str, known: Option<Named>) -> Option<Operand>
+    ensures { option_map operand_view result ≡ spec.operand_in property.now known }
 {
     match known {
         Some(known) => operand_at(known.node, property_named(known.class, property)),

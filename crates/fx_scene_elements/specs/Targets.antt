@@ -11,6 +11,7 @@ use Rattle.fx_scene_flaws.specs.declared.flaws.Flaw.TheVariants as flaw
 use Rattle.fx_scene_names.specs.Names.{is_static, lacks_owner}
 use Rattle.fx_scene_values.specs.Properties as properties
 use Rattle.fx_scene_values.specs.Properties.{property_named}
+use Rattle.fx_scene_values.specs.Scopes.{Scope}
 use Rattle.fx_scene_values.specs.Statics as statics
 use Rattle.fx_scene_values.specs.declared.values.Given.TheVariants.{Value}
 
@@ -30,13 +31,13 @@ constraint_target (Some entry) = Ok (Static entry)
 abbrev pub plain_target : Class → List ℕ → Result Target Flaw
 plain_target class name = known_target (property_named class name)
 
-abbrev pub static_target : List (List ℕ) → List ℕ → Result Target Flaw
-static_target imports name =
-    if lacks_owner imports name then Err flaw.Import else constraint_target (constraint_named name)
+abbrev pub static_target : Scope → List ℕ → Result Target Flaw
+static_target scope name =
+    if lacks_owner scope.imports name then Err flaw.Import else constraint_target (constraint_named name)
 
 -- what the property element of this name gives its value to, or what is wrong with it
-unfoldable pub target_of : List (List ℕ) → Class → List ℕ → Result Target Flaw
-target_of imports class name = if is_static name then static_target imports name else plain_target class name
+unfoldable pub target_of : Scope → Class → List ℕ → Result Target Flaw
+target_of scope class name = if is_static name then static_target scope name else plain_target class name
 
 abbrev pub target_kind : Target → Kind
 target_kind (Plain property) = property.kind

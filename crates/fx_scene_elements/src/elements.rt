@@ -2,20 +2,23 @@
 ghost use Rattle.std.specs.Prelude.{◌≡◌, ◌++◌, OnOk};
 ghost use Rattle.fx_scene_elements.specs.Elements as spec;
 ghost use Rattle.fx_scene_elements.specs.Views.{target_view};
-ghost use Rattle.fx_scene_outline.specs.Views.{content_of, head_of, shown};
+ghost use Rattle.fx_scene_outline.specs.Views.{content_of, head_of};
+ghost use Rattle.fx_scene_things.specs.Known.{known};
+ghost use Rattle.fx_scene_values.specs.Views.{scope_view};
 
 use crate::held::add_held;
+use crate::lanes::Lane;
 use crate::lists::add_classes;
 use crate::pushing::push_flaw;
 use crate::targets::{Target, target_of};
 use crate::tracks::{add_columns, add_rows};
-use fx_base::Text;
 use fx_doc::Element;
 use fx_kinds::Class;
 use fx_scene_acts::Act;
 use fx_scene_flaws::Flaw;
 use fx_scene_literals::bare_fault;
-use fx_scene_outline::Piece;
+use fx_scene_things::Names;
+use fx_scene_values::Scope;
 use std::alloc::{AllocError, Global};
 
 /// A property element that lists instances.
@@ -32,102 +35,137 @@ pub enum Listed {
 }
 
 /// Adds the acts of a property element of the instance at the place `owner`, which is the node of an ordinal and of the
-/// class, behind these pieces.
-#[tactic(auto, unfolding(crate::specs::Elements::element_acts))]
-pub fn add_element(
+/// class, where these names are known, and grids have these constraints.
+#[tactic(auto, unfolding(crate::specs::Elements::element_told))]
+pub fn add_element<'a>(
     alloc: Global,
-    imports: &[Text],
-    before: &[Piece<'_>],
+    scope: &Scope<'_>,
     owner: usize,
     node: usize,
     class: Class,
-    element: &Element,
+    element: &'a Element,
+    names: &mut Names<'a>,
+    lanes: &mut Vec<Lane>,
     acts: &mut Vec<Act>,
 ) -> Result<(), AllocError>
-    ensures ok { OnOk result (acts.new.items ≡ acts.old.items ++ spec.element_acts imports.now (shown before.now) owner
-        node class (head_of element.now) (content_of element.now)) }
+    ensures acts { OnOk result (acts.new.items ≡ acts.old.items ++ (spec.element_told (scope_view scope.now)
+        (known names.old) lanes.old.items owner node class (head_of element.now) (content_of element.now)).acts) }
+    ensures lanes { OnOk result (lanes.new.items ≡ lanes.old.items ++ (spec.element_told (scope_view scope.now)
+        (known names.old) lanes.old.items owner node class (head_of element.now) (content_of element.now)).lanes) }
+    ensures names { OnOk result (known names.new ≡ (spec.element_told (scope_view scope.now) (known names.old)
+        lanes.old.items owner node class (head_of element.now) (content_of element.now)).names) }
 {
     match list_named(class, element.name.as_str()) {
-        Some(list) => add_list(alloc, imports, before, owner, node, element, list, acts),
-        None => add_value(alloc, imports, node, class, element, acts),
+        Some(list) => add_list(alloc, scope, owner, node, element, list, names, lanes, acts),
+        None => add_value(alloc, scope, node, class, element, names, acts),
     }
 }
 
 /// A list has no attributes.
-fn add_list(
+fn add_list<'a>(
     alloc: Global,
-    imports: &[Text],
-    before: &[Piece<'_>],
+    scope: &Scope<'_>,
     owner: usize,
     node: usize,
-    element: &Element,
+    element: &'a Element,
     list: Listed,
+    names: &mut Names<'a>,
+    lanes: &mut Vec<Lane>,
     acts: &mut Vec<Act>,
 ) -> Result<(), AllocError>
-    ensures ok { OnOk result (acts.new.items ≡ acts.old.items ++ spec.list_acts imports.now (shown before.now) owner
-        node (head_of element.now) (content_of element.now) list (head_of element.now).attributes) }
+    ensures acts { OnOk result (acts.new.items ≡ acts.old.items ++ (spec.list_told (scope_view scope.now)
+        (known names.old) lanes.old.items owner node (head_of element.now) (content_of element.now) list
+        (head_of element.now).attributes).acts) }
+    ensures lanes { OnOk result (lanes.new.items ≡ lanes.old.items ++ (spec.list_told (scope_view scope.now)
+        (known names.old) lanes.old.items owner node (head_of element.now) (content_of element.now) list
+        (head_of element.now).attributes).lanes) }
+    ensures names { OnOk result (known names.new ≡ (spec.list_told (scope_view scope.now) (known names.old)
+        lanes.old.items owner node (head_of element.now) (content_of element.now) list
+        (head_of element.now).attributes).names) }
 {
     match element.attributes.as_slice() {
         [first, ..] => push_flaw(acts, first.position, Flaw::Property),
-        [] => add_items(alloc, imports, before, owner, node, element, list, acts),
+        [] => add_items(alloc, scope, owner, node, element, list, names, lanes, acts),
     }
 }
 
 /// Style sheets as elements aren't read yet.
-fn add_items(
+fn add_items<'a>(
     alloc: Global,
-    imports: &[Text],
-    before: &[Piece<'_>],
+    scope: &Scope<'_>,
     owner: usize,
     node: usize,
-    element: &Element,
+    element: &'a Element,
     list: Listed,
+    names: &mut Names<'a>,
+    lanes: &mut Vec<Lane>,
     acts: &mut Vec<Act>,
 ) -> Result<(), AllocError>
-    ensures ok { OnOk result (acts.new.items ≡ acts.old.items ++ spec.items_acts imports.now (shown before.now) owner
-        node (head_of element.now) (content_of element.now) list) }
+    ensures acts { OnOk result (acts.new.items ≡ acts.old.items ++ (spec.items_told (scope_view scope.now)
+        (known names.old) lanes.old.items owner node (head_of element.now) (content_of element.now) list).acts) }
+    ensures lanes { OnOk result (lanes.new.items ≡ lanes.old.items ++ (spec.items_told (scope_view scope.now)
+        (known names.old) lanes.old.items owner node (head_of element.now) (content_of element.now) list).lanes) }
+    ensures names { OnOk result (known names.new ≡ (spec.items_told (scope_view scope.now) (known names.old)
+        lanes.old.items owner node (head_of element.now) (content_of element.now) list).names) }
 {
     match list {
-        Listed::Classes => add_classes(alloc, imports, node, element.content.as_slice(), acts),
+        Listed::Classes => {
+            add_classes(alloc, scope, node, element.content.as_slice(), names, acts)
+        }
         Listed::Sheets => push_flaw(acts, element.position, Flaw::NotBuilt),
-        Listed::Columns => add_columns(alloc, imports, before, owner, node, element, acts),
-        Listed::Rows => add_rows(alloc, imports, before, owner, node, element, acts),
+        Listed::Columns => add_columns(alloc, scope, owner, node, element, names, lanes, acts),
+        Listed::Rows => add_rows(alloc, scope, owner, node, element, names, lanes, acts),
     }
 }
 
-fn add_value(
+fn add_value<'a>(
     alloc: Global,
-    imports: &[Text],
+    scope: &Scope<'_>,
     node: usize,
     class: Class,
-    element: &Element,
+    element: &'a Element,
+    names: &mut Names<'a>,
     acts: &mut Vec<Act>,
 ) -> Result<(), AllocError>
-    ensures ok { OnOk result (acts.new.items ≡ acts.old.items
-        ++ spec.value_acts imports.now node class (head_of element.now) (content_of element.now)) }
+    ensures acts { OnOk result (acts.new.items ≡ acts.old.items ++ (spec.value_asked (scope_view scope.now)
+        (known names.old) node class (head_of element.now) (content_of element.now)).acts) }
+    ensures names { OnOk result (known names.new ≡ (spec.value_asked (scope_view scope.now) (known names.old) node class
+        (head_of element.now) (content_of element.now)).names) }
 {
-    match target_of(imports, class, element.name.as_str()) {
-        Ok(target) => add_bare(alloc, imports, node, element, target, acts),
+    match target_of(scope, class, element.name.as_str()) {
+        Ok(target) => add_bare(alloc, scope, node, element, target, names, acts),
         Err(flaw) => push_flaw(acts, element.position, flaw),
     }
 }
 
-fn add_bare(
+fn add_bare<'a>(
     alloc: Global,
-    imports: &[Text],
+    scope: &Scope<'_>,
     node: usize,
-    element: &Element,
+    element: &'a Element,
     target: Target,
+    names: &mut Names<'a>,
     acts: &mut Vec<Act>,
 ) -> Result<(), AllocError>
-    ensures ok { OnOk result (acts.new.items ≡ acts.old.items ++ spec.target_acts imports.now node
-        (head_of element.now) (content_of element.now) (Ok (target_view target))) }
+    ensures acts { OnOk result (acts.new.items ≡ acts.old.items ++ (spec.target_asked (scope_view scope.now)
+        (known names.old) node (head_of element.now) (content_of element.now) (Ok (target_view target))).acts) }
+    ensures names { OnOk result (known names.new ≡ (spec.target_asked (scope_view scope.now) (known names.old) node
+        (head_of element.now) (content_of element.now) (Ok (target_view target))).names) }
 {
     match bare_fault(element) {
         Some(fault) => push_flaw(acts, fault.place, fault.flaw),
         None => {
             let content = element.content.as_slice();
-            add_held(alloc, imports, node, &element.name, target, content, acts)
+            add_held(
+                alloc,
+                scope,
+                node,
+                &element.name,
+                target,
+                content,
+                names,
+                acts,
+            )
         }
     }
 }

@@ -4,10 +4,12 @@
 
 mod elements;
 mod held;
+mod lanes;
 mod lists;
 mod pushing;
 mod targets;
 mod tracks;
 
 pub use elements::add_element;
-pub use pushing::{push, push_all, push_flaw};
+pub use lanes::Lane;
+pub use pushing::{push, push_all, push_flaw, push_flaw_in};

@@ -4,78 +4,146 @@ ghost use Rattle.fx_doc.specs.Views.{nodes_of, onto};
 ghost use Rattle.fx_doc_grammar.specs.Grammar.{Nothing};
 ghost use Rattle.fx_scene_elements.specs.Lists as spec;
 ghost use Rattle.fx_scene_outline.specs.Views.{content_of, head_of};
+ghost use Rattle.fx_scene_things.specs.Known.{known};
+ghost use Rattle.fx_scene_values.specs.Views.{scope_view};
 
+use crate::held::add_closed;
 use crate::pushing::{push, push_flaw};
 use fx_base::{Position, Text, Value};
 use fx_doc::{Content, Element};
 use fx_kinds::Class;
 use fx_scene_acts::{Act, Deed};
 use fx_scene_flaws::Flaw;
-use fx_scene_literals::{Found, Made, Want, entered, whole};
+use fx_scene_literals::{Found, Made, Want, entered, is_reference, referred, whole};
 use fx_scene_plan::PlannedStep;
+use fx_scene_things::Names;
+use fx_scene_values::Scope;
 use std::alloc::{AllocError, Global};
 
-/// Adds a style class of the node for each instance.
-pub(crate) fn add_classes(
+/// Adds a style class of the node for each instance and each reference.
+pub(crate) fn add_classes<'a>(
     alloc: Global,
-    imports: &[Text],
+    scope: &Scope<'_>,
     node: usize,
-    content: &[Content],
+    content: &'a [Content],
+    names: &mut Names<'a>,
     acts: &mut Vec<Act>,
 ) -> Result<(), AllocError>
-    ensures ok { OnOk result (acts.new.items ≡ acts.old.items
-        ++ spec.class_acts imports.now node (nodes_of content.now)) }
+    ensures acts { OnOk result (acts.new.items ≡ acts.old.items
+        ++ (spec.class_asked (scope_view scope.now) (known names.old) node (nodes_of content.now)).acts) }
+    ensures names { OnOk result (known names.new
+        ≡ (spec.class_asked (scope_view scope.now) (known names.old) node (nodes_of content.now)).names) }
 {
     for item in content {
-        add_part(alloc, imports, node, item, acts)?;
+        add_part(alloc, scope, node, item, names, acts)?;
     }
     Ok(())
 }
 
-fn add_part(
+fn add_part<'a>(
     alloc: Global,
-    imports: &[Text],
+    scope: &Scope<'_>,
     node: usize,
-    item: &Content,
+    item: &'a Content,
+    names: &mut Names<'a>,
     acts: &mut Vec<Act>,
 ) -> Result<(), AllocError>
-    ensures ok { OnOk result (acts.new.items ≡ acts.old.items
-        ++ spec.class_part imports.now node (onto item.now Nothing)) }
+    ensures acts { OnOk result (acts.new.items ≡ acts.old.items
+        ++ (spec.class_part (scope_view scope.now) (known names.old) node (onto item.now Nothing)).acts) }
+    ensures names { OnOk result (known names.new
+        ≡ (spec.class_part (scope_view scope.now) (known names.old) node (onto item.now Nothing)).names) }
 {
     match item {
-        Content::Child(element) => add_class(alloc, imports, node, element, acts),
+        Content::Child(element) => {
+            if is_reference(element.name.as_str()) {
+                return add_reference(alloc, scope, node, element, names, acts);
+            }
+            add_class(alloc, scope, node, element, names, acts)
+        }
         Content::Chars(_, place) => push_flaw(acts, *place, Flaw::Child),
     }
 }
 
-fn add_class(
+fn add_reference<'a>(
     alloc: Global,
-    imports: &[Text],
+    scope: &Scope<'_>,
     node: usize,
-    element: &Element,
+    element: &'a Element,
+    names: &mut Names<'a>,
     acts: &mut Vec<Act>,
 ) -> Result<(), AllocError>
-    ensures ok { OnOk result (acts.new.items ≡ acts.old.items ++ spec.class_item imports.now node
-        (head_of element.now) (content_of element.now)) }
+    ensures acts { OnOk result (acts.new.items ≡ acts.old.items ++ (spec.reference_item (scope_view scope.now)
+        (known names.old) node (head_of element.now) (content_of element.now)).acts) }
+    ensures names { OnOk result (known names.new ≡ (spec.reference_item (scope_view scope.now) (known names.old) node
+        (head_of element.now) (content_of element.now)).names) }
 {
-    match entered(imports, Want::Name, element) {
-        Ok(class) => add_entered(alloc, imports, node, element, class, acts),
+    let found = referred(alloc, names, Want::Name, element)?;
+    add_referred(node, element.position, found, acts)?;
+    add_closed(alloc, scope, element, names, acts)
+}
+
+fn add_referred(
+    node: usize,
+    place: Position,
+    found: Found,
+    acts: &mut Vec<Act>,
+) -> Result<(), AllocError>
+    ensures ok { OnOk result (acts.new.items ≡ acts.old.items ++ spec.referred_acts node place found) }
+{
+    match found {
+        Found::Whole(made) => add_made(node, place, made, acts),
+        Found::Flaw(flaw, spot) => push_flaw(acts, spot, flaw),
+    }
+}
+
+/// A text, or a location.
+fn add_made(node: usize, place: Position, made: Made, acts: &mut Vec<Act>) -> Result<(), AllocError>
+    ensures ok { OnOk result (acts.new.items ≡ acts.old.items ++ spec.made_acts node place made) }
+{
+    match made {
+        Made::Plain(Value::Text(name)) => add_name(node, place, name, acts),
+        Made::Plain(_) => Ok(()),
+        Made::Track(_) => Ok(()),
+        Made::Location(name) => add_name(node, place, name, acts),
+    }
+}
+
+fn add_class<'a>(
+    alloc: Global,
+    scope: &Scope<'_>,
+    node: usize,
+    element: &'a Element,
+    names: &mut Names<'a>,
+    acts: &mut Vec<Act>,
+) -> Result<(), AllocError>
+    ensures acts { OnOk result (acts.new.items ≡ acts.old.items ++ (spec.class_item (scope_view scope.now)
+        (known names.old) node (head_of element.now) (content_of element.now)).acts) }
+    ensures names { OnOk result (known names.new ≡ (spec.class_item (scope_view scope.now) (known names.old) node
+        (head_of element.now) (content_of element.now)).names) }
+{
+    match entered(scope, Want::Name, element) {
+        Ok(class) => add_entered(alloc, scope, node, element, class, names, acts),
         Err(flaw) => push_flaw(acts, element.position, flaw),
     }
 }
 
-fn add_entered(
+fn add_entered<'a>(
     alloc: Global,
-    imports: &[Text],
+    scope: &Scope<'_>,
     node: usize,
-    element: &Element,
+    element: &'a Element,
     class: Class,
+    names: &mut Names<'a>,
     acts: &mut Vec<Act>,
 ) -> Result<(), AllocError>
-    ensures ok { OnOk result (acts.new.items ≡ acts.old.items ++ spec.whole_class imports.now node
-        (head_of element.now) (content_of element.now) class) }
+    ensures acts { OnOk result (acts.new.items ≡ acts.old.items ++ (spec.named_asked node (head_of element.now).position
+        (spec.whole_class (scope_view scope.now) (known names.old) (head_of element.now) (content_of element.now)
+        class)).acts) }
+    ensures names { OnOk result (known names.new ≡ (spec.named_asked node (head_of element.now).position
+        (spec.whole_class (scope_view scope.now) (known names.old) (head_of element.now) (content_of element.now)
+        class)).names) }
 {
-    let found = whole(alloc, imports, element, class)?;
+    let found = whole(alloc, scope, element, class, false, names)?;
     add_found(alloc, node, element.position, found, acts)
 }
 
@@ -89,8 +157,7 @@ fn add_found(
     ensures ok { OnOk result (acts.new.items ≡ acts.old.items ++ spec.named_acts node place found) }
 {
     match found {
-        Found::Whole(Made::Plain(Value::Text(name))) => add_name(node, place, name, acts),
-        Found::Whole(_) => Ok(()),
+        Found::Whole(made) => add_made(node, place, made, acts),
         Found::Flaw(flaw, spot) => {
             add_name(node, place, no_name(alloc)?, acts)?;
             push_flaw(acts, spot, flaw)

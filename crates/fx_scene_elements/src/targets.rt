@@ -5,13 +5,14 @@ ghost use Rattle.fx_kinds.specs.ConstraintRows.{constraint_entry};
 ghost use Rattle.fx_kinds.specs.Listing.{listed_property};
 ghost use Rattle.fx_scene_elements.specs.Targets as spec;
 ghost use Rattle.fx_scene_elements.specs.Views.{seen_target, target_view};
+ghost use Rattle.fx_scene_values.specs.Views.{scope_view};
 
 use fx_base::{Kind, Text, Value};
 use fx_kinds::{Class, ConstraintRow, Property, constraint_of};
 use fx_scene_acts::Deed;
 use fx_scene_flaws::Flaw;
 use fx_scene_names::{is_static, lacks_owner};
-use fx_scene_values::{Given, property_given, property_named, static_given};
+use fx_scene_values::{Given, Scope, property_given, property_named, static_given};
 use std::alloc::{AllocError, Global};
 
 /// What the value of a property element is given to.
@@ -47,20 +48,20 @@ pub(crate) fn value_deed(
 
 /// What a property element of this name gives its value to, or what is wrong with it.
 #[tactic(auto, unfolding(crate::specs::Targets::target_of))]
-pub(crate) fn target_of(imports: &[Text], class: Class, name: &str) -> Result<Target, Flaw>
-    ensures { seen_target result ≡ spec.target_of imports.now class name.now }
+pub(crate) fn target_of(scope: &Scope<'_>, class: Class, name: &str) -> Result<Target, Flaw>
+    ensures { seen_target result ≡ spec.target_of (scope_view scope.now) class name.now }
 {
     if is_static(name) {
-        static_target(imports, name)
+        static_target(scope, name)
     } else {
         plain_target(class, name)
     }
 }
 
-fn static_target(imports: &[Text], name: &str) -> Result<Target, Flaw>
-    ensures { seen_target result ≡ spec.static_target imports.now name.now }
+fn static_target(scope: &Scope<'_>, name: &str) -> Result<Target, Flaw>
+    ensures { seen_target result ≡ spec.static_target (scope_view scope.now) name.now }
 {
-    if lacks_owner(imports, name) {
+    if lacks_owner(scope.imports, name) {
         return Err(Flaw::Import);
     }
     constraint_target(constraint_of(name))

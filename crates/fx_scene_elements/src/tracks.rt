@@ -1,74 +1,104 @@
 //! The constraints of columns and rows as elements.
-ghost use Rattle.std.specs.Prelude.{◌≡◌, [], ◌++◌, IfOk, OnOk, length};
+ghost use Rattle.std.specs.Prelude.{◌≡◌, ◌++◌, IfOk, OnOk, length};
 ghost use Rattle.fx_doc.specs.Views.{nodes_of, onto};
 ghost use Rattle.fx_doc_grammar.specs.Grammar.{Nothing};
+ghost use Rattle.fx_scene_elements.specs.Added.{flaw_in};
+ghost use Rattle.fx_scene_elements.specs.Elements.{columns_by, rows_by};
 ghost use Rattle.fx_scene_elements.specs.Tracks as spec;
-ghost use Rattle.fx_scene_literals.specs.declared.instances.Want.TheVariants.{Column, Row};
-ghost use Rattle.fx_scene_outline.specs.Views.{content_of, head_of, piece_view, shown};
+ghost use Rattle.fx_scene_outline.specs.Views.{content_of, head_of};
+ghost use Rattle.fx_scene_things.specs.Known.{known};
+ghost use Rattle.fx_scene_values.specs.Views.{scope_view};
 
+use crate::held::add_closed;
+use crate::lanes::{Lane, add_lanes, tracks_of};
 use crate::pushing::{push, push_flaw};
-use fx_base::{List, Position, Text, Track};
+use fx_base::{List, Position, Track};
 use fx_doc::{Content, Element};
 use fx_kinds::Class;
 use fx_scene_acts::{Act, Deed};
 use fx_scene_flaws::Flaw;
-use fx_scene_literals::{Found, Made, Want, entered, whole};
-use fx_scene_outline::Piece;
+use fx_scene_literals::{Found, Made, Want, entered, is_reference, referred, whole};
 use fx_scene_plan::PlannedStep;
+use fx_scene_things::Names;
+use fx_scene_values::Scope;
 use std::alloc::{AllocError, Global};
 
 /// The most columns and the most rows of a grid that have constraints.
 const TRACK_LIMIT: usize = 256;
 
-/// Adds further columns of the grid at the place `owner`, which is the node of an ordinal, behind these pieces.
-pub(crate) fn add_columns(
+/// Adds further columns of the grid at the place `owner`, which is the node of an ordinal.
+pub(crate) fn add_columns<'a>(
     alloc: Global,
-    imports: &[Text],
-    before: &[Piece<'_>],
+    scope: &Scope<'_>,
     owner: usize,
     node: usize,
-    element: &Element,
+    element: &'a Element,
+    names: &mut Names<'a>,
+    lanes: &mut Vec<Lane>,
     acts: &mut Vec<Act>,
 ) -> Result<(), AllocError>
-    ensures ok { OnOk result (acts.new.items ≡ acts.old.items ++ spec.column_acts imports.now (shown before.now) owner node
-        (head_of element.now).position (content_of element.now)) }
+    ensures acts { OnOk result (acts.new.items ≡ acts.old.items ++ (columns_by (head_of element.now) lanes.old.items owner
+        node (spec.columns_told (scope_view scope.now) (known names.old) lanes.old.items owner
+        (content_of element.now))).acts) }
+    ensures lanes { OnOk result (lanes.new.items ≡ lanes.old.items ++ (columns_by (head_of element.now) lanes.old.items
+        owner node (spec.columns_told (scope_view scope.now) (known names.old) lanes.old.items owner
+        (content_of element.now))).lanes) }
+    ensures names { OnOk result (known names.new ≡ (columns_by (head_of element.now) lanes.old.items owner node
+        (spec.columns_told (scope_view scope.now) (known names.old) lanes.old.items owner
+        (content_of element.now))).names) }
 {
-    let mut columns = tracks_from(alloc, imports, owner, Want::Column, before)?;
-    let rows = tracks_from(alloc, imports, owner, Want::Row, before)?;
-    add_tracks(
+    let mut columns = tracks_of(alloc, lanes.as_slice(), owner, false)?;
+    let rows = tracks_of(alloc, lanes.as_slice(), owner, true)?;
+    let content = element.content.as_slice();
+    let more = add_tracks(
         alloc,
-        imports,
+        scope,
         Want::Column,
-        element.content.as_slice(),
+        columns.as_slice(),
+        content,
+        names,
         acts,
-        &mut columns,
     )?;
+    add_lanes(lanes, owner, false, more.as_slice())?;
+    columns.extend_from_slice(more.as_slice())?;
     add_step(node, element.position, columns, rows, acts)
 }
 
-/// Adds further rows of the grid at the place `owner`, which is the node of an ordinal, behind these pieces.
-pub(crate) fn add_rows(
+/// Adds further rows of the grid at the place `owner`, which is the node of an ordinal.
+pub(crate) fn add_rows<'a>(
     alloc: Global,
-    imports: &[Text],
-    before: &[Piece<'_>],
+    scope: &Scope<'_>,
     owner: usize,
     node: usize,
-    element: &Element,
+    element: &'a Element,
+    names: &mut Names<'a>,
+    lanes: &mut Vec<Lane>,
     acts: &mut Vec<Act>,
 ) -> Result<(), AllocError>
-    ensures ok { OnOk result (acts.new.items ≡ acts.old.items ++ spec.row_acts imports.now (shown before.now) owner node
-        (head_of element.now).position (content_of element.now)) }
+    ensures acts { OnOk result (acts.new.items ≡ acts.old.items ++ (rows_by (head_of element.now) lanes.old.items owner
+        node (spec.rows_told (scope_view scope.now) (known names.old) lanes.old.items owner
+        (content_of element.now))).acts) }
+    ensures lanes { OnOk result (lanes.new.items ≡ lanes.old.items ++ (rows_by (head_of element.now) lanes.old.items
+        owner node (spec.rows_told (scope_view scope.now) (known names.old) lanes.old.items owner
+        (content_of element.now))).lanes) }
+    ensures names { OnOk result (known names.new ≡ (rows_by (head_of element.now) lanes.old.items owner node
+        (spec.rows_told (scope_view scope.now) (known names.old) lanes.old.items owner
+        (content_of element.now))).names) }
 {
-    let columns = tracks_from(alloc, imports, owner, Want::Column, before)?;
-    let mut rows = tracks_from(alloc, imports, owner, Want::Row, before)?;
-    add_tracks(
+    let columns = tracks_of(alloc, lanes.as_slice(), owner, false)?;
+    let mut rows = tracks_of(alloc, lanes.as_slice(), owner, true)?;
+    let content = element.content.as_slice();
+    let more = add_tracks(
         alloc,
-        imports,
+        scope,
         Want::Row,
-        element.content.as_slice(),
+        rows.as_slice(),
+        content,
+        names,
         acts,
-        &mut rows,
     )?;
+    add_lanes(lanes, owner, true, more.as_slice())?;
+    rows.extend_from_slice(more.as_slice())?;
     add_step(node, element.position, columns, rows, acts)
 }
 
@@ -86,168 +116,155 @@ fn add_step(
     push(acts, place, Deed::Step(step))
 }
 
-/// The constraints of a grid by its elements among the pieces.
-fn tracks_from(
+/// The constraints that some content has, behind these. Adds what is wrong with it.
+fn add_tracks<'a>(
     alloc: Global,
-    imports: &[Text],
-    owner: usize,
+    scope: &Scope<'_>,
     want: Want,
-    pieces: &[Piece<'_>],
+    earlier: &[Track],
+    content: &'a [Content],
+    names: &mut Names<'a>,
+    acts: &mut Vec<Act>,
 ) -> Result<Vec<Track>, AllocError>
-    ensures { IfOk result (λ tracks. tracks.items ≡ spec.tracks_from imports.now owner want [] (shown pieces.now)) }
+    ensures acts { OnOk result (acts.new.items ≡ acts.old.items ++ (spec.tracks_told (scope_view scope.now) want
+        (length earlier.now) (known names.old) (nodes_of content.now)).acts) }
+    ensures tracks { IfOk result (λ tracks. tracks.items ≡ (spec.tracks_told (scope_view scope.now) want
+        (length earlier.now) (known names.old) (nodes_of content.now)).tracks) }
+    ensures names { OnOk result (known names.new ≡ (spec.tracks_told (scope_view scope.now) want
+        (length earlier.now) (known names.old) (nodes_of content.now)).names) }
 {
     let mut tracks = Vec::new(alloc);
-    for piece in pieces {
-        add_piece(alloc, imports, owner, want, piece, &mut tracks)?;
+    for item in content {
+        let count = earlier.len() + tracks.len();
+        add_part(alloc, scope, want, count, item, names, &mut tracks, acts)?;
     }
     Ok(tracks)
 }
 
-fn add_piece(
+fn add_part<'a>(
     alloc: Global,
-    imports: &[Text],
-    owner: usize,
+    scope: &Scope<'_>,
     want: Want,
-    piece: &Piece<'_>,
+    count: usize,
+    item: &'a Content,
+    names: &mut Names<'a>,
     tracks: &mut Vec<Track>,
-) -> Result<(), AllocError>
-    ensures ok { OnOk result (tracks.new.items
-        ≡ spec.with_piece imports.now owner want tracks.old.items (piece_view piece.now)) }
-{
-    match piece {
-        Piece::Property(grid, _, element) => {
-            add_list(alloc, imports, owner, want, *grid, element, tracks)
-        }
-        _ => Ok(()),
-    }
-}
-
-fn add_list(
-    alloc: Global,
-    imports: &[Text],
-    owner: usize,
-    want: Want,
-    grid: usize,
-    element: &Element,
-    tracks: &mut Vec<Track>,
-) -> Result<(), AllocError>
-    ensures ok { OnOk result (tracks.new.items
-        ≡ spec.with_list imports.now owner want tracks.old.items grid (head_of element.now) (content_of element.now)) }
-{
-    if !is_list_of(owner, want, grid, element.name.as_str()) {
-        return Ok(());
-    }
-    let mut unneeded = Vec::new(alloc);
-    add_tracks(
-        alloc,
-        imports,
-        want,
-        element.content.as_slice(),
-        &mut unneeded,
-        tracks,
-    )
-}
-
-fn is_list_of(owner: usize, want: Want, grid: usize, name: &str) -> bool
-    ensures { result ≡ spec.is_list_of owner want grid name.now }
-{
-    grid == owner && name == list_name(want)
-}
-
-fn list_name(want: Want) -> &'static str
-    ensures { result.now ≡ spec.list_name want }
-{
-    match want {
-        Want::Column => "columnConstraints",
-        _ => "rowConstraints",
-    }
-}
-
-/// Adds the constraints that some content has, and what is wrong with it.
-fn add_tracks(
-    alloc: Global,
-    imports: &[Text],
-    want: Want,
-    content: &[Content],
     acts: &mut Vec<Act>,
-    tracks: &mut Vec<Track>,
 ) -> Result<(), AllocError>
     ensures acts { OnOk result (acts.new.items ≡ acts.old.items
-        ++ (spec.tracks_told imports.now want tracks.old.items (nodes_of content.now)).acts) }
+        ++ (spec.part_told (scope_view scope.now) want (known names.old) count (onto item.now Nothing)).acts) }
     ensures tracks { OnOk result (tracks.new.items ≡ tracks.old.items
-        ++ (spec.tracks_told imports.now want tracks.old.items (nodes_of content.now)).tracks) }
-{
-    for item in content {
-        add_part(alloc, imports, want, item, acts, tracks)?;
-    }
-    Ok(())
-}
-
-fn add_part(
-    alloc: Global,
-    imports: &[Text],
-    want: Want,
-    item: &Content,
-    acts: &mut Vec<Act>,
-    tracks: &mut Vec<Track>,
-) -> Result<(), AllocError>
-    ensures acts { OnOk result (acts.new.items ≡ acts.old.items
-        ++ (spec.part_told imports.now want (length tracks.old.items) (onto item.now Nothing)).acts) }
-    ensures tracks { OnOk result (tracks.new.items ≡ tracks.old.items
-        ++ (spec.part_told imports.now want (length tracks.old.items) (onto item.now Nothing)).tracks) }
+        ++ (spec.part_told (scope_view scope.now) want (known names.old) count (onto item.now Nothing)).tracks) }
+    ensures names { OnOk result (known names.new
+        ≡ (spec.part_told (scope_view scope.now) want (known names.old) count (onto item.now Nothing)).names) }
 {
     match item {
-        Content::Child(element) => add_item(alloc, imports, want, element, acts, tracks),
+        Content::Child(element) => {
+            if is_reference(element.name.as_str()) {
+                return add_reference(alloc, scope, want, count, element, names, tracks, acts);
+            }
+            add_item(alloc, scope, want, count, element, names, tracks, acts)
+        }
         Content::Chars(_, place) => push_flaw(acts, *place, Flaw::Child),
     }
 }
 
-fn add_item(
+fn add_reference<'a>(
     alloc: Global,
-    imports: &[Text],
+    scope: &Scope<'_>,
     want: Want,
-    element: &Element,
-    acts: &mut Vec<Act>,
+    count: usize,
+    element: &'a Element,
+    names: &mut Names<'a>,
     tracks: &mut Vec<Track>,
+    acts: &mut Vec<Act>,
 ) -> Result<(), AllocError>
-    ensures acts { OnOk result (acts.new.items ≡ acts.old.items ++ (spec.item_told imports.now want
-        (length tracks.old.items) (head_of element.now) (content_of element.now)).acts) }
-    ensures tracks { OnOk result (tracks.new.items ≡ tracks.old.items ++ (spec.item_told imports.now want
-        (length tracks.old.items) (head_of element.now) (content_of element.now)).tracks) }
+    ensures acts { OnOk result (acts.new.items ≡ acts.old.items ++ (spec.reference_told (scope_view scope.now) want
+        (known names.old) count (head_of element.now) (content_of element.now)).acts) }
+    ensures tracks { OnOk result (tracks.new.items ≡ tracks.old.items ++ (spec.reference_told (scope_view scope.now) want
+        (known names.old) count (head_of element.now) (content_of element.now)).tracks) }
+    ensures names { OnOk result (known names.new ≡ (spec.reference_told (scope_view scope.now) want (known names.old)
+        count (head_of element.now) (content_of element.now)).names) }
 {
-    match entered(imports, want, element) {
-        Ok(class) => add_class(alloc, imports, element, class, acts, tracks),
+    let found = limited(
+        count,
+        element.position,
+        referred(alloc, names, want, element)?,
+    );
+    add_found(found, tracks, acts)?;
+    add_closed(alloc, scope, element, names, acts)
+}
+
+/// A grid has at most 256 columns and 256 rows with constraints.
+fn limited(count: usize, place: Position, found: Found) -> Found
+    ensures { result ≡ spec.limited count place found }
+{
+    match found {
+        Found::Whole(made) => {
+            if count >= TRACK_LIMIT {
+                Found::Flaw(Flaw::Limit, place)
+            } else {
+                Found::Whole(made)
+            }
+        }
+        Found::Flaw(flaw, spot) => Found::Flaw(flaw, spot),
+    }
+}
+
+fn add_item<'a>(
+    alloc: Global,
+    scope: &Scope<'_>,
+    want: Want,
+    count: usize,
+    element: &'a Element,
+    names: &mut Names<'a>,
+    tracks: &mut Vec<Track>,
+    acts: &mut Vec<Act>,
+) -> Result<(), AllocError>
+    ensures acts { OnOk result (acts.new.items ≡ acts.old.items ++ (spec.item_told (scope_view scope.now) want
+        (known names.old) count (head_of element.now) (content_of element.now)).acts) }
+    ensures tracks { OnOk result (tracks.new.items ≡ tracks.old.items ++ (spec.item_told (scope_view scope.now) want
+        (known names.old) count (head_of element.now) (content_of element.now)).tracks) }
+    ensures names { OnOk result (known names.new ≡ (spec.item_told (scope_view scope.now) want (known names.old) count
+        (head_of element.now) (content_of element.now)).names) }
+{
+    match entered(scope, want, element) {
+        Ok(class) => add_class(alloc, scope, count, element, class, names, tracks, acts),
         Err(flaw) => push_flaw(acts, element.position, flaw),
     }
 }
 
-fn add_class(
+fn add_class<'a>(
     alloc: Global,
-    imports: &[Text],
-    element: &Element,
+    scope: &Scope<'_>,
+    count: usize,
+    element: &'a Element,
     class: Class,
-    acts: &mut Vec<Act>,
+    names: &mut Names<'a>,
     tracks: &mut Vec<Track>,
+    acts: &mut Vec<Act>,
 ) -> Result<(), AllocError>
-    ensures acts { OnOk result (acts.new.items ≡ acts.old.items ++ (spec.class_told imports.now
-        (length tracks.old.items) (head_of element.now) (content_of element.now) class).acts) }
-    ensures tracks { OnOk result (tracks.new.items ≡ tracks.old.items ++ (spec.class_told imports.now
-        (length tracks.old.items) (head_of element.now) (content_of element.now) class).tracks) }
+    ensures acts { OnOk result (acts.new.items ≡ acts.old.items ++ (spec.class_told (scope_view scope.now)
+        (known names.old) count (head_of element.now) (content_of element.now) class).acts) }
+    ensures tracks { OnOk result (tracks.new.items ≡ tracks.old.items ++ (spec.class_told (scope_view scope.now)
+        (known names.old) count (head_of element.now) (content_of element.now) class).tracks) }
+    ensures names { OnOk result (known names.new ≡ (spec.class_told (scope_view scope.now) (known names.old) count
+        (head_of element.now) (content_of element.now) class).names) }
 {
-    if tracks.len() >= TRACK_LIMIT {
+    if count >= TRACK_LIMIT {
         return push_flaw(acts, element.position, Flaw::Limit);
     }
-    let found = whole(alloc, imports, element, class)?;
-    add_found(found, acts, tracks)
+    let found = whole(alloc, scope, element, class, false, names)?;
+    add_found(found, tracks, acts)
 }
 
-fn add_found(found: Found, acts: &mut Vec<Act>, tracks: &mut Vec<Track>) -> Result<(), AllocError>
-    ensures acts { OnOk result (acts.new.items ≡ acts.old.items ++ (spec.found_told found).acts) }
-    ensures tracks { OnOk result (tracks.new.items ≡ tracks.old.items ++ (spec.found_told found).tracks) }
+fn add_found(found: Found, tracks: &mut Vec<Track>, acts: &mut Vec<Act>) -> Result<(), AllocError>
+    ensures acts { OnOk result (acts.new.items ≡ acts.old.items ++ flaw_in found) }
+    ensures tracks { OnOk result (tracks.new.items ≡ tracks.old.items ++ spec.tracks_in found) }
 {
     match found {
         Found::Whole(Made::Track(track)) => Ok(tracks.push(track)?),
-        Found::Whole(Made::Plain(_)) => Ok(()),
+        Found::Whole(_) => Ok(()),
         Found::Flaw(flaw, spot) => push_flaw(acts, spot, flaw),
     }
 }

@@ -6,34 +6,45 @@ use Rattle.fx_doc.specs.Views.{attr_view}
 use Rattle.fx_doc.specs.declared.document.Attribute.{Attribute}
 use Rattle.fx_kinds.specs.declared.classes.Class.{Class}
 use Rattle.fx_scene_flaws.specs.declared.flaws.Flaw.{Flaw as Mistake}
-use Rattle.fx_scene_literals.specs.Literals.{made_after, made_from, on_found}
+use Rattle.fx_scene_literals.specs.Literals.{Told, attribute_told, found_then, made_from, told}
 use Rattle.fx_scene_literals.specs.declared.made.Found.{Found}
 use Rattle.fx_scene_literals.specs.declared.made.Found.TheVariants.{Whole, Flaw}
 use Rattle.fx_scene_literals.specs.declared.made.Made.{Made}
+use Rattle.fx_scene_things.specs.Names.{Names}
+use Rattle.fx_scene_values.specs.Scopes.{Scope}
 
-abbrev rest_of : Class → List Attribute → ℕ → Found → Found
-rest_of class attributes i found =
-    on_found found (λ next. made_from class next (map attr_view (drop (i + 1) attributes)))
+abbrev rest_of : Scope → Class → List Attribute → ℕ → Found → Names → Told
+rest_of scope class attributes i found names =
+    found_then found names (λ next known. made_from scope class next known (map attr_view (drop (i + 1) attributes)))
 
-next_is : (class : Class) (attributes : List Attribute) (i : ℕ) (x : Attribute) (made : Made) (found whole : Found)
-    → i < length attributes → x ≡ get_or attributes i x → found ≡ made_after class (attr_view x) made
-    → made_from class made (map attr_view (drop i attributes)) ≡ whole → rest_of class attributes i found ≡ whole
-next_is class attributes i x made found whole h is made_is so_far =
-    ap (rest_of class attributes i) made_is
-    ∙ (sym (ap (λ left. made_from class made (map attr_view left))
-    (drop_more attributes i x h ∙ ap (λ y. y ∷ drop (i + 1) attributes) (sym is))) ∙ so_far)
+next_is : (scope : Scope) (class : Class) (attributes : List Attribute) (i : ℕ) (x : Attribute) (made : Made)
+    (old names : Names) (found : Found) (whole : Told) → i < length attributes → x ≡ get_or attributes i x
+    → found ≡ (attribute_told scope class (attr_view x) made old).found
+    → names ≡ (attribute_told scope class (attr_view x) made old).names
+    → made_from scope class made old (map attr_view (drop i attributes)) ≡ whole
+    → rest_of scope class attributes i found names ≡ whole
+next_is scope class attributes i x made old names found whole h is found_is names_is so_far =
+    ap (λ (f : Found). rest_of scope class attributes i f names) found_is
+    ∙ (ap (λ (n : Names). rest_of scope class attributes i (attribute_told scope class (attr_view x) made old).found n) names_is
+    ∙ (sym (ap (λ left. made_from scope class made old (map attr_view left))
+    (drop_more attributes i x h ∙ ap (λ y. y ∷ drop (i + 1) attributes) (sym is))) ∙ so_far))
 
-pub attribute_stops : (class : Class) (attributes : List Attribute) (i : ℕ) (x : Attribute) (made : Made)
-    (found whole : Found) (mistake : Mistake) (place : Position) → i < length attributes → x ≡ get_or attributes i x
-    → found ≡ made_after class (attr_view x) made → found ≡ Flaw mistake place
-    → made_from class made (map attr_view (drop i attributes)) ≡ whole → Flaw mistake place ≡ whole
-attribute_stops class attributes i x made found whole mistake place h is made_is stops so_far =
-    ap (rest_of class attributes i) (sym stops) ∙ next_is class attributes i x made found whole h is made_is so_far
+pub attribute_stops : (scope : Scope) (class : Class) (attributes : List Attribute) (i : ℕ) (x : Attribute) (made : Made)
+    (old names : Names) (found : Found) (whole : Told) (mistake : Mistake) (place : Position) → i < length attributes
+    → x ≡ get_or attributes i x → found ≡ (attribute_told scope class (attr_view x) made old).found
+    → names ≡ (attribute_told scope class (attr_view x) made old).names → found ≡ Flaw mistake place
+    → made_from scope class made old (map attr_view (drop i attributes)) ≡ whole
+    → told (Flaw mistake place) names ≡ whole
+attribute_stops scope class attributes i x made old names found whole mistake place h is found_is names_is stops so_far =
+    ap (λ (f : Found). rest_of scope class attributes i f names) (sym stops)
+    ∙ next_is scope class attributes i x made old names found whole h is found_is names_is so_far
 
-pub attribute_goes : (class : Class) (attributes : List Attribute) (i : ℕ) (x : Attribute) (made next : Made)
-    (found whole : Found) → i < length attributes → x ≡ get_or attributes i x
-    → found ≡ made_after class (attr_view x) made → found ≡ Whole next
-    → made_from class made (map attr_view (drop i attributes)) ≡ whole
-    → made_from class next (map attr_view (drop (i + 1) attributes)) ≡ whole
-attribute_goes class attributes i x made next found whole h is made_is goes so_far =
-    ap (rest_of class attributes i) (sym goes) ∙ next_is class attributes i x made found whole h is made_is so_far
+pub attribute_goes : (scope : Scope) (class : Class) (attributes : List Attribute) (i : ℕ) (x : Attribute)
+    (made next : Made) (old names : Names) (found : Found) (whole : Told) → i < length attributes
+    → x ≡ get_or attributes i x → found ≡ (attribute_told scope class (attr_view x) made old).found
+    → names ≡ (attribute_told scope class (attr_view x) made old).names → found ≡ Whole next
+    → made_from scope class made old (map attr_view (drop i attributes)) ≡ whole
+    → made_from scope class next names (map attr_view (drop (i + 1) attributes)) ≡ whole
+attribute_goes scope class attributes i x made next old names found whole h is found_is names_is goes so_far =
+    ap (λ (f : Found). rest_of scope class attributes i f names) (sym goes)
+    ∙ next_is scope class attributes i x made old names found whole h is found_is names_is so_far

@@ -11,14 +11,13 @@ use Rattle.fx_doc.specs.declared.document.Content.TheFolds as f
 use Rattle.fx_doc.specs.declared.document.Content.TheViews as w
 use Rattle.fx_doc.specs.declared.document.Element.{Element}
 use Rattle.fx_doc.proofs.Trees.{element_head, element_node, nodes_of_push, onto_something}
-use Rattle.fx_scene_literals.specs.Literals.{read_in}
-use Rattle.fx_scene_literals.specs.Views.{part_found}
+use Rattle.fx_scene_literals.specs.Literals.{Told, read_in, told}
+use Rattle.fx_scene_literals.specs.Views.{part_told}
 use Rattle.fx_scene_literals.specs.declared.made.Found.{Found}
 use Rattle.fx_scene_literals.specs.declared.made.Made.{Made}
 use Rattle.fx_scene_literals.specs.declared.made.Part.{Part}
-
-abbrev Imports : Type 0
-Imports = List (List ℕ)
+use Rattle.fx_scene_things.specs.Names.{Names}
+use Rattle.fx_scene_values.specs.Scopes.{Scope}
 
 -- an opened part, behind what stands before it
 abbrev opened : o.Content-F Content Element → Nodes → Nodes
@@ -57,23 +56,46 @@ pub read_more : {R : Type 0} (read : Nodes → R) (step : Nodes → Nodes → R)
 read_more read step text element content i x h is =
     sym (ap read (nodes_more content i x h is) ∙ joined read step text element (nodes_of (take i content)) x)
 
-abbrev behind : Imports → Part → Made → Nodes → Nodes → Found
-behind imports part made before item =
-    part_found imports part (is_nothing before) (read_in imports part made before) item
+abbrev behind : Scope → Part → Made → Names → Nodes → Nodes → Told
+behind scope part made names before item =
+    part_told scope part (is_nothing before) (read_in scope part made names before) item
 
 -- one part more
-pub part_more : (imports : Imports) (part : Part) (made : Made) (content : List Content) (i : ℕ) (x : Content)
-    (first : Bool) (found next : Found) → i < length content → x ≡ get_or content i x
-    → found ≡ read_in imports part made (nodes_of (take i content)) → first ≡ is_nothing (nodes_of (take i content))
-    → next ≡ part_found imports part first found (onto x Nothing)
-    → next ≡ read_in imports part made (nodes_of (take (i + 1) content))
+told_more : (scope : Scope) (part : Part) (made : Made) (old : Names) (content : List Content) (i : ℕ) (x : Content)
+    (first : Bool) (found : Found) (names : Names) → i < length content → x ≡ get_or content i x
+    → found ≡ (read_in scope part made old (nodes_of (take i content))).found
+    → names ≡ (read_in scope part made old (nodes_of (take i content))).names
+    → first ≡ is_nothing (nodes_of (take i content))
+    → part_told scope part first (told found names) (onto x Nothing)
+    ≡ read_in scope part made old (nodes_of (take (i + 1) content))
 unfolding read_in
-part_more imports part made content i x first found next h is so_far alone more =
-    more
-    ∙ (ap (λ b. part_found imports part b found (onto x Nothing)) alone
-    ∙ (ap (λ now. part_found imports part (is_nothing (nodes_of (take i content))) now (onto x Nothing)) so_far
-    ∙ read_more (read_in imports part made) (behind imports part made) (λ before text spot. refl)
+told_more scope part made old content i x first found names h is so_far known alone =
+    let before = nodes_of (take i content) in
+    ap (λ b. part_told scope part b (told found names) (onto x Nothing)) alone
+    ∙ (ap (λ (f : Found). part_told scope part (is_nothing before) (told f names) (onto x Nothing)) so_far
+    ∙ (ap (λ (n : Names). part_told scope part (is_nothing before) (told (read_in scope part made old before).found n) (onto x Nothing)) known
+    ∙ read_more (read_in scope part made old) (behind scope part made old) (λ before text spot. refl)
     (λ before head inner. refl) content i x h is))
+
+pub found_more : (scope : Scope) (part : Part) (made : Made) (old : Names) (content : List Content) (i : ℕ) (x : Content)
+    (first : Bool) (found next : Found) (names : Names) → i < length content → x ≡ get_or content i x
+    → found ≡ (read_in scope part made old (nodes_of (take i content))).found
+    → names ≡ (read_in scope part made old (nodes_of (take i content))).names
+    → first ≡ is_nothing (nodes_of (take i content))
+    → next ≡ (part_told scope part first (told found names) (onto x Nothing)).found
+    → next ≡ (read_in scope part made old (nodes_of (take (i + 1) content))).found
+found_more scope part made old content i x first found next names h is so_far known alone more =
+    more ∙ ap (λ (t : Told). t.found) (told_more scope part made old content i x first found names h is so_far known alone)
+
+pub names_more : (scope : Scope) (part : Part) (made : Made) (old : Names) (content : List Content) (i : ℕ) (x : Content)
+    (first : Bool) (found : Found) (names next : Names) → i < length content → x ≡ get_or content i x
+    → found ≡ (read_in scope part made old (nodes_of (take i content))).found
+    → names ≡ (read_in scope part made old (nodes_of (take i content))).names
+    → first ≡ is_nothing (nodes_of (take i content))
+    → next ≡ (part_told scope part first (told found names) (onto x Nothing)).names
+    → next ≡ (read_in scope part made old (nodes_of (take (i + 1) content))).names
+names_more scope part made old content i x first found names next h is so_far known alone more =
+    more ∙ ap (λ (t : Told). t.names) (told_more scope part made old content i x first found names h is so_far known alone)
 
 -- and then it isn't the first any more
 pub no_first : (content : List Content) (i : ℕ) (x : Content) → i < length content → x ≡ get_or content i x

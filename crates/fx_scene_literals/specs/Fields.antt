@@ -16,7 +16,7 @@ use Rattle.fx_scene_flaws.specs.declared.flaws.Flaw.TheVariants as flaw
 use Rattle.fx_scene_literals.specs.declared.fields.Field.{Field}
 use Rattle.fx_scene_literals.specs.declared.fields.Field.TheVariants as field
 use Rattle.fx_scene_literals.specs.declared.made.Made.{Made}
-use Rattle.fx_scene_literals.specs.declared.made.Made.TheVariants.{Plain, Track}
+use Rattle.fx_scene_literals.specs.declared.made.Made.TheVariants.{Location, Plain, Track}
 use Rattle.fx_scene_values.specs.Values.{literal}
 use Rattle.fx_scene_values.specs.declared.values.Given.{Given}
 use Rattle.fx_scene_values.specs.declared.values.Given.TheVariants as given
@@ -91,10 +91,12 @@ abbrev pub with_number : Field → ℤ → Made → Made
 with_number field number (Plain (value.Sides sides)) = Plain (value.Sides (with_side field number sides))
 with_number field number (Plain other) = Plain (value.Int number)
 with_number field number (Track track) = Track (with_length field number track)
+with_number field number (Location name) = Location name
 
 abbrev pub with_constant : Field → ℕ → Made → Made
 with_constant field number (Plain other) = Plain other
 with_constant field number (Track track) = Track (with_choice field number track)
+with_constant field number (Location name) = Location name
 
 -- what is made, with this value in the field
 abbrev pub with_value : Field → Value → Made → Made

@@ -14,6 +14,7 @@ use Rattle.fx_scene_literals.specs.Needs.{has_attribute, is_location, is_scene_n
 use Rattle.fx_scene_literals.specs.declared.instances.Want.{Want}
 use Rattle.fx_scene_literals.specs.declared.instances.Want.TheVariants as want
 use Rattle.fx_scene_names.specs.Names.{class_named, is_instance, lacks_import}
+use Rattle.fx_scene_values.specs.Scopes.{Scope}
 
 -- the kind of the values that instances of the class are; a region stands for a number by a constant
 abbrev pub kind_of : Class → Option Kind
@@ -40,9 +41,9 @@ abbrev pub more_flaw : Option Flaw → Option Flaw
 more_flaw (Some mistake) = Some mistake
 more_flaw None = Some flaw.Child
 
--- a style class may be a location, too, which isn't read yet
+-- a style class may be a location, too
 abbrev pub name_flaw : Class → Option Flaw
-name_flaw class = if is_location class then Some flaw.NotBuilt else kind_flaw kind.Text (kind_of class)
+name_flaw class = if is_location class then None else kind_flaw kind.Text (kind_of class)
 
 -- what is wrong with an instance of the class, which is no node, where this is wanted
 abbrev pub misfit : Want → Class → Option Flaw
@@ -51,22 +52,28 @@ misfit (want.Another kind) class = more_flaw (kind_flaw kind (kind_of class))
 misfit want.Name class = name_flaw class
 misfit want.Column class = flaw_unless (is_column class) flaw.Child
 misfit want.Row class = flaw_unless (is_row class) flaw.Child
+misfit want.Defined class = None
 misfit want.Nothing class = Some flaw.Child
 
 abbrev pub unless_flaw : Class → Option Flaw → Result Class Flaw
 unless_flaw class (Some mistake) = Err mistake
 unless_flaw class None = Ok class
 
+-- what is wrong with a node; nodes in definitions within values aren't read yet
+abbrev pub node_flaw : Want → Flaw
+node_flaw want.Defined = flaw.NotBuilt
+node_flaw _ = flaw.Child
+
 -- of all that is wrong, the first in the order of flaws
-abbrev pub class_fit : List (List ℕ) → Want → Head → Class → Result Class Flaw
-class_fit imports wanted head class =
-    if lacks_import imports head.name class then Err flaw.Import
-    else (if is_scene_node class head.attributes then Err flaw.Child
+abbrev pub class_fit : Scope → Want → Head → Class → Result Class Flaw
+class_fit scope wanted head class =
+    if lacks_import scope.imports head.name class then Err flaw.Import
+    else (if is_scene_node class head.attributes then Err (node_flaw wanted)
     else (if lacks_value class head.attributes then Err flaw.Value else unless_flaw class (misfit wanted class)))
 
-abbrev pub class_if : List (List ℕ) → Want → Head → Option Class → Result Class Flaw
-class_if imports wanted head None = Err flaw.Class
-class_if imports wanted head (Some class) = class_fit imports wanted head class
+abbrev pub class_if : Scope → Want → Head → Option Class → Result Class Flaw
+class_if scope wanted head None = Err flaw.Class
+class_if scope wanted head (Some class) = class_fit scope wanted head class
 
 -- elements that are no instances
 
@@ -79,21 +86,11 @@ is_reference name = bytes_eq name (codes "fx:reference")
 abbrev pub is_define : List ℕ → Bool
 is_define name = bytes_eq name (codes "fx:define")
 
--- nothing may stand there, whatever it is
-abbrev pub is_closed : Want → Bool
-is_closed (want.Another kind) = true
-is_closed want.Nothing = true
-is_closed _ = false
-
--- what is wrong with a reference; references aren't read yet
-abbrev pub reference_flaw : Want → Flaw
-reference_flaw wanted = if is_closed wanted then flaw.Child else flaw.NotBuilt
-
--- an include is a node, which is no value
+-- a reference may not stand there; an include is a node
 abbrev pub insert_flaw : Want → Head → Flaw
 insert_flaw wanted head =
     if has_attribute head.attributes (codes "source")
-    then (if is_reference head.name then reference_flaw wanted else flaw.Child) else flaw.Value
+    then (if is_reference head.name then flaw.Child else node_flaw wanted) else flaw.Value
 
 abbrev pub outside_flaw : Want → Head → Flaw
 outside_flaw wanted head =
@@ -101,7 +98,7 @@ outside_flaw wanted head =
     else (if is_define head.name then flaw.Child else flaw.Property)
 
 -- the class of an instance that may stand where this is wanted, or what is wrong with an element at its name
-unfoldable pub entered : List (List ℕ) → Want → Head → Result Class Flaw
-entered imports wanted head =
-    if is_instance head.name then class_if imports wanted head (class_named head.name)
+unfoldable pub entered : Scope → Want → Head → Result Class Flaw
+entered scope wanted head =
+    if is_instance head.name then class_if scope wanted head (class_named head.name)
     else Err (outside_flaw wanted head)

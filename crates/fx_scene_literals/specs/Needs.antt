@@ -1,15 +1,9 @@
 -- What classes are, and what instances of them need.
-use Rattle.std.specs.Prelude.{ℕ, Bool, true, false, not, ◌&&◌, ◌||◌, List, codes, is_some, if◌then◌else◌}
-use Rattle.std.specs.List.{find}
+pub use Rattle.fx_scene_outline.specs.Nodes.{has_attribute, is_scene_node}
+use Rattle.std.specs.Prelude.{Bool, true, false, not, ◌&&◌, ◌||◌, List, codes, if◌then◌else◌}
 use Rattle.fx_doc_grammar.specs.Grammar.{Attr}
-use Rattle.fx_kinds.specs.Classes.{is_node}
 use Rattle.fx_kinds.specs.declared.classes.Class.{Class}
 use Rattle.fx_kinds.specs.declared.classes.Class.TheVariants as class
-use Rattle.fx_scene_bindings.specs.Names.{has_name}
-
-abbrev pub is_region : Class → Bool
-is_region class.Region = true
-is_region _ = false
 
 abbrev pub is_location : Class → Bool
 is_location class.Url = true
@@ -32,16 +26,6 @@ abbrev pub has_constants : Class → Bool
 has_constants class.String = false
 has_constants class.Boolean = false
 has_constants _ = true
-
-abbrev pub has_attribute : List Attr → List ℕ → Bool
-has_attribute attributes name = is_some (find (has_name name) attributes)
-
--- a region with a constant stands for a number
-abbrev pub is_number : Class → List Attr → Bool
-is_number class attributes = is_region class && has_attribute attributes (codes "fx:constant")
-
-abbrev pub is_scene_node : Class → List Attr → Bool
-is_scene_node class attributes = is_node class && not (is_number class attributes)
 
 abbrev pub has_constant : Class → List Attr → Bool
 has_constant class attributes = has_constants class && has_attribute attributes (codes "fx:constant")

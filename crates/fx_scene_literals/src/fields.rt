@@ -124,6 +124,7 @@ fn with_number(field: Field, number: i64, made: Made) -> Made
         }
         Made::Plain(_) => Made::Plain(Value::Int(number)),
         Made::Track(track) => Made::Track(with_length(field, number, track)),
+        Made::Location(name) => Made::Location(name),
     }
 }
 
@@ -133,6 +134,7 @@ fn with_constant(field: Field, number: u8, made: Made) -> Made
     match made {
         Made::Plain(value) => Made::Plain(value),
         Made::Track(track) => Made::Track(with_choice(field, number, track)),
+        Made::Location(name) => Made::Location(name),
     }
 }
 

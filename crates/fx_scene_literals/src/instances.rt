@@ -1,15 +1,17 @@
 //! Instances where values and parts of lists are wanted.
 ghost use Rattle.std.specs.Prelude.{◌≡◌};
-ghost use Rattle.fx_graph_model.specs.Equality.{same_family, same_kind};
 ghost use Rattle.fx_scene_literals.specs.Instances as spec;
 ghost use Rattle.fx_scene_outline.specs.Views.{head_of};
+ghost use Rattle.fx_scene_values.specs.Views.{scope_view};
 
-use crate::needs::{has_attribute, is_location, is_scene_node, lacks_value};
-use fx_base::{Family, Kind, Text};
+use crate::needs::{is_location, lacks_value};
+use fx_base::Kind;
 use fx_doc::Element;
 use fx_kinds::{Class, value_kind};
 use fx_scene_flaws::Flaw;
 use fx_scene_names::{class_named, is_instance, lacks_import};
+use fx_scene_outline::{has_attribute, is_scene_node};
+use fx_scene_values::{Scope, is_same_kind};
 
 /// What is wanted at a place.
 #[derive(Clone, Copy, Debug, PartialEq, Eq)]
@@ -24,36 +26,48 @@ pub enum Want {
     Column,
     /// The constraint of a row.
     Row,
+    /// Anything, in a definition within a value.
+    Defined,
     Nothing,
 }
 
 /// The class of an instance that may stand where this is wanted, or what is wrong with an element at its name.
 #[tactic(auto, unfolding(crate::specs::Instances::entered))]
-pub fn entered(imports: &[Text], want: Want, element: &Element) -> Result<Class, Flaw>
-    ensures { result ≡ spec.entered imports.now want (head_of element.now) }
+pub fn entered(scope: &Scope<'_>, want: Want, element: &Element) -> Result<Class, Flaw>
+    ensures { result ≡ spec.entered (scope_view scope.now) want (head_of element.now) }
 {
     if !is_instance(element.name.as_str()) {
         return Err(outside_flaw(want, element));
     }
     match class_named(element.name.as_str()) {
-        Some(class) => class_fit(imports, want, element, class),
+        Some(class) => class_fit(scope, want, element, class),
         None => Err(Flaw::Class),
     }
 }
 
-fn class_fit(imports: &[Text], want: Want, element: &Element, class: Class) -> Result<Class, Flaw>
-    ensures { result ≡ spec.class_fit imports.now want (head_of element.now) class }
+fn class_fit(scope: &Scope<'_>, want: Want, element: &Element, class: Class) -> Result<Class, Flaw>
+    ensures { result ≡ spec.class_fit (scope_view scope.now) want (head_of element.now) class }
 {
-    if lacks_import(imports, element.name.as_str(), class) {
+    if lacks_import(scope.imports, element.name.as_str(), class) {
         return Err(Flaw::Import);
     }
     if is_scene_node(class, element.attributes.as_slice()) {
-        return Err(Flaw::Child);
+        return Err(node_flaw(want));
     }
     if lacks_value(class, element.attributes.as_slice()) {
         return Err(Flaw::Value);
     }
     unless_flaw(class, misfit(want, class))
+}
+
+/// What is wrong with a node. Nodes in definitions within values aren't read yet.
+fn node_flaw(want: Want) -> Flaw
+    ensures { result ≡ spec.node_flaw want }
+{
+    match want {
+        Want::Defined => Flaw::NotBuilt,
+        _ => Flaw::Child,
+    }
 }
 
 fn unless_flaw(class: Class, flaw: Option<Flaw>) -> Result<Class, Flaw>
@@ -74,6 +88,7 @@ fn misfit(want: Want, class: Class) -> Option<Flaw>
         Want::Name => name_flaw(class),
         Want::Column => flaw_unless(is_column(class), Flaw::Child),
         Want::Row => flaw_unless(is_row(class), Flaw::Child),
+        Want::Defined => None,
         Want::Nothing => Some(Flaw::Child),
     }
 }
@@ -100,7 +115,7 @@ fn name_flaw(class: Class) -> Option<Flaw>
     ensures { result ≡ spec.name_flaw class }
 {
     if is_location(class) {
-        Some(Flaw::NotBuilt)
+        None
     } else {
         kind_flaw(Kind::Text, kind_of(class))
     }
@@ -134,32 +149,6 @@ fn is_row(class: Class) -> bool
     matches!(class, Class::RowConstraints)
 }
 
-fn is_same_family(one: Family, other: Family) -> bool
-    ensures { result ≡ same_family one other }
-{
-    match (one, other) {
-        (Family::Pos, Family::Pos) => true,
-        (Family::Priority, Family::Priority) => true,
-        (Family::HPos, Family::HPos) => true,
-        (Family::VPos, Family::VPos) => true,
-        _ => false,
-    }
-}
-
-fn is_same_kind(one: Kind, other: Kind) -> bool
-    ensures { result ≡ same_kind one other }
-{
-    match (one, other) {
-        (Kind::Int, Kind::Int) => true,
-        (Kind::Bool, Kind::Bool) => true,
-        (Kind::Text, Kind::Text) => true,
-        (Kind::Choice(one), Kind::Choice(other)) => is_same_family(one, other),
-        (Kind::Color, Kind::Color) => true,
-        (Kind::Sides, Kind::Sides) => true,
-        _ => false,
-    }
-}
-
 /// What is wrong with an element that is no instance.
 fn outside_flaw(want: Want, element: &Element) -> Flaw
     ensures { result ≡ spec.outside_flaw want (head_of element.now) }
@@ -181,27 +170,10 @@ fn insert_flaw(want: Want, element: &Element) -> Flaw
         return Flaw::Value;
     }
     if is_reference(element.name.as_str()) {
-        reference_flaw(want)
-    } else {
-        Flaw::Child
-    }
-}
-
-/// What is wrong with a reference: references aren't read yet.
-fn reference_flaw(want: Want) -> Flaw
-    ensures { result ≡ spec.reference_flaw want }
-{
-    if is_closed(want) {
         Flaw::Child
     } else {
-        Flaw::NotBuilt
+        node_flaw(want)
     }
-}
-
-fn is_closed(want: Want) -> bool
-    ensures { result ≡ spec.is_closed want }
-{
-    matches!(want, Want::Another(_) | Want::Nothing)
 }
 
 pub(crate) fn is_include(name: &str) -> bool
@@ -210,7 +182,7 @@ pub(crate) fn is_include(name: &str) -> bool
     name == "fx:include"
 }
 
-pub(crate) fn is_reference(name: &str) -> bool
+pub fn is_reference(name: &str) -> bool
     ensures { result ≡ spec.is_reference name.now }
 {
     name == "fx:reference"

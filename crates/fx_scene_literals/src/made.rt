@@ -1,13 +1,14 @@
 //! What is made of an instance of a value.
-use fx_base::{Kind, Position, Track, Value};
+use fx_base::{Kind, Position, Text, Track, Value};
 use fx_kinds::Class;
 use fx_scene_flaws::Flaw;
 
-/// A value, or the constraint of a column or a row.
+/// A value, the constraint of a column or a row, or the name of a file.
 #[derive(Drop)]
 pub enum Made {
     Plain(Value),
     Track(Track),
+    Location(Text),
 }
 
 /// What is made, or what is wrong, and where.
@@ -24,4 +25,8 @@ pub enum Part {
     Fields(Class),
     /// A property element that holds one value of the kind.
     One(Kind),
+    /// A definition within a value.
+    Defined,
+    /// An element that may have none.
+    Closed,
 }

@@ -4,28 +4,8 @@ ghost use Rattle.fx_doc.specs.Views.{attr_view};
 ghost use Rattle.fx_scene_literals.specs.Needs as spec;
 
 use fx_doc::Attribute;
-use fx_kinds::{Class, is_node};
-use fx_scene_bindings::value_at;
-
-/// Is there an attribute of this name?
-pub fn has_attribute(attributes: &[Attribute], name: &str) -> bool
-    ensures { result ≡ spec.has_attribute (map attr_view attributes.now) name.now }
-{
-    value_at(attributes, name).is_some()
-}
-
-/// Is an instance of the class with these attributes a node? A region with a constant stands for a number.
-pub fn is_scene_node(class: Class, attributes: &[Attribute]) -> bool
-    ensures { result ≡ spec.is_scene_node class (map attr_view attributes.now) }
-{
-    is_node(class) && !is_number(class, attributes)
-}
-
-fn is_number(class: Class, attributes: &[Attribute]) -> bool
-    ensures { result ≡ spec.is_number class (map attr_view attributes.now) }
-{
-    is_region(class) && has_attribute(attributes, "fx:constant")
-}
+use fx_kinds::Class;
+use fx_scene_outline::has_attribute;
 
 /// Does an instance of a class of values with these attributes lack the one that it needs?
 pub fn lacks_value(class: Class, attributes: &[Attribute]) -> bool
@@ -47,12 +27,6 @@ fn has_constant(class: Class, attributes: &[Attribute]) -> bool
     ensures { result ≡ spec.has_constant class (map attr_view attributes.now) }
 {
     has_constants(class) && has_attribute(attributes, "fx:constant")
-}
-
-fn is_region(class: Class) -> bool
-    ensures { result ≡ spec.is_region class }
-{
-    matches!(class, Class::Region)
 }
 
 pub(crate) fn is_location(class: Class) -> bool

@@ -121,11 +121,11 @@ content_then e room old now new content more =
     ∙ append_assoc (shown old) (pieces room (length old) (content_of e)) (edge_flaws room (head_of e).position (content_of e)))
 
 -- the root by itself
-root_is : (e : Element) → element_pieces 0 e (listed 0 Root (head_of e)) ≡ root_pieces (onto_element e Nothing)
+root_is : (e : Element) → element_pieces 0 e (listed 0 Root (head_of e) (content_of e)) ≡ root_pieces (onto_element e Nothing)
 root_is e = ap root_pieces (sym (element_node e Nothing))
 
 pub root_alone : (e : Element) (old new : List Piece) → old ≡ []
-    → shown new ≡ shown old ++ element_pieces (length old) e (listed (length old) Root (head_of e))
+    → shown new ≡ shown old ++ element_pieces (length old) e (listed (length old) Root (head_of e) (content_of e))
     → shown new ≡ root_pieces (onto_element e Nothing)
 root_alone e old new none more =
-    more ∙ (ap (λ ps. shown ps ++ element_pieces (length ps) e (listed (length ps) Root (head_of e))) none ∙ root_is e)
+    more ∙ (ap (λ ps. shown ps ++ element_pieces (length ps) e (listed (length ps) Root (head_of e) (content_of e))) none ∙ root_is e)

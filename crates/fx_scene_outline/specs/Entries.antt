@@ -10,7 +10,8 @@ use Rattle.fx_scene_flaws.specs.declared.flaws.Flaw.{Flaw}
 use Rattle.fx_scene_flaws.specs.declared.flaws.Flaw.TheVariants as flaw
 use Rattle.fx_scene_names.specs.Names.{class_named, is_instance}
 use Rattle.fx_scene_outline.specs.Edges.{edge_named, has_edge}
-use Rattle.fx_scene_outline.specs.Pieces.{Piece, Instance, Property, Reference, Wrong}
+use Rattle.fx_scene_outline.specs.Nodes.{is_scene_node}
+use Rattle.fx_scene_outline.specs.Pieces.{Piece, Instance, Property, Reference, Value, Wrong}
 use Rattle.fx_scene_outline.specs.declared.edges.Earlier.{Earlier}
 use Rattle.fx_scene_outline.specs.declared.pieces.Room.{Room}
 use Rattle.fx_scene_outline.specs.declared.pieces.Room.TheVariants.{Closed, Inside, Listed}
@@ -95,6 +96,19 @@ instance count seat head = record {
   room = room_of count (class_named head.name);
 }
 
+-- an instance in a definition, which is a node or a value
+abbrev pub defined : ℕ → Head → Nodes → Bool → Entry
+defined count head content is_node = if is_node then instance count seat.Aside head else only (Value head content)
+
+abbrev pub aside_if : ℕ → Head → Nodes → Option Class → Entry
+aside_if count head content None = instance count seat.Aside head
+aside_if count head content (Some class) = defined count head content (is_scene_node class head.attributes)
+
+-- an instance where instances are listed; in a definition it may be a value
+abbrev pub seated : ℕ → Seat → Head → Nodes → Entry
+seated count seat.Aside head content = aside_if count head content (class_named head.name)
+seated count place head content = instance count place head
+
 -- an instance of before, by its name
 abbrev pub reference : Seat → Head → Entry
 reference seat head = record { front = Reference seat head ∷ []; room = Some Closed }
@@ -130,13 +144,13 @@ inside count class owner earlier head content =
     else list_if class owner head content (slot_named class owner earlier head.name)))
 
 -- an element where instances are listed
-unfoldable pub listed : ℕ → Seat → Head → Entry
-listed count seat head =
-    if is_instance head.name then instance count seat head
-    else (if is_insert head.name then insert seat head
+unfoldable pub listed : ℕ → Seat → Head → Nodes → Entry
+listed count place head content =
+    if is_instance head.name then seated count place head content
+    else (if is_insert head.name then insert place head
     else (if is_define head.name then wrong flaw.Child head.position else wrong flaw.Property head.position))
 
 abbrev pub entry : ℕ → Room → Earlier → Head → Nodes → Entry
 entry count (Inside class owner) earlier head content = inside count class owner earlier head content
-entry count (Listed slot) earlier head content = listed count (seat_in slot earlier.first) head
+entry count (Listed slot) earlier head content = listed count (seat_in slot earlier.first) head content
 entry count Closed earlier head content = wrong flaw.Child head.position

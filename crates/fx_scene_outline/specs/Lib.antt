@@ -1,5 +1,6 @@
 pub mod Edges
 pub mod Entries
+pub mod Nodes
 pub mod Outlines
 pub mod Pieces
 pub mod Views

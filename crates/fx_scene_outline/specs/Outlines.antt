@@ -45,7 +45,7 @@ abbrev pub root_pieces : Nodes → List Piece
 root_pieces Nothing = []
 root_pieces (Letters before text spot) = []
 root_pieces (Node before head inner) =
-    with_content (λ inside behind. pieces inside behind inner) 0 head inner (listed 0 seat.Root head)
+    with_content (λ inside behind. pieces inside behind inner) 0 head inner (listed 0 seat.Root head inner)
 
 -- what stands in a document
 unfoldable pub outline : Reading → List Piece

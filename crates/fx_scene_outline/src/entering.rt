@@ -5,6 +5,7 @@ ghost use Rattle.fx_scene_outline.specs.Entries as spec;
 ghost use Rattle.fx_scene_outline.specs.Views.{Entered, content_of, head_of, shown};
 
 use crate::edges::{Earlier, edge_named};
+use crate::nodes::is_scene_node;
 use crate::pieces::{Piece, Room, Seat, Slot};
 use fx_base::Position;
 use fx_doc::{Attribute, Element};
@@ -65,11 +66,12 @@ pub(crate) fn enter_listed<'a>(
     seat: Seat,
     pieces: &mut Vec<Piece<'a>>,
 ) -> Result<Option<Room>, AllocError>
-    ensures { Entered (spec.listed (length pieces.old.items) seat (head_of element.now))
+    ensures { Entered
+        (spec.listed (length pieces.old.items) seat (head_of element.now) (content_of element.now))
         pieces.old.items pieces.new.items result }
 {
     if is_instance(element.name.as_str()) {
-        return enter_instance(element, seat, pieces);
+        return enter_seated(element, seat, pieces);
     }
     if is_insert(element.name.as_str()) {
         return enter_insert(element, seat, pieces);
@@ -78,6 +80,54 @@ pub(crate) fn enter_listed<'a>(
         return add_wrong(Flaw::Child, element.position, pieces);
     }
     add_wrong(Flaw::Property, element.position, pieces)
+}
+
+/// An instance where instances are listed; in a definition it may be a value.
+fn enter_seated<'a>(
+    element: &'a Element,
+    seat: Seat,
+    pieces: &mut Vec<Piece<'a>>,
+) -> Result<Option<Room>, AllocError>
+    ensures { Entered
+        (spec.seated (length pieces.old.items) seat (head_of element.now) (content_of element.now))
+        pieces.old.items pieces.new.items result }
+{
+    match seat {
+        Seat::Aside => enter_aside(element, class_named(element.name.as_str()), pieces),
+        _ => enter_instance(element, seat, pieces),
+    }
+}
+
+/// An instance of a class that is no node is a value.
+fn enter_aside<'a>(
+    element: &'a Element,
+    class: Option<Class>,
+    pieces: &mut Vec<Piece<'a>>,
+) -> Result<Option<Room>, AllocError>
+    ensures { Entered
+        (spec.aside_if (length pieces.old.items) (head_of element.now) (content_of element.now) class)
+        pieces.old.items pieces.new.items result }
+{
+    match class {
+        Some(class) => enter_defined(element, is_scene_node(class, element.attributes.as_slice()), pieces),
+        None => enter_instance(element, Seat::Aside, pieces),
+    }
+}
+
+fn enter_defined<'a>(
+    element: &'a Element,
+    is_node: bool,
+    pieces: &mut Vec<Piece<'a>>,
+) -> Result<Option<Room>, AllocError>
+    ensures { Entered
+        (spec.defined (length pieces.old.items) (head_of element.now) (content_of element.now) is_node)
+        pieces.old.items pieces.new.items result }
+{
+    if is_node {
+        return enter_instance(element, Seat::Aside, pieces);
+    }
+    pieces.push(Piece::Value(element))?;
+    Ok(None)
 }
 
 /// An instance: its content is gone through where a class has its name.

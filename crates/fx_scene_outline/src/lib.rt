@@ -5,8 +5,10 @@
 mod adding;
 mod edges;
 mod entering;
+mod nodes;
 mod outlines;
 mod pieces;
 
+pub use nodes::{has_attribute, is_scene_node};
 pub use outlines::outline;
 pub use pieces::{Piece, Seat};

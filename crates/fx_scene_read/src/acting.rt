@@ -3,21 +3,22 @@ ghost use Rattle.std.specs.Prelude.{◌≡◌, [], ◌∷◌, ◌++◌, IfOk, On
 ghost use Rattle.std.specs.Option.{option_map, option_to_list};
 ghost use Rattle.fx_doc.specs.Views.{attr_view};
 ghost use Rattle.fx_kinds.specs.Listing.{listed_property};
-ghost use Rattle.fx_scene_bindings.specs.Views.{named_view};
+ghost use Rattle.fx_scene_things.specs.Known.{known};
 ghost use Rattle.fx_scene_read.specs.Acting as spec;
-ghost use Rattle.fx_scene_values.specs.Views.{form_view};
+ghost use Rattle.fx_scene_values.specs.Views.{form_view, scope_view};
 
 use crate::sheets::add_sheets;
 use fx_base::{List, Text, Value};
 use fx_doc::Attribute;
 use fx_kinds::{Class, Property};
 use fx_scene_acts::Deed;
-use fx_scene_bindings::{Named, bound_deed, found};
+use fx_scene_bindings::bound_deed;
 use fx_scene_flaws::Flaw;
 use fx_scene_literals::has_attribute;
 use fx_scene_plan::PlannedStep;
+use fx_scene_things::Names;
 use fx_scene_values::{
-    Form, Role, add_classes, form_of, handler_deed, planned_property, property_deed,
+    Form, Role, Scope, add_classes, form_of, handler_deed, planned_property, property_deed,
     property_named, role_of, static_deed, style_deed,
 };
 use fx_text::is_identifier;
@@ -27,28 +28,32 @@ use std::alloc::{AllocError, Global};
 #[tactic(auto, unfolding(crate::specs::Acting::attribute_deeds))]
 pub(crate) fn add_deeds(
     alloc: Global,
-    imports: &[Text],
-    names: &[Named<'_>],
+    scope: &Scope<'_>,
+    names: &Names<'_>,
     class: Class,
     node: usize,
     attributes: &[Attribute],
     a: &Attribute,
     deeds: &mut Vec<Deed>,
 ) -> Result<(), AllocError>
-    ensures ok { OnOk result (deeds.new.items ≡ deeds.old.items ++ spec.attribute_deeds imports.now
-        (map named_view names.now) class node (map attr_view attributes.now) (attr_view a.now)) }
+    ensures ok { OnOk result (deeds.new.items ≡ deeds.old.items ++ spec.attribute_deeds (scope_view scope.now)
+        (known names.now) class node (map attr_view attributes.now) (attr_view a.now)) }
 {
     let text = a.value.as_str();
     match role_of(a.name.as_str()) {
         Role::Name => add_name(alloc, names, node, attributes, &a.value, deeds),
         Role::Ignored => Ok(()),
-        Role::Style => add(deeds, style_deed(alloc, node, text)?),
-        Role::Classes => add_classes(alloc, node, text, deeds),
+        Role::Style => add(deeds, style_deed(alloc, scope, names, node, text)?),
+        Role::Classes => add_classes(alloc, scope, names, node, text, deeds),
         Role::Sheets => add_sheets(alloc, node, text, deeds),
         Role::Handler(on) => add(deeds, handler_deed(alloc, node, on, text)?),
-        Role::Static => add(deeds, static_deed(alloc, imports, node, &a.name, text)?),
+        Role::Static => add(
+            deeds,
+            static_deed(alloc, scope, names, node, &a.name, text)?,
+        ),
         Role::Property => {
-            let deed = property_deed(alloc, class, node, a.name.as_str(), text)?;
+            let name = a.name.as_str();
+            let deed = property_deed(alloc, scope, names, class, node, name, text)?;
             add_if(deeds, deed)
         }
     }
@@ -70,22 +75,22 @@ fn add_if(deeds: &mut Vec<Deed>, deed: Option<Deed>) -> Result<(), AllocError>
     }
 }
 
-/// A name is an identifier that no other instance has.
+/// A name is an identifier that nothing before has.
 fn add_name(
     alloc: Global,
-    names: &[Named<'_>],
+    names: &Names<'_>,
     node: usize,
     attributes: &[Attribute],
     name: &Text,
     deeds: &mut Vec<Deed>,
 ) -> Result<(), AllocError>
     ensures ok { OnOk result (deeds.new.items ≡ deeds.old.items
-        ++ spec.name_deeds (map named_view names.now) node (map attr_view attributes.now) name.now) }
+        ++ spec.name_deeds (known names.now) node (map attr_view attributes.now) name.now) }
 {
     if !is_identifier(name.as_str()) {
         return add(deeds, Deed::Flaw(Flaw::Value));
     }
-    if is_taken(names, node, name.as_str()) {
+    if names.has(name.as_str()) {
         return add(deeds, Deed::Flaw(Flaw::Duplicate));
     }
     add(deeds, named_deed(alloc, node, name)?)?;
@@ -119,28 +124,18 @@ fn add_id(
     add(deeds, Deed::Step(PlannedStep::Code(property, value)))
 }
 
-/// Has another instance, before this node, the name?
-fn is_taken(names: &[Named<'_>], node: usize, name: &str) -> bool
-    ensures { result ≡ spec.is_taken (map named_view names.now) node name.now }
-{
-    match found(names, name) {
-        Some(known) => known.node != node,
-        None => false,
-    }
-}
-
 /// Adds what the attribute asks for once all nodes are there: an expression binds its property.
 #[tactic(auto, unfolding(crate::specs::Acting::binding_deeds))]
 pub(crate) fn add_bindings(
     alloc: Global,
-    names: &[Named<'_>],
+    names: &Names<'_>,
     class: Class,
     node: usize,
     a: &Attribute,
     deeds: &mut Vec<Deed>,
 ) -> Result<(), AllocError>
     ensures ok { OnOk result (deeds.new.items ≡ deeds.old.items
-        ++ spec.binding_deeds (map named_view names.now) class node (attr_view a.now)) }
+        ++ spec.binding_deeds (known names.now) class node (attr_view a.now)) }
 {
     match role_of(a.name.as_str()) {
         Role::Property => {
@@ -153,13 +148,13 @@ pub(crate) fn add_bindings(
 
 fn add_binding_if(
     alloc: Global,
-    names: &[Named<'_>],
+    names: &Names<'_>,
     node: usize,
     text: &str,
     property: Option<&'static Property>,
     deeds: &mut Vec<Deed>,
 ) -> Result<(), AllocError>
-    ensures ok { OnOk result (deeds.new.items ≡ deeds.old.items ++ spec.binding_if (map named_view names.now) node
+    ensures ok { OnOk result (deeds.new.items ≡ deeds.old.items ++ spec.binding_if (known names.now) node
         text.now (option_map (λ p. listed_property p.now) property.entry)) }
 {
     match property {
@@ -170,13 +165,13 @@ fn add_binding_if(
 
 fn add_binding(
     alloc: Global,
-    names: &[Named<'_>],
+    names: &Names<'_>,
     node: usize,
     property: &Property,
     form: Form<'_>,
     deeds: &mut Vec<Deed>,
 ) -> Result<(), AllocError>
-    ensures ok { OnOk result (deeds.new.items ≡ deeds.old.items ++ spec.binding_by (map named_view names.now) node
+    ensures ok { OnOk result (deeds.new.items ≡ deeds.old.items ++ spec.binding_by (known names.now) node
         (listed_property property.now) (form_view form.entry)) }
 {
     match form {

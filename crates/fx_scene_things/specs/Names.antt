@@ -27,5 +27,5 @@ node_if None = None
 node_if (Some one) = node_in one
 
 -- the node of a name
-abbrev pub node_of : Names → List ℕ → Option Named
-node_of names name = node_if (names name)
+abbrev pub node_called : Names → List ℕ → Option Named
+node_called names name = node_if (names name)

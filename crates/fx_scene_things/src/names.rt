@@ -33,7 +33,7 @@ impl<'a> Names<'a> {
 
     /// The node of this name.
     pub fn node(&self, name: &str) -> Option<Named>
-        ensures { result ≡ spec.node_of (known self.now) name.now }
+        ensures { result ≡ spec.node_called (known self.now) name.now }
     {
         match self.get(name) {
             Some(thing) => node_in(thing),

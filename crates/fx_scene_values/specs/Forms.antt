@@ -8,8 +8,8 @@ pub data Form : Type 0 where
   -- an expression that the property is bound to
   Bound : List ℕ → Form
   -- a value by its name
-  Named : Form
-  Located : Form
+  Named : List ℕ → Form
+  Located : List ℕ → Form
   Refused : Form
 
 -- `${` without `}` at the end is of no form
@@ -20,19 +20,26 @@ closed_form None = Refused
 abbrev pub brace_form : List ℕ → Form
 brace_form inside = closed_form (before_sign right_brace inside)
 
-abbrev pub open_form : Option (List ℕ) → Form
-open_form (Some inside) = brace_form inside
-open_form None = Named
+abbrev pub open_form : List ℕ → Option (List ℕ) → Form
+open_form rest (Some inside) = brace_form inside
+open_form rest None = Named rest
 
 -- what stands behind `$`: an expression between braces, or a name
 abbrev pub dollar_form : List ℕ → Form
-dollar_form rest = open_form (behind_sign left_brace rest)
+dollar_form rest = open_form rest (behind_sign left_brace rest)
 
--- `@` stands before a location, and `%` before what isn't read at all
+-- `%` stands before what isn't read at all
+abbrev pub percent_form : List ℕ → Form
+percent_form [] = Literal []
+percent_form (c ∷ cs) = if c == percent_sign then Refused else Literal (c ∷ cs)
+
+abbrev pub at_form : Option (List ℕ) → List ℕ → Form
+at_form (Some path) text = Located path
+at_form None text = percent_form text
+
+-- `@` stands before a location
 abbrev pub unsigned_form : List ℕ → Form
-unsigned_form [] = Literal []
-unsigned_form (c ∷ cs) =
-    if c == commercial_at then Located else (if c == percent_sign then Refused else Literal (c ∷ cs))
+unsigned_form text = at_form (behind_sign commercial_at text) text
 
 abbrev pub signed_form : Option (List ℕ) → List ℕ → Form
 signed_form (Some rest) text = dollar_form rest

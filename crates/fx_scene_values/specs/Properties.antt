@@ -8,8 +8,10 @@ use Rattle.fx_scene_acts.specs.declared.acts.Deed.{Deed}
 use Rattle.fx_scene_acts.specs.declared.acts.Deed.TheVariants as deed
 use Rattle.fx_scene_flaws.specs.declared.flaws.Flaw.TheVariants as flaw
 use Rattle.fx_scene_plan.specs.declared.steps.PlannedStep.TheVariants as planned
+use Rattle.fx_scene_things.specs.Names.{Names}
 use Rattle.fx_scene_values.specs.Forms as form
 use Rattle.fx_scene_values.specs.Forms.{Form, form_of}
+use Rattle.fx_scene_values.specs.Scopes.{Scope}
 use Rattle.fx_scene_values.specs.Values.{property_of, value_in}
 use Rattle.fx_scene_values.specs.declared.values.Given.{Given}
 use Rattle.fx_scene_values.specs.declared.values.Given.TheVariants.{Value, Flaw}
@@ -37,14 +39,14 @@ given_deed node property (Value content) =
 abbrev pub bound_deed : ListedProperty → Option Deed
 bound_deed property = if property.read_only then Some (deed.Flaw flaw.ReadOnly) else None
 
-abbrev pub formed_deed : ℕ → ListedProperty → Form → Option Deed
-formed_deed node property (form.Bound text) = bound_deed property
-formed_deed node property other = Some (given_deed node property (value_in property.kind other))
+abbrev pub formed_deed : Scope → Names → ℕ → ListedProperty → Form → Option Deed
+formed_deed scope names node property (form.Bound text) = bound_deed property
+formed_deed scope names node property other = Some (given_deed node property (value_in scope names property.kind other))
 
-abbrev pub deed_if : ℕ → List ℕ → Option ListedProperty → Option Deed
-deed_if node text None = Some (deed.Flaw flaw.Property)
-deed_if node text (Some property) = formed_deed node property (form_of text)
+abbrev pub deed_if : Scope → Names → ℕ → List ℕ → Option ListedProperty → Option Deed
+deed_if scope names node text None = Some (deed.Flaw flaw.Property)
+deed_if scope names node text (Some property) = formed_deed scope names node property (form_of text)
 
--- what the attribute of this name and text asks for
-unfoldable pub property_deed : Class → ℕ → List ℕ → List ℕ → Option Deed
-property_deed class node name text = deed_if node text (property_named class name)
+-- what the attribute of this name and text asks for, where these names are known
+unfoldable pub property_deed : Scope → Names → Class → ℕ → List ℕ → List ℕ → Option Deed
+property_deed scope names class node name text = deed_if scope names node text (property_named class name)

@@ -8,7 +8,9 @@ use Rattle.fx_scene_acts.specs.declared.acts.Deed.TheVariants as deed
 use Rattle.fx_scene_flaws.specs.declared.flaws.Flaw.TheVariants as flaw
 use Rattle.fx_scene_names.specs.Names.{lacks_owner}
 use Rattle.fx_scene_plan.specs.declared.steps.PlannedStep.TheVariants as planned
+use Rattle.fx_scene_things.specs.Names.{Names}
 use Rattle.fx_scene_values.specs.Forms.{form_of}
+use Rattle.fx_scene_values.specs.Scopes.{Scope}
 use Rattle.fx_scene_values.specs.Values.{value_in}
 use Rattle.fx_scene_values.specs.declared.values.Given.{Given}
 use Rattle.fx_scene_values.specs.declared.values.Given.TheVariants.{Value, Flaw}
@@ -21,14 +23,16 @@ given_deed node name entry (Flaw mistake) = deed.Flaw mistake
 given_deed node name entry (Value content) =
     if is_in_range entry content then deed.Step (planned.Constraint node name content) else deed.Flaw flaw.Value
 
-abbrev pub row_deed : ℕ → List ℕ → ConstraintEntry → List ℕ → Deed
-row_deed node name entry text = given_deed node name entry (value_in entry.kind (form_of text))
+abbrev pub row_deed : Scope → Names → ℕ → List ℕ → ConstraintEntry → List ℕ → Deed
+row_deed scope names node name entry text =
+    given_deed node name entry (value_in scope names entry.kind (form_of text))
 
-abbrev pub deed_if : ℕ → List ℕ → List ℕ → Option ConstraintEntry → Deed
-deed_if node name text None = deed.Flaw flaw.Property
-deed_if node name text (Some entry) = row_deed node name entry text
+abbrev pub deed_if : Scope → Names → ℕ → List ℕ → List ℕ → Option ConstraintEntry → Deed
+deed_if scope names node name text None = deed.Flaw flaw.Property
+deed_if scope names node name text (Some entry) = row_deed scope names node name entry text
 
 -- what the attribute of this name and text asks for: its class is imported, and it is one of the table
-unfoldable pub static_deed : List (List ℕ) → ℕ → List ℕ → List ℕ → Deed
-static_deed imports node name text =
-    if lacks_owner imports name then deed.Flaw flaw.Import else deed_if node name text (constraint_named name)
+unfoldable pub static_deed : Scope → Names → ℕ → List ℕ → List ℕ → Deed
+static_deed scope names node name text =
+    if lacks_owner scope.imports name then deed.Flaw flaw.Import
+    else deed_if scope names node name text (constraint_named name)

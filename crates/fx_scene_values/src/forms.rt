@@ -13,9 +13,9 @@ pub enum Form<'a> {
     /// An expression that the property is bound to.
     Bound(&'a str),
     /// A value by its name.
-    Named,
+    Named(&'a str),
     /// A location.
-    Located,
+    Located(&'a str),
     /// It is of no form.
     Refused,
 }
@@ -38,8 +38,16 @@ pub fn form_of(text: &str) -> Form<'_>
 fn unsigned_form(text: &str) -> Form<'_>
     ensures { form_view result ≡ spec.unsigned_form text.now }
 {
+    if let Some(path) = behind_sign(text, '@') {
+        return Form::Located(path);
+    }
+    percent_form(text)
+}
+
+fn percent_form(text: &str) -> Form<'_>
+    ensures { form_view result ≡ spec.percent_form text.now }
+{
     match text.as_bytes() {
-        [b'@', ..] => Form::Located,
         [b'%', ..] => Form::Refused,
         _ => Form::Literal(text),
     }
@@ -51,7 +59,7 @@ fn dollar_form(rest: &str) -> Form<'_>
 {
     match behind_sign(rest, '{') {
         Some(inside) => brace_form(inside),
-        None => Form::Named,
+        None => Form::Named(rest),
     }
 }
 

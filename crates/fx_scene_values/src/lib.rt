@@ -3,15 +3,20 @@
 #![tactic(auto)]
 
 mod forms;
+mod kinds;
 mod properties;
 mod roles;
+mod scopes;
+mod shown;
 mod statics;
 mod styles;
 mod values;
 
 pub use forms::{Form, behind_sign, form_of};
+pub use kinds::is_same_kind;
 pub use properties::{property_deed, property_given, property_named};
 pub use roles::{Role, role_of};
+pub use scopes::Scope;
 pub use statics::{static_deed, static_given};
 pub use styles::{add_classes, handler_deed, items_of, style_deed, trim_white};
-pub use values::{Given, literal, planned_property, value_in};
+pub use values::{Given, literal, location_given, path_in, planned_property, same_given, value_in};

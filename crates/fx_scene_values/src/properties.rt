@@ -6,14 +6,17 @@ ghost use Rattle.std.specs.Str.{bytes_eq};
 ghost use Rattle.fx_kinds.specs.Listing.{listed_property};
 ghost use Rattle.fx_kinds.specs.Properties.{ListedProperty, properties_of};
 ghost use Rattle.fx_scene_values.specs.Properties as spec;
-ghost use Rattle.fx_scene_values.specs.Views.{form_view};
+ghost use Rattle.fx_scene_things.specs.Known.{known};
+ghost use Rattle.fx_scene_values.specs.Views.{form_view, scope_view};
 
 use crate::forms::{Form, form_of};
+use crate::scopes::Scope;
 use crate::values::{Given, planned_property, value_in};
 use fx_kinds::{Class, Property, properties};
 use fx_scene_acts::Deed;
 use fx_scene_flaws::Flaw;
 use fx_scene_plan::PlannedStep;
+use fx_scene_things::Names;
 use std::alloc::{AllocError, Global};
 
 /// The property of the class that documents call so.
@@ -46,35 +49,41 @@ fn first_named<'a>(list: &'a [Property], name: &str) -> Option<&'a Property>
     list.iter().find(|p| p.name == name)
 }
 
-/// What the attribute of this name and text asks for. An expression asks for nothing yet.
+/// What the attribute of this name and text asks for, where these names are known. An expression asks for nothing yet.
 #[tactic(auto, unfolding(crate::specs::Properties::property_deed))]
 pub fn property_deed(
     alloc: Global,
+    scope: &Scope<'_>,
+    names: &Names<'_>,
     class: Class,
     node: usize,
     name: &str,
     text: &str,
 ) -> Result<Option<Deed>, AllocError>
-    ensures { IfOk result (λ deed. deed ≡ spec.property_deed class node name.now text.now) }
+    ensures { IfOk result (λ deed. deed
+        ≡ spec.property_deed (scope_view scope.now) (known names.now) class node name.now text.now) }
 {
     match property_named(class, name) {
-        Some(property) => formed_deed(alloc, node, property, form_of(text)),
+        Some(property) => formed_deed(alloc, scope, names, node, property, form_of(text)),
         None => Ok(Some(Deed::Flaw(Flaw::Property))),
     }
 }
 
 fn formed_deed(
     alloc: Global,
+    scope: &Scope<'_>,
+    names: &Names<'_>,
     node: usize,
     property: &Property,
     form: Form<'_>,
 ) -> Result<Option<Deed>, AllocError>
-    ensures { IfOk result (λ deed. deed ≡ spec.formed_deed node (listed_property property.now) (form_view form.entry)) }
+    ensures { IfOk result (λ deed. deed ≡ spec.formed_deed (scope_view scope.now) (known names.now) node
+        (listed_property property.now) (form_view form.entry)) }
 {
     match form {
         Form::Bound(_) => Ok(bound_deed(property)),
         _ => {
-            let given = value_in(alloc, property.kind, form)?;
+            let given = value_in(alloc, scope, names, property.kind, form)?;
             Ok(Some(property_given(alloc, node, property, given)?))
         }
     }

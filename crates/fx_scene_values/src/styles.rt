@@ -3,38 +3,45 @@ ghost use Rattle.std.specs.Prelude.{◌≡◌, ◌++◌, IfOk, OnOk, map};
 ghost use Rattle.std.specs.List.{flat_map, slice_split};
 ghost use Rattle.fx_text.specs.Trimming.{trimmed};
 ghost use Rattle.fx_scene_values.specs.Styles as spec;
-ghost use Rattle.fx_scene_values.specs.Views.{form_view};
+ghost use Rattle.fx_scene_things.specs.Known.{known};
+ghost use Rattle.fx_scene_values.specs.Views.{scope_view};
 
-use crate::forms::{Form, behind_sign, form_of};
-use fx_base::Text;
+use crate::forms::{behind_sign, form_of};
+use crate::scopes::Scope;
+use crate::values::{Given, value_in};
+use fx_base::{Kind, Text, Value};
 use fx_events::EventKind;
 use fx_scene_acts::Deed;
 use fx_scene_flaws::Flaw;
 use fx_scene_plan::PlannedStep;
+use fx_scene_things::Names;
 use fx_stage_words::read_style;
 use fx_text::{is_identifier, trimmed};
 use std::alloc::{AllocError, Global};
 use std::str;
 
-/// What the attribute `style` of this text asks for.
+/// What the attribute `style` of this text asks for, where these names are known.
 #[tactic(auto, unfolding(crate::specs::Styles::style_deed))]
-pub fn style_deed(alloc: Global, node: usize, text: &str) -> Result<Deed, AllocError>
-    ensures { IfOk result (λ deed. deed ≡ spec.style_deed node text.now) }
+pub fn style_deed(
+    alloc: Global,
+    scope: &Scope<'_>,
+    names: &Names<'_>,
+    node: usize,
+    text: &str,
+) -> Result<Deed, AllocError>
+    ensures { IfOk result (λ deed. deed ≡ spec.style_deed (scope_view scope.now) (known names.now) node text.now) }
 {
-    match form_of(text) {
-        Form::Literal(style) => literal_style(alloc, node, style),
-        other => Ok(Deed::Flaw(unplain(other))),
-    }
+    let given = value_in(alloc, scope, names, Kind::Text, form_of(text))?;
+    given_style(alloc, node, given)
 }
 
-/// What is wrong with a text that doesn't stand for itself, where no expression may stand. Locations aren't read yet.
-fn unplain(form: Form<'_>) -> Flaw
-    ensures { result ≡ spec.unplain (form_view form.entry) }
+fn given_style(alloc: Global, node: usize, given: Given) -> Result<Deed, AllocError>
+    ensures { IfOk result (λ deed. deed ≡ spec.given_style node given) }
 {
-    match form {
-        Form::Named => Flaw::Name,
-        Form::Located => Flaw::NotBuilt,
-        _ => Flaw::Value,
+    match given {
+        Given::Value(Value::Text(style)) => literal_style(alloc, node, style.as_str()),
+        Given::Value(_) => Ok(Deed::Flaw(Flaw::Value)),
+        Given::Flaw(flaw) => Ok(Deed::Flaw(flaw)),
     }
 }
 
@@ -47,31 +54,37 @@ fn literal_style(alloc: Global, node: usize, style: &str) -> Result<Deed, AllocE
     }
 }
 
-/// Adds what the attribute `styleClass` of this text asks for: a style class for each part between commas.
+/// Adds what the attribute `styleClass` of this text asks for, where these names are known: a style class for each part
+/// between commas.
 #[tactic(auto, unfolding(crate::specs::Styles::class_deeds))]
 pub fn add_classes(
     alloc: Global,
+    scope: &Scope<'_>,
+    names: &Names<'_>,
     node: usize,
     text: &str,
     deeds: &mut Vec<Deed>,
 ) -> Result<(), AllocError>
-    ensures ok { OnOk result (deeds.new.items ≡ deeds.old.items ++ spec.class_deeds node text.now) }
+    ensures ok { OnOk result (deeds.new.items ≡ deeds.old.items
+        ++ spec.class_deeds (scope_view scope.now) (known names.now) node text.now) }
 {
     let items = items_of(alloc, text)?;
-    add_items(alloc, node, items.as_slice(), deeds)
+    add_items(alloc, scope, names, node, items.as_slice(), deeds)
 }
 
 fn add_items(
     alloc: Global,
+    scope: &Scope<'_>,
+    names: &Names<'_>,
     node: usize,
     items: &[&str],
     deeds: &mut Vec<Deed>,
 ) -> Result<(), AllocError>
-    ensures ok { OnOk result (deeds.new.items
-        ≡ deeds.old.items ++ spec.item_deeds node (map (λ item. item.now) items.now)) }
+    ensures ok { OnOk result (deeds.new.items ≡ deeds.old.items
+        ++ spec.item_deeds (scope_view scope.now) (known names.now) node (map (λ item. item.now) items.now)) }
 {
     for item in items {
-        deeds.push(class_deed(alloc, node, trim_white(item))?)?;
+        deeds.push(class_deed(alloc, scope, names, node, trim_white(item))?)?;
     }
     Ok(())
 }
@@ -83,21 +96,26 @@ pub fn items_of<'a>(alloc: Global, text: &'a str) -> Result<Vec<&'a str>, AllocE
     text.split(',').collect(alloc)
 }
 
-fn class_deed(alloc: Global, node: usize, text: &str) -> Result<Deed, AllocError>
-    ensures { IfOk result (λ deed. deed ≡ spec.class_deed node text.now) }
+fn class_deed(
+    alloc: Global,
+    scope: &Scope<'_>,
+    names: &Names<'_>,
+    node: usize,
+    text: &str,
+) -> Result<Deed, AllocError>
+    ensures { IfOk result (λ deed. deed ≡ spec.class_deed (scope_view scope.now) (known names.now) node text.now) }
 {
-    match form_of(text) {
-        Form::Literal(name) => literal_class(alloc, node, name),
-        other => Ok(Deed::Flaw(unplain(other))),
-    }
+    let given = value_in(alloc, scope, names, Kind::Text, form_of(text))?;
+    Ok(given_class(node, given))
 }
 
-fn literal_class(alloc: Global, node: usize, name: &str) -> Result<Deed, AllocError>
-    ensures { IfOk result (λ deed. deed ≡ spec.literal_class node name.now) }
+fn given_class(node: usize, given: Given) -> Deed
+    ensures { result ≡ spec.given_class node given }
 {
-    match Text::from_str(alloc, name) {
-        Ok(name) => Ok(Deed::Step(PlannedStep::Class(node, name))),
-        Err(_) => Err(AllocError),
+    match given {
+        Given::Value(Value::Text(name)) => Deed::Step(PlannedStep::Class(node, name)),
+        Given::Value(_) => Deed::Flaw(Flaw::Value),
+        Given::Flaw(flaw) => Deed::Flaw(flaw),
     }
 }
 

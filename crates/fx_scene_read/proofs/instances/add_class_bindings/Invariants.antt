@@ -2,11 +2,11 @@
 use Rattle.std.proofs.Common.{◌≡◌, ◌++◌, map, take}
 use Rattle.std.specs.List.{flat_map}
 use Rattle.fx_doc.specs.Views.{attr_view}
-use Rattle.fx_scene_bindings.specs.Views.{named_view}
+use Rattle.fx_scene_things.specs.Known.{known}
 use Rattle.fx_scene_read.specs.Documents.{binding_acts}
 use Rattle.fx_scene_read.proofs.instances.add_class_bindings.Given as goal
 
 abbrev pub invariant-loop-a : goal.invariant-loop-a
 invariant-loop-a l =
-    l.acts.items ≡ l.fn.acts.items ++ flat_map (binding_acts (map named_view l.names) l.class l.node)
+    l.acts.items ≡ l.fn.acts.items ++ flat_map (binding_acts (known l.names) l.class l.node)
     (map attr_view (take l.a-index l.attributes))

@@ -2,11 +2,11 @@
 use Rattle.std.proofs.Common.{◌≡◌, ◌++◌, map, take}
 use Rattle.std.specs.List.{flat_map}
 use Rattle.fx_doc.specs.Views.{attr_view}
-use Rattle.fx_scene_bindings.specs.Views.{named_view}
+use Rattle.fx_scene_things.specs.Known.{known}
 use Rattle.fx_scene_read.specs.References.{reference_attribute}
 use Rattle.fx_scene_read.proofs.references.add_attributes.Given as goal
 
 abbrev pub invariant-loop-a : goal.invariant-loop-a
 invariant-loop-a l =
     l.acts.items ≡ l.fn.acts.items
-    ++ flat_map (reference_attribute (map named_view l.names) l.node) (map attr_view (take l.a-index l.attributes))
+    ++ flat_map (reference_attribute (known l.names)) (map attr_view (take l.a-index l.attributes))

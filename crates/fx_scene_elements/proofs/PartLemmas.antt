@@ -1,5 +1,5 @@
 -- What the parts of a property element ask for, one part more at a time.
-use Rattle.std.proofs.Common.{◌≡◌, ◌<◌, ℕ, ◌+◌, Bool, List, ◌++◌, length, get_or, take, refl, sym, ◌∙◌, ap, append_assoc}
+use Rattle.std.proofs.Common.{◌≡◌, ◌<◌, ℕ, ◌+◌, Bool, List, ◌++◌, length, get_or, take, refl, ◌∙◌, ap, append_assoc}
 use Rattle.fx_base.specs.declared.facts.Track.{Track as Constraint}
 use Rattle.fx_base.specs.declared.positions.Position.{Position}
 use Rattle.fx_doc_grammar.specs.Grammar.{Head, Nodes, Nothing, Letters, Node}

@@ -1,5 +1,5 @@
 -- Acts at their places, and what is known behind them.
-use Rattle.std.specs.Prelude.{ℕ, Bool, List, [], ◌∷◌, ◌++◌, map}
+use Rattle.std.specs.Prelude.{List, [], ◌∷◌, ◌++◌, map}
 use Rattle.fx_base.specs.declared.positions.Position.{Position}
 use Rattle.fx_scene_acts.specs.Acts.{act_of}
 use Rattle.fx_scene_acts.specs.declared.acts.Act.{Act}

@@ -19,7 +19,6 @@ use Rattle.fx_scene_literals.specs.declared.instances.Want.{Want}
 use Rattle.fx_scene_literals.specs.declared.instances.Want.TheVariants as want
 use Rattle.fx_scene_literals.specs.declared.made.Found.{Found}
 use Rattle.fx_scene_literals.specs.declared.made.Found.TheVariants.{Whole, Flaw}
-use Rattle.fx_scene_literals.specs.declared.made.Made.{Made}
 use Rattle.fx_scene_literals.specs.declared.made.Made.TheVariants.{Location, Plain, Track}
 use Rattle.fx_scene_plan.specs.declared.steps.PlannedStep.TheVariants as planned
 use Rattle.fx_scene_things.specs.Names.{Names}

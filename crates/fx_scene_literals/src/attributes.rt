@@ -62,11 +62,7 @@ fn read_attribute<'a>(
 }
 
 /// A name is an identifier that nothing before has. It stands for nothing until what has it is whole.
-fn open_name<'a>(
-    a: &'a Attribute,
-    made: Made,
-    names: &mut Names<'a>,
-) -> Result<Found, AllocError>
+fn open_name<'a>(a: &'a Attribute, made: Made, names: &mut Names<'a>) -> Result<Found, AllocError>
     ensures found { IfOk result (λ found. found ≡ (spec.id_told (known names.old) (attr_view a.now) made).found) }
     ensures names { OnOk result (known names.new ≡ (spec.id_told (known names.old) (attr_view a.now) made).names) }
 {

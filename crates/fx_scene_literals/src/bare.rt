@@ -48,11 +48,7 @@ fn has_no_content(element: &Element) -> bool
 
 /// The field that a property element gives a value.
 #[tactic(auto, unfolding(crate::specs::Literals::field_at))]
-pub(crate) fn field_at(
-    scope: &Scope<'_>,
-    class: Class,
-    element: &Element,
-) -> Result<Field, Flaw>
+pub(crate) fn field_at(scope: &Scope<'_>, class: Class, element: &Element) -> Result<Field, Flaw>
     ensures { result ≡ spec.field_at (scope_view scope.now) class (head_of element.now) }
 {
     let name = element.name.as_str();

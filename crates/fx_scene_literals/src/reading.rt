@@ -3,7 +3,6 @@ ghost use Rattle.std.specs.Prelude.{◌≡◌, IfOk, OnOk, true};
 ghost use Rattle.fx_doc.specs.Views.{nodes_of, onto};
 ghost use Rattle.fx_doc_grammar.specs.Grammar.{Nothing};
 ghost use Rattle.fx_doc_grammar.specs.Machine.{is_nothing};
-ghost use Rattle.fx_scene_literals.specs.Fields.{first_made};
 ghost use Rattle.fx_scene_literals.specs.Instances.{entered};
 ghost use Rattle.fx_scene_literals.specs.Literals as spec;
 ghost use Rattle.fx_scene_literals.specs.Views.{item_told, part_told};
@@ -42,7 +41,15 @@ pub fn one_part<'a>(
     ensures names { OnOk result (known names.new ≡ (item_told (scope_view scope.now) (One kind) first spec.no_value
         (known names.old) (onto item.now Nothing)).names) }
 {
-    read_item(alloc, scope, Part::One(kind), first, no_value(), item, names)
+    read_item(
+        alloc,
+        scope,
+        Part::One(kind),
+        first,
+        no_value(),
+        item,
+        names,
+    )
 }
 
 /// An instance of the class by its attributes and its content, which stands right in a definition or not.
@@ -76,7 +83,14 @@ pub fn closed<'a>(
     ensures names { OnOk result (known names.new
         ≡ (spec.closed (scope_view scope.now) (known names.old) (content_of element.now)).names) }
 {
-    read_content(alloc, scope, Part::Closed, no_value(), element.content.as_slice(), names)
+    read_content(
+        alloc,
+        scope,
+        Part::Closed,
+        no_value(),
+        element.content.as_slice(),
+        names,
+    )
 }
 
 /// What is made behind some content.
@@ -276,7 +290,14 @@ fn read_fields<'a>(
     let attributes = element.attributes.as_slice();
     let found = made_from(alloc, scope, class, attributes, names)?;
     let inside = read_inside(alloc, scope, class, found, element, names)?;
-    finish(alloc, class, defined, element.attributes.as_slice(), inside, names)
+    finish(
+        alloc,
+        class,
+        defined,
+        element.attributes.as_slice(),
+        inside,
+        names,
+    )
 }
 
 #[cycle(reading)]

@@ -109,7 +109,11 @@ fn enter_aside<'a>(
         pieces.old.items pieces.new.items result }
 {
     match class {
-        Some(class) => enter_defined(element, is_scene_node(class, element.attributes.as_slice()), pieces),
+        Some(class) => enter_defined(
+            element,
+            is_scene_node(class, element.attributes.as_slice()),
+            pieces,
+        ),
         None => enter_instance(element, Seat::Aside, pieces),
     }
 }

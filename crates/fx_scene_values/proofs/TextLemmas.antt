@@ -5,7 +5,6 @@ use Rattle.std.specs.Str.{chars}
 use Rattle.fx_base.specs.declared.values.Value.TheVariants as value
 use Rattle.fx_scene_flaws.specs.declared.flaws.Flaw.TheVariants as flaw
 use Rattle.fx_scene_values.specs.Values.{text_given}
-use Rattle.fx_scene_values.specs.declared.values.Given.{Given}
 use Rattle.fx_scene_values.specs.declared.values.Given.TheVariants.{Value, Flaw}
 
 is_past : (m n : ℕ) → m < n → nat_lt m n ≡ true

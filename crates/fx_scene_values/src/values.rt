@@ -106,12 +106,7 @@ pub fn same_given(alloc: Global, kind: Kind, value: &Value) -> Result<Given, All
 }
 
 /// A location is a text, and no other value.
-fn located(
-    alloc: Global,
-    scope: &Scope<'_>,
-    kind: Kind,
-    path: &str,
-) -> Result<Given, AllocError>
+fn located(alloc: Global, scope: &Scope<'_>, kind: Kind, path: &str) -> Result<Given, AllocError>
     ensures { IfOk result (λ given. given ≡ spec.located (scope_view scope.now) kind path.now) }
 {
     match kind {
@@ -121,11 +116,7 @@ fn located(
 }
 
 /// The name of the file that the location means, as a text.
-pub fn location_given(
-    alloc: Global,
-    scope: &Scope<'_>,
-    path: &str,
-) -> Result<Given, AllocError>
+pub fn location_given(alloc: Global, scope: &Scope<'_>, path: &str) -> Result<Given, AllocError>
     ensures { IfOk result (λ given. given ≡ spec.location_given (scope_view scope.now) path.now) }
 {
     let name = joined(alloc, scope.file, path)?;

@@ -1,5 +1,5 @@
 -- no part yet, and one part more
-use Rattle.std.proofs.Common.{◌≡◌, ◌+◌, Vec, Global, length, vec_len, sym, refl, ap, ◌∙◌, arith}
+use Rattle.std.proofs.Common.{◌≡◌, ◌+◌, Vec, Global, length, vec_len, sym, refl, ap, ◌∙◌}
 use Rattle.std.proofs.lemmas.List.{append-nil}
 use Rattle.fx_base.specs.declared.facts.Track.{Track}
 use Rattle.fx_scene_elements.specs.Tracks.{tracks_told}
@@ -24,7 +24,7 @@ loop-item-preserved c =
     let tracks = c.loop-item.tracks.items in
     let told = c.in_ok-add_part.ensures in
     let counted : earlier + c.len.result ≡ earlier + length tracks =
-        ap (λ n. earlier + n) (c.len.ensures ∙ length_of c.loop-item.tracks) in (
+    ap (λ n. earlier + n) (c.len.ensures ∙ length_of c.loop-item.tracks) in (
       told_acts_more scope c.args.want earlier (earlier + c.len.result) first c.args.content.now c.loop-item.item-index
           c.item-item.result c.args.acts.now.items c.loop-item.acts.items c.add_part.new.acts.items tracks names
           c.loop-item-test.true c.item-item.is c.loop-item.invariant.0 c.loop-item.invariant.1

@@ -12,11 +12,11 @@ pub returns-in-Flaw : goal.returns-in-Flaw
 returns-in-Flaw c =
     let scope = scope_view c.args.scope.now in
     let stops =
-        attribute_stops scope c.args.class c.args.attributes.now c.loop-a.a-index c.a-item.result c.loop-a.made
-        (known c.loop-a.names) (known c.read_attribute.new.names) c.in_ok-next.field-0
-        (made_from scope c.args.class (first_made c.args.class) (known c.args.names.now) (map attr_view c.args.attributes.now))
-        c.in-Flaw.flaw c.in-Flaw.place c.loop-a-test.true c.a-item.is c.in_ok-next.ensures.found
-        c.in_ok-next.ensures.names c.in-Flaw.is c.loop-a.invariant in
+    attribute_stops scope c.args.class c.args.attributes.now c.loop-a.a-index c.a-item.result c.loop-a.made
+    (known c.loop-a.names) (known c.read_attribute.new.names) c.in_ok-next.field-0
+    (made_from scope c.args.class (first_made c.args.class) (known c.args.names.now) (map attr_view c.args.attributes.now))
+    c.in-Flaw.flaw c.in-Flaw.place c.loop-a-test.true c.a-item.is c.in_ok-next.ensures.found
+    c.in_ok-next.ensures.names c.in-Flaw.is c.loop-a.invariant in
     record { found = ap (λ (t : Told). t.found) stops; names = ap (λ (t : Told). t.names) stops }
 
 pub loop-a-preserved : goal.loop-a-preserved

@@ -1,8 +1,8 @@
 #!/bin/bash
 # Counts the instructions that events take in whole runs without images: of a `move` over 1,000 and over 4,000 nodes, from
 # one of them to another; of a click, its three lines, on the innermost of 15, 30 and 60 panes with four handlers each, and
-# of 60 panes with 16; and of each run of a listener's action, of 250, 500 and 1,000 that stand in one queue, and of 1,000
-# of which each asks for the next.
+# of 60 panes with 16; and of each run of a listener's action, of 250, 500 and 1,000 that stand in one queue, of 1,000 where
+# 9,000 listeners are on a property before it, and of 1,000 of which each asks for the next.
 set -euo pipefail
 source "$(dirname "$0")/counting.sh"
 imports="<?import javafx.scene.layout.*?>"
@@ -55,11 +55,13 @@ clicks() {
     plainly
 }
 
-# so many listeners with an action, and so many changes that each of them hears
+# so many listeners with an action, so many changes that each of them hears, and so many listeners on another property
 queues() {
     nested 1 >"$folder/s.fxml"
-    awk -v listeners="$1" -v changes="$2" 'BEGIN {
-        print "prop heard int 0\naction seen\nend"
+    awk -v listeners="$1" -v changes="$2" -v others="$3" 'BEGIN {
+        print "prop quiet int 0\nprop heard int 0\naction seen\nend"
+        for (i = 1; i <= others; i++)
+            print "watch invalid quiet seen"
         for (i = 1; i <= listeners; i++)
             print "watch invalid heard seen"
         for (i = 1; i <= changes; i++)
@@ -85,12 +87,14 @@ for nodes in 1000 4000; do
     echo "a move over $nodes nodes: $(each 100 "$(moves "$nodes" 110)" "$(moves "$nodes" 10)") instructions"
 done
 for route in "15 4" "30 4" "60 4" "60 16"; do
-    set -- $route
-    echo "a click through $1 panes with $2 handlers each: $(each 20 "$(clicks "$1" "$2" 25)" "$(clicks "$1" "$2" 5)") instructions"
+    read -r panes handlers <<<"$route"
+    more=$(each 20 "$(clicks "$panes" "$handlers" 25)" "$(clicks "$panes" "$handlers" 5)")
+    echo "a click through $panes panes with $handlers handlers each: $more instructions"
 done
-for listeners in 250 500 1000; do
-    more=$(each 4 "$(queues "$listeners" 5)" "$(queues "$listeners" 1)")
-    echo "a queue of $listeners runs: $more instructions, $((more / listeners)) a run"
+for sizes in "250 0" "500 0" "1000 0" "1000 9000"; do
+    read -r listeners others <<<"$sizes"
+    more=$(each 4 "$(queues "$listeners" 5 "$others")" "$(queues "$listeners" 1 "$others")")
+    echo "a queue of $listeners runs among $others other listeners: $more instructions, $((more / listeners)) a run"
 done
 more=$(each 4 "$(circles 5)" "$(circles 1)")
 echo "1,000 runs, each asking for the next: $more instructions, $((more / 1000)) a run"

@@ -1,8 +1,9 @@
 #!/bin/bash
-# Refuses each allocation of whole runs in turn, one number a run, until none is left to refuse: a run then has to end for
-# want of memory, with status 6 and a beginning of what it writes, or to end as it does with all of its memory. It tells
-# for each of the cases that are named, or of three small ones, how many runs ended so and so; its status is 1 if a run did
-# anything else. It takes a process for each allocation, and a C compiler for the library that refuses them.
+# Refuses each allocation of whole runs in turn, one number a run, until none is left to refuse: a run then has to end
+# for want of memory, with status 6 and a beginning of what it writes, or to end as it does with all of its memory. It
+# tells for each of the cases that are named, or of three small ones, how many runs ended so and so; its status is 1
+# if a run did anything else. It takes a process for each allocation, and a C compiler for the library that refuses
+# them.
 set -euo pipefail
 top="$(cd "$(dirname "$0")/.." && pwd)"
 program="$top/crates/fxplay/out/fxplay"
@@ -48,10 +49,12 @@ void *realloc(void *kept, size_t size)
 END
 cc -O1 -shared -fPIC -fno-builtin -o "$folder/refuse.so" "$folder/refuse.c"
 
-# plays the words with the allocation of this number refused; what it writes stands in out, and is_refused tells whether it came
+# plays the words with the allocation of this number refused; what it writes stands in out, and is_refused tells
+# whether it came
 play_refusing() {
     status=0
-    REFUSED="$1" LD_PRELOAD="$folder/refuse.so" "$program" "${words[@]}" >"$folder/out" 2>"$folder/signs" </dev/null || status=$?
+    REFUSED="$1" LD_PRELOAD="$folder/refuse.so" "$program" "${words[@]}" \
+        >"$folder/out" 2>"$folder/signs" </dev/null || status=$?
     is_refused=false
     [ ! -s "$folder/signs" ] || is_refused=true
 }
@@ -74,7 +77,7 @@ try_case() {
             whole=$((whole + 1))
         else
             failed=1
-            echo "$1: with allocation $number refused it ends with status $status, and writes $(stat -c %s "$folder/out") bytes"
+            echo "$1: with allocation $number refused it ends with $status, after $(stat -c %s "$folder/out") bytes"
         fi
         number=$((number + 1))
     done

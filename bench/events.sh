@@ -1,8 +1,8 @@
 #!/bin/bash
-# Counts the instructions that events take in whole runs without images: of a `move` over 1,000 and over 4,000 nodes, from
-# one of them to another; of a click, its three lines, on the innermost of 15, 30 and 60 panes with four handlers each, and
-# of 60 panes with 16; and of each run of a listener's action, of 250, 500 and 1,000 that stand in one queue, of 1,000 where
-# 9,000 listeners are on a property before it, and of 1,000 of which each asks for the next.
+# Counts the instructions that events take in whole runs without images: of a `move` over 1,000 and over 4,000 nodes,
+# from one of them to another; of a click, its three lines, on the innermost of 15, 30 and 60 panes with four handlers
+# each, and of 60 panes with 16; and of each run of a listener's action, of 250, 500 and 1,000 that stand in one
+# queue, of 1,000 where 9,000 listeners are on a property before it, and of 1,000 of which each asks for the next.
 set -euo pipefail
 source "$(dirname "$0")/counting.sh"
 imports="<?import javafx.scene.layout.*?>"

@@ -1,5 +1,5 @@
 -- A line that is taken and written, and the lines that are left.
-use Rattle.std.proofs.Common.{◌≡◌, ◌+◌, ℕ, false, List, [], ◌∷◌, ◌++◌, Option, Result, Ok, Err, OnErr, Vec, length, map, vec_len, ap, sym, ◌∙◌, subst, refl}
+use Rattle.std.proofs.Common.{◌≡◌, ◌+◌, ℕ, false, List, [], ◌∷◌, ◌++◌, Option, Result, Ok, Err, OnErr, OnOk, Vec, length, map, vec_len, ap, sym, ◌∙◌, subst, refl}
 use Rattle.std.specs.Global.{Global}
 use Rattle.std.specs.Prelude.{reverse}
 use Rattle.std.proofs.lemmas.List.{length-append, reverse-append, reverse-reverse}
@@ -9,9 +9,11 @@ use Rattle.fx_plain_frames.specs.Playing.{IsTold}
 use Rattle.fx_plain_runs.specs.Runs.{IsPutPart, IsPutWhole}
 use Rattle.fx_plain_runs.specs.declared.manners.Manner.{Manner}
 use Rattle.fx_plain_runs.proofs.PlayingLemmas.{IsPlaying, begins, ends, goes_on, stops_before, stops_in}
-use Rattle.fx_play_frames.specs.Takings.{told_as}
+use Rattle.fx_frame_text.specs.declared.writers.FrameWriter.{FrameWriter}
+use Rattle.fx_play_frames.specs.Takings.{IsAt, told_as}
 use Rattle.fx_play_frames.specs.declared.taking.Taken.{Taken}
 use Rattle.fx_port.specs.Pieces.{Writes, grown}
+use Rattle.fx_pulse_model.specs.Frames.{Framed}
 use Rattle.fx_script_commands.specs.Requests.{Numbered, line_view}
 use Rattle.fx_script_commands.specs.declared.commands.Line.{Line}
 use Rattle.fx_play_runs.specs.Lines.{IsLinePart, IsLineWhole, none_written, part_written}
@@ -78,3 +80,10 @@ all_left form warnings first lines {left} {old} {new} turned told =
 
 pub one_less : (left rest : List Line) (line : Line) → left ≡ rest ++ (line ∷ []) → length left ≡ length rest + 1
 one_less left rest line e = ap length e ∙ length-append rest (line ∷ [])
+
+-- a writer stands behind the last frame of the game that was written
+pub stands_behind : {E : Type 0} (result : Result (Unit {0}) E) (writer : FrameWriter) {behind : Option Framed}
+    {mid now : Game} → behind ≡ mid.last → now ≡ mid → OnOk result (IsAt writer behind) → OnOk result (IsAt writer now.last)
+stands_behind (Ok done) writer {behind} {mid} {now} last same at =
+    subst (λ (o : Option Framed). IsAt writer o) (last ∙ ap (λ (g : Game). g.last) (sym same)) at
+stands_behind (Err error) writer last same at = tt

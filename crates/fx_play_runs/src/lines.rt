@@ -1,5 +1,5 @@
 //! Lines that are taken and written one by one.
-ghost use Rattle.std.specs.Prelude.{◌≡◌, ◌≤◌, ◌<◌, ◌+◌, ◌-◌, ◌^◌, ℕ, List, OnErr, OnOk, Option, false, map, vec_len};
+ghost use Rattle.std.specs.Prelude.{◌≡◌, ◌≤◌, ◌<◌, ◌+◌, ◌-◌, ◌^◌, ℕ, List, None, OnErr, OnOk, Option, false, map, vec_len};
 ghost use Rattle.fx_plain_runs.specs.Runs.{IsPut};
 ghost use Rattle.fx_play_frames.specs.Games.{game_of};
 ghost use Rattle.fx_play_frames.specs.Takings.{IsAt};
@@ -30,6 +30,7 @@ pub(crate) fn put_lines<O: Sink, L: Ledgers>(
 ) -> Result<(), PutError>
     requires few { vec_len lines ≤ 100000 }
     requires fresh { game.old.frames ≡ 0 }
+    requires unseen { (game_of game.old).last ≡ None }
     requires long { manner.summary ≡ false }
     ensures cause { HasCause Failed (O.faults out.old) (O.faults out.new) result }
     ensures put { IsPut manner warnings.now (game_of game.old) (map line_view lines.items) (O.written out.old)
@@ -50,6 +51,7 @@ fn put_each<O: Sink, L: Ledgers>(
 ) -> Result<(), PutError>
     requires few { vec_len lines ≤ 100000 }
     requires fresh { game.old.frames ≡ 0 }
+    requires unseen { (game_of game.old).last ≡ None }
     requires long { manner.summary ≡ false }
     ensures cause { HasCause Failed (O.faults out.old) (O.faults out.new) result }
     ensures put { (warnings : List ℕ) (begun : Option (List ℕ)) → O.written out.old ≡ grown begun warnings →

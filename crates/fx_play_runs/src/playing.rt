@@ -1,5 +1,5 @@
 //! What is written of a run.
-ghost use Rattle.std.specs.Prelude.{◌≡◌, ◌≤◌, map, vec_len};
+ghost use Rattle.std.specs.Prelude.{◌≡◌, ◌≤◌, None, map, vec_len};
 ghost use Rattle.fx_plain_runs.specs.Runs.{IsPut};
 ghost use Rattle.fx_play_frames.specs.Games.{game_of};
 ghost use Rattle.fx_port.specs.Causes.{HasCause};
@@ -27,6 +27,7 @@ pub fn put_played<O: Sink, L: Ledgers>(
 ) -> Result<(), PutError>
     requires few { vec_len lines ≤ 100000 }
     requires fresh { game.old.frames ≡ 0 }
+    requires unseen { (game_of game.old).last ≡ None }
     ensures cause { HasCause Failed (O.faults out.old) (O.faults out.new) result }
     ensures put { IsPut manner warnings.now (game_of game.old) (map line_view lines.items) (O.written out.old)
         (O.written out.new) result }

@@ -1,5 +1,5 @@
 //! The game of a scene before the first line of its script.
-ghost use Rattle.std.specs.Prelude.{◌≡◌, IfOk, Some};
+ghost use Rattle.std.specs.Prelude.{◌≡◌, IfOk, None, Some};
 ghost use Rattle.fx_plain_frames.specs.Games.{begun};
 ghost use Rattle.fx_plain_runs.specs.Runs.{in_window};
 ghost use Rattle.fx_play_frames.specs.Games.{game_of};
@@ -22,6 +22,7 @@ pub fn staged<L: Ledgers>(
 ) -> Result<Game, RaiseError>
     ensures staged { IsStaged window tasks.items result }
     ensures fresh { IfOk result (λ game. game.frames ≡ 0) }
+    ensures unseen { IfOk result (λ game. (game_of game).last ≡ None) }
 {
     let mut stage = Stage::new(alloc);
     raise(alloc, &mut stage, tasks, work)?;

@@ -45,7 +45,7 @@ pub(crate) fn add_deeds(
         Role::Ignored => Ok(()),
         Role::Style => add(deeds, style_deed(alloc, scope, names, node, text)?),
         Role::Classes => add_classes(alloc, scope, names, node, text, deeds),
-        Role::Sheets => add_sheets(alloc, node, text, deeds),
+        Role::Sheets => add_sheets(alloc, scope, names, node, text, deeds),
         Role::Handler(on) => add(deeds, handler_deed(alloc, node, on, text)?),
         Role::Static => add(
             deeds,

@@ -8,9 +8,9 @@ use Rattle.fx_base.specs.declared.kinds.Kind.TheVariants as kind
 use Rattle.fx_base.specs.declared.values.Value.{Value as Content}
 use Rattle.fx_base.specs.declared.values.Value.TheVariants as value
 use Rattle.fx_graph_model.specs.Equality.{same_kind}
-use Rattle.fx_locations.specs.Locations.{joined}
 use Rattle.fx_look.specs.Readings.{value_at}
 use Rattle.fx_scene_flaws.specs.declared.flaws.Flaw.TheVariants as flaw
+use Rattle.fx_scene_places.specs.Places.{joined}
 use Rattle.fx_scene_plan.specs.declared.steps.PlannedProperty.{PlannedProperty}
 use Rattle.fx_scene_things.specs.Names.{Names}
 use Rattle.fx_scene_things.specs.declared.things.Thing.{Thing}

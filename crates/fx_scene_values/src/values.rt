@@ -10,9 +10,9 @@ use crate::forms::Form;
 use crate::kinds::is_same_kind;
 use crate::scopes::Scope;
 use crate::shown::{decimal, truth};
-use fx_base::{Kind, Text, Value};
-use fx_locations::joined;
+use fx_base::{Kind, Str, Text, Value};
 use fx_scene_flaws::Flaw;
+use fx_scene_places::joined;
 use fx_scene_plan::PlannedProperty;
 use fx_scene_things::{Names, Thing};
 use fx_stage_words::read;
@@ -120,15 +120,15 @@ pub fn location_given(alloc: Global, scope: &Scope<'_>, path: &str) -> Result<Gi
     ensures { IfOk result (λ given. given ≡ spec.location_given (scope_view scope.now) path.now) }
 {
     let name = joined(alloc, scope.file, path)?;
-    Ok(text_if(name))
+    text_if(alloc, name)
 }
 
-fn text_if(name: Option<String>) -> Given
-    ensures { result ≡ spec.text_if (option_map (λ n. string_bytes n) name) }
+fn text_if(alloc: Global, name: Option<Str>) -> Result<Given, AllocError>
+    ensures { IfOk result (λ given. given ≡ spec.text_if name) }
 {
     match name {
-        Some(name) => text_given(name),
-        None => Given::Flaw(Flaw::Value),
+        Some(name) => Ok(text_given(String::from_str(alloc, name.as_str())?)),
+        None => Ok(Given::Flaw(Flaw::Value)),
     }
 }
 

@@ -1,8 +1,10 @@
 -- the lines are taken one by one, up to the first whose writing fails
-use Rattle.std.proofs.Common.{◌≡◌, ◌∙◌, ap, arith, length}
+use Rattle.std.proofs.Common.{◌≡◌, ◌∙◌, Option, ap, arith, length, subst, sym}
 use Rattle.std.proofs.lemmas.List.{length-reverse}
 use Rattle.fx_plain_runs.proofs.PlayingLemmas.{put_at_err, put_at_ok}
 use Rattle.fx_play_frames.specs.Games.{game_of}
+use Rattle.fx_play_frames.specs.Takings.{IsAt}
+use Rattle.fx_pulse_model.specs.Frames.{Framed}
 use Rattle.fx_play_runs.proofs.LineLemmas.{all_left, cut_at, none_left, one_less, one_more}
 use Rattle.fx_play_runs.proofs.lines.put_each.Goals as goal
 
@@ -16,6 +18,8 @@ loop-line-init g c =
       playing = λ warnings begun told.
           all_left c.args.manner.form warnings (game_of c.args.game.now) c.args.lines.items turned told;
       few = omega (arith, c.requires.few, c.requires.fresh, long);
+      form = c.new-writer.ensures.form;
+      behind = subst (λ (o : Option Framed). IsAt c.new-writer.result o) (sym c.requires.unseen) c.new-writer.ensures.first;
     }
 
 pub loop-line-preserved : goal.loop-line-preserved
@@ -25,8 +29,11 @@ loop-line-preserved g c =
       later = omega (arith, c.loop-line.invariant.later, c.in_ok-put_line.ensures.cause.later);
       playing = λ warnings begun told.
           one_more c.loop-line.left.items c.pop.new.self.items c.in-Some.line c.in-Some.ensures.items
-          (c.loop-line.invariant.playing warnings begun told) c.in_ok-put_line.ensures.done;
+          (c.loop-line.invariant.playing warnings begun told)
+          (rw c.loop-line.invariant.form at c.in_ok-put_line.ensures.done);
       few = omega (arith, c.loop-line.invariant.few, c.in_ok-put_line.ensures.frames, shorter);
+      form = c.in_ok-put_line.ensures.form ∙ c.loop-line.invariant.form;
+      behind = c.in_ok-put_line.ensures.behind;
     }
 
 pub returns-in_err-put_line-clause-put : goal.returns-in_err-put_line-clause-put
@@ -34,7 +41,8 @@ returns-in_err-put_line-clause-put g c =
     λ warnings begun told.
     put_at_err _ c.from_residual.result c.from_residual.ensures.1
     (cut_at c.loop-line.left.items c.pop.new.self.items c.in-Some.line c.in-Some.ensures.items c.requires.long
-    (c.loop-line.invariant.playing warnings begun told) c.in_err-put_line.ensures.cut)
+    (c.loop-line.invariant.playing warnings begun told)
+    (rw c.loop-line.invariant.form at c.in_err-put_line.ensures.cut))
 
 pub returns-clause-put : goal.returns-clause-put
 returns-clause-put g c =

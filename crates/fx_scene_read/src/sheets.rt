@@ -71,10 +71,7 @@ fn formed_sheet(
 {
     match form {
         Form::Located(location) => sheet_at(alloc, node, location),
-        _ => Ok(given_sheet(
-            node,
-            value_in(alloc, scope, names, Kind::Text, form)?,
-        )),
+        _ => Ok(given_sheet(node, value_in(alloc, scope, names, Kind::Text, form)?)),
     }
 }
 

@@ -79,7 +79,8 @@ impl Game {
         trace: &mut Trace,
         work: &mut Work<L>,
     ) -> Result<(), AllocError>
-        ensures told { OnOk result (IsToldOf (time_line (line_view line).request) (explained_by (line_view line).request)
+        ensures told { OnOk result (IsToldOf (time_line (line_view line).request)
+            (explained_by (line_view line).request)
             (line_view line) (game_of self.old) (game_of self.new)
             (lines_told trace.new.text.items (length trace.new.heard.items))) }
         ensures frames { self.new.frames ≡ self.old.frames }

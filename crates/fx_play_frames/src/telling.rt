@@ -40,7 +40,8 @@ pub fn put_told<O: Sink>(
     ensures same { game_of game.new ≡ game_of game.old }
     ensures form { writer.new.form ≡ writer.old.form }
     ensures cause { HasCause Failed (O.faults out.old) (O.faults out.new) result }
-    ensures writes { (last : Option Framed) → IsAt writer.old last → Writes (O.written out.old) (O.written out.new) result
+    ensures writes { (last : Option Framed) → IsAt writer.old last
+        → Writes (O.written out.old) (O.written out.new) result
         (told_as writer.old.form last (game_of game.old) taken.now text.now).text }
     ensures behind { (last : Option Framed) → IsAt writer.old last
         → OnOk result (IsAt writer.new (last_behind taken.now last (game_of game.old))) }
@@ -66,8 +67,8 @@ impl Game {
         ensures form { writer.new.form ≡ writer.old.form }
         ensures cause { HasCause Failed (O.faults out.old) (O.faults out.new) result }
         ensures writes { (last : Option Image) → Follows writer.old last
-            → Writes (O.written out.old) (O.written out.new) result (frame_text writer.old.form self.old.frames last damage.now
-            (image_last (game_of self.old).last) ++ text.now) }
+            → Writes (O.written out.old) (O.written out.new) result
+            (frame_text writer.old.form self.old.frames last damage.now (image_last (game_of self.old).last) ++ text.now) }
         ensures behind { OnOk result (IsAt writer.new (game_of self.old).last) }
     {
         self.put_frame(alloc, writer, damage, out)?;
@@ -87,8 +88,8 @@ impl Game {
         ensures form { writer.new.form ≡ writer.old.form }
         ensures cause { HasCause Failed (O.faults out.old) (O.faults out.new) result }
         ensures writes { (last : Option Image) → Follows writer.old last
-            → Writes (O.written out.old) (O.written out.new) result (frame_text writer.old.form self.old.frames last damage.now
-            (image_last (game_of self.old).last)) }
+            → Writes (O.written out.old) (O.written out.new) result
+            (frame_text writer.old.form self.old.frames last damage.now (image_last (game_of self.old).last)) }
         ensures behind { OnOk result (IsAt writer.new (game_of self.old).last) }
     {
         self.renderer.refresh()?;

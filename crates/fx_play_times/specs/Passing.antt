@@ -36,5 +36,6 @@ IsTimed = IsAnswered
 abbrev pub IsPrinted : ℕ → Result (Unit {0}) StageError → Trace → Trace → Result (Unit {0}) AllocError → Type 0
 IsPrinted number (Ok tt) before now result = (now ≡ before) × (result ≡ Ok tt)
 IsPrinted number (Err (Refused word)) before now result =
-    (world : World) → OnOk result (course_of world now ≡ after (answered number [] (Err word) world) (course_of world before))
+    (world : World)
+    → OnOk result (course_of world now ≡ after (answered number [] (Err word) world) (course_of world before))
 IsPrinted number (Err Memory) before now result = OnOk result ⊥

@@ -1,8 +1,6 @@
-//! The pane and the child that the tests begin with, and what they compare.
-use fx_base::{ChildSize, List, PaneFacts, Rect, Sides, Sizes, Text};
-use std::alloc::{AllocError, Global};
-use std::process::Abort;
-use std::test::Fail;
+//! The pane and the child that the tests begin with.
+use fx_base::{ChildSize, List, PaneFacts, Sides, Sizes, Text};
+use std::alloc::Global;
 
 pub const NO_SIDES: Sides = Sides {
     top: 0,
@@ -36,7 +34,7 @@ pub const CHILD: ChildSize = ChildSize {
 };
 
 /// The sizes of a region without sizes of its own.
-pub const PLAIN: Sizes = Sizes {
+const PLAIN: Sizes = Sizes {
     min_w: 0,
     pref_w: 0,
     max_w: 100_000,
@@ -44,18 +42,6 @@ pub const PLAIN: Sizes = Sizes {
     pref_h: 0,
     max_h: 100_000,
 };
-
-/// A child of these preferred sizes.
-pub fn sized(pref_w: i64, pref_h: i64) -> ChildSize {
-    ChildSize {
-        sizes: Sizes {
-            pref_w,
-            pref_h,
-            ..PLAIN
-        },
-        ..CHILD
-    }
-}
 
 /// A pane whose look says nothing of sizes, aligned at the top left.
 pub fn pane(alloc: Global) -> PaneFacts {
@@ -81,26 +67,4 @@ pub fn pane(alloc: Global) -> PaneFacts {
         columns: List::new(alloc),
         rows: List::new(alloc),
     }
-}
-
-/// The sizes are these, widths first, and the rectangles these, each with left, top, width and height.
-pub fn expect<R: Abort + AllocGlobal>(
-    rt: &R,
-    sizes: Result<Sizes, AllocError>,
-    rects: Result<Vec<Rect>, AllocError>,
-    expected: &str,
-) -> Result<(), Fail> {
-    let found = text_of(rt.alloc(), sizes?, rects?.as_slice())?;
-    assert_eq!(rt; found.as_str(), expected);
-    Ok(())
-}
-
-fn text_of(alloc: Global, sizes: Sizes, rects: &[Rect]) -> Result<String, AllocError> {
-    let widths = format!(in alloc; "{} {} {}", sizes.min_w, sizes.pref_w, sizes.max_w)?;
-    let mut text = format!(in alloc; "{widths} {} {} {}", sizes.min_h, sizes.pref_h, sizes.max_h)?;
-    for rect in rects {
-        let word = format!(in alloc; "; {} {} {} {}", rect.x, rect.y, rect.w, rect.h)?;
-        text.push_str(word.as_str())?;
-    }
-    Ok(text)
 }

@@ -1,5 +1,5 @@
-//! Tests of the panes: what they share, their worked examples, and each public function once. They stand apart, so that
-//! a test that changes has nothing else proved anew.
+//! Tests of what the panes share, each public function once, and the laws of the panes. They stand apart, so that a test
+//! that changes has nothing else proved anew.
 #![tactic(auto)]
 
 #[cfg(test)]

@@ -3,6 +3,7 @@ pub mod DepthLemmas
 pub mod FactsLemmas
 pub mod LawLemmas
 pub mod LoopLemmas
+pub mod PlaceLemmas
 pub mod PublishLemmas
 pub mod ReadLemmas
 pub mod TreeLemmas

@@ -1,13 +1,20 @@
 -- Where nodes stand in a list of nodes, and whether they are disabled.
-use Rattle.std.specs.Prelude.{ℕ, Bool, false, ◌||◌, List, [], ◌∷◌, ◌++◌, slice_get, Option, Some, None}
+use Rattle.std.specs.Prelude.{ℕ, ◌≡◌, Bool, true, false, ◌||◌, List, [], ◌∷◌, ◌++◌, map, slice_get, Option, Some, None}
 use Rattle.std.specs.List.{position}
 use Rattle.std.specs.Option.{option_map_or}
 use Rattle.fx_base.specs.declared.keys.NodeKey.{NodeKey}
-use Rattle.fx_tree.specs.Scene.{is_same, parent_of}
+use Rattle.fx_tree.specs.Scene.{is_once, is_same, parent_of}
 use Rattle.fx_stage_model.specs.World.{World}
 use Rattle.fx_stage_facts.specs.declared.stands.Stand.{Stand}
 use Rattle.fx_stage_facts.specs.Attached.{attached_keys}
 use Rattle.fx_stage_facts.specs.Values.{is_set_disabled}
+
+abbrev pub keys_of : List Stand → List NodeKey
+keys_of stands = map (λ (stand : Stand). stand.key) stands
+
+-- no node stands twice among these
+abbrev pub AreOnce : List Stand → Type 0
+AreOnce stands = is_once (keys_of stands) ≡ true
 
 -- the place of a node among these
 abbrev pub place_of : List Stand → Option NodeKey → Option ℕ

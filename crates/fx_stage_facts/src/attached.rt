@@ -1,9 +1,10 @@
 //! The nodes that stand in the scene, and the properties that a frame reads of them.
-ghost use Rattle.std.specs.Prelude.{◌≡◌, ◌≤◌, ◌++◌, IfOk, OnOk, Some};
+ghost use Rattle.std.specs.Prelude.{◌≡◌, ◌≤◌, ◌++◌, IfOk, OnOk, Some, true};
 ghost use Rattle.fx_base.specs.Names.{numbers};
 ghost use Rattle.fx_base.specs.declared.keys.NodeKey.{NodeKey as Key};
 ghost use Rattle.fx_stage_types.specs.Tables.{data_of};
 ghost use Rattle.fx_stage_types.specs.declared.node_data.NodeData.{NodeData as Data};
+ghost use Rattle.fx_tree.specs.Scene.{IsSound, is_once, subtree};
 ghost use Rattle.fx_stage_facts.specs.Attached as spec;
 
 use fx_base::{Name, NodeKey};
@@ -13,16 +14,26 @@ use fx_stage_types::NodeData;
 use fx_tree::Tree;
 use std::alloc::{AllocError, Global};
 
-/// The nodes that stand in the scene, in pre-order.
+/// A node and all below it, in pre-order, each of them once.
+fn nodes_below(alloc: Global, tree: &Tree, top: NodeKey) -> Result<Vec<NodeKey>, AllocError>
+    requires { IsSound tree.now }
+    ensures keys { IfOk result (λ keys. keys.items ≡ subtree tree.now.nodes top) }
+    ensures once { IfOk result (λ keys. is_once keys.items ≡ true) }
+{
+    match tree.subtree(alloc, top) {
+        Ok(keys) => Ok(keys),
+        Err(_) => Err(AllocError),
+    }
+}
+
+/// The nodes that stand in the scene, in pre-order, each of them once.
 pub(crate) fn attached(alloc: Global, tree: &Tree) -> Result<Vec<NodeKey>, AllocError>
-    ensures { IfOk result (λ keys. keys.items ≡ spec.keys_in tree.now) }
+    ensures keys { IfOk result (λ keys. keys.items ≡ spec.keys_in tree.now) }
+    ensures once { IfOk result (λ keys. is_once keys.items ≡ true) }
 {
     match tree.root() {
         None => Ok(Vec::new(alloc)),
-        Some(root) => match tree.subtree(alloc, root) {
-            Ok(keys) => Ok(keys),
-            Err(_) => Err(AllocError),
-        },
+        Some(root) => nodes_below(alloc, tree, root),
     }
 }
 

@@ -1,7 +1,8 @@
 //! All that a frame takes from a stage.
-ghost use Rattle.std.specs.Prelude.{◌≡◌, ◌≤◌, ◌+◌, IfOk, OnErr, OnOk, map};
+ghost use Rattle.std.specs.Prelude.{◌≡◌, ◌≤◌, ◌+◌, IfOk, OnErr, OnOk, map, true};
 ghost use Rattle.fx_graph_model.specs.Unread.{evaluations_of};
 ghost use Rattle.fx_stage_model.specs.Taking.{IsReadSome};
+ghost use Rattle.fx_tree.specs.Scene.{is_once};
 ghost use Rattle.fx_stage_facts.specs.Attached.{attached_keys, display_names, looked};
 ghost use Rattle.fx_stage_facts.specs.Reads.{AreRead};
 ghost use Rattle.fx_stage_facts.specs.Scenes as spec;
@@ -46,6 +47,7 @@ fn flags_of(alloc: Global, stage: &Stage, keys: &[NodeKey]) -> Result<Vec<bool>,
 fn facts_at(alloc: Global, stage: &Stage, keys: &[NodeKey]) -> Result<Facts, AllocError>
     requires read { AreRead stage.now keys.now }
     requires keys { keys.now ≡ attached_keys stage.now }
+    requires once { is_once keys.now ≡ true }
     ensures { IfOk result (λ facts. facts ≡ spec.facts_of stage.now) }
 {
     let stands = stands_of(alloc, stage, keys)?;

@@ -1,7 +1,7 @@
 //! Where the nodes of a scene stand among each other.
-ghost use Rattle.std.specs.Prelude.{◌≡◌, [], IfOk};
+ghost use Rattle.std.specs.Prelude.{◌≡◌, [], IfOk, IfSome, Some, true};
 ghost use Rattle.std.specs.List.{position};
-ghost use Rattle.fx_tree.specs.Scene.{is_same, parent_of};
+ghost use Rattle.fx_tree.specs.Scene.{is_once, is_same, parent_of};
 ghost use Rattle.fx_stage_facts.specs.Reads.{AreRead, IsReadAt};
 ghost use Rattle.fx_stage_facts.specs.Stands as spec;
 
@@ -26,14 +26,49 @@ pub(crate) fn is_same(one: NodeKey, other: NodeKey) -> bool
     one.slot == other.slot && one.birth == other.birth
 }
 
-fn place_in(stands: &[Stand], key: NodeKey) -> Option<usize>
+/// The place of the first of the nodes that has this key.
+fn place_from_start(stands: &[Stand], key: NodeKey) -> Option<usize>
     ensures { result ≡ position (λ stand. is_same stand.key key) stands.now }
 {
     stands.iter().position(|stand| is_same(stand.key, key))
 }
 
+/// The place of the node of this key, if it is the last of the nodes or stands above the last one, as the parent of the
+/// next node in pre-order does.
+#[tactic(auto, using(crate::proofs::PlaceLemmas::only_place))]
+fn place_above_last(stands: &[Stand], key: NodeKey) -> Option<usize>
+    requires { spec.AreOnce stands.now }
+    ensures { IfSome result (λ place. position (λ stand. is_same stand.key key) stands.now ≡ Some place) }
+{
+    let mut at = stands.len().checked_sub(1);
+    for _step in 0..64 {
+        let Some(place) = at else {
+            return None;
+        };
+        let Some(stand) = stands.get(place) else {
+            return None;
+        };
+        if is_same(stand.key, key) {
+            return Some(place);
+        }
+        at = stand.parent;
+    }
+    None
+}
+
+fn place_in(stands: &[Stand], key: NodeKey) -> Option<usize>
+    requires { spec.AreOnce stands.now }
+    ensures { result ≡ position (λ stand. is_same stand.key key) stands.now }
+{
+    match place_above_last(stands, key) {
+        Some(place) => Some(place),
+        None => place_from_start(stands, key),
+    }
+}
+
 /// The place of a node's parent among the nodes.
 fn parent_place(tree: &Tree, stands: &[Stand], key: NodeKey) -> Option<usize>
+    requires { spec.AreOnce stands.now }
     ensures { result ≡ spec.place_of stands.now (parent_of tree.now.nodes key) }
 {
     match tree.parent(key) {
@@ -56,7 +91,8 @@ fn is_disabled_at(stands: &[Stand], parent: Option<usize>) -> bool
 
 /// Where a further node stands.
 fn stand_of(stage: &Stage, stands: &[Stand], key: NodeKey) -> Stand
-    requires { IsReadAt stage.now key }
+    requires read { IsReadAt stage.now key }
+    requires once { spec.AreOnce stands.now }
     ensures { result ≡ spec.stand_of stage.now stands.now key }
 {
     let parent = parent_place(stage.graph().tree(), stands, key);
@@ -68,13 +104,14 @@ fn stand_of(stage: &Stage, stands: &[Stand], key: NodeKey) -> Stand
     }
 }
 
-/// Where the nodes of these keys stand.
+/// Where the nodes of these keys stand, each of which is there once.
 pub(crate) fn stands_of(
     alloc: Global,
     stage: &Stage,
     keys: &[NodeKey],
 ) -> Result<Vec<Stand>, AllocError>
-    requires { AreRead stage.now keys.now }
+    requires read { AreRead stage.now keys.now }
+    requires once { is_once keys.now ≡ true }
     ensures { IfOk result (λ stands. stands.items ≡ spec.stands_from stage.now [] keys.now) }
 {
     let mut stands = Vec::with_capacity(alloc, keys.len())?;

@@ -5,6 +5,7 @@ use Rattle.fx_base.specs.declared.keys.NodeKey.{NodeKey}
 use Rattle.fx_graph_model.specs.Changes.{AreKnown}
 use Rattle.fx_stage_model.specs.Graphs.{Graph}
 use Rattle.fx_stage_model.specs.World.{World}
+use Rattle.fx_tree.specs.Scene.{is_once}
 use Rattle.fx_stage_facts.specs.declared.facts.Facts.{Facts}
 use Rattle.fx_stage_facts.specs.Attached.{attached_keys, display_names, displayed_of, keys_in, looked}
 use Rattle.fx_stage_facts.specs.Reads.{AreRead}
@@ -26,7 +27,7 @@ pub facts_at-requires-clause-read : goal.facts_at-requires-clause-read
 facts_at-requires-clause-read g c =
     let w = c.args.stage.now in
     let keys : c.in_ok-keys.keys.items ≡ attached_keys w =
-    c.in_ok-keys.ensures ∙ ap keys_in (c.tree.ensures ∙ ap (λ (graph : Graph). graph.tree) c.graph.ensures) in
+    c.in_ok-keys.ensures.keys ∙ ap keys_in (c.tree.ensures ∙ ap (λ (graph : Graph). graph.tree) c.graph.ensures) in
     let names : numbers c.as_slice-2.result.now ≡ display_names w =
     ap numbers c.as_slice-2.ensures.value
     ∙ c.in_ok-names.ensures
@@ -36,11 +37,14 @@ facts_at-requires-clause-read g c =
     subst (λ (x : World). AreRead x c.as_slice-3.result.now) (sym now)
     (subst (λ (ks : List NodeKey). AreRead (looked w) ks) (sym (c.as_slice-3.ensures.value ∙ keys)) (all_read w c.laws.ensures))
 
+pub facts_at-requires-clause-once : goal.facts_at-requires-clause-once
+facts_at-requires-clause-once g c = ap is_once c.as_slice-3.ensures.value ∙ c.in_ok-keys.ensures.once
+
 pub returns-clause-facts : goal.returns-clause-facts
 returns-clause-facts g c =
     let w = c.args.stage.now in
     let keys : c.in_ok-keys.keys.items ≡ attached_keys w =
-    c.in_ok-keys.ensures ∙ ap keys_in (c.tree.ensures ∙ ap (λ (graph : Graph). graph.tree) c.graph.ensures) in
+    c.in_ok-keys.ensures.keys ∙ ap keys_in (c.tree.ensures ∙ ap (λ (graph : Graph). graph.tree) c.graph.ensures) in
     let names : numbers c.as_slice-2.result.now ≡ display_names w =
     ap numbers c.as_slice-2.ensures.value
     ∙ c.in_ok-names.ensures
@@ -54,7 +58,7 @@ pub returns-clause-ok : goal.returns-clause-ok
 returns-clause-ok g c =
     let w = c.args.stage.now in
     let keys : c.in_ok-keys.keys.items ≡ attached_keys w =
-    c.in_ok-keys.ensures ∙ ap keys_in (c.tree.ensures ∙ ap (λ (graph : Graph). graph.tree) c.graph.ensures) in
+    c.in_ok-keys.ensures.keys ∙ ap keys_in (c.tree.ensures ∙ ap (λ (graph : Graph). graph.tree) c.graph.ensures) in
     let names : numbers c.as_slice-2.result.now ≡ display_names w =
     ap numbers c.as_slice-2.ensures.value
     ∙ c.in_ok-names.ensures

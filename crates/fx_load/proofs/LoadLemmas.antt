@@ -1,10 +1,10 @@
 -- Loading step by step: what each step says is told on.
 use Rattle.std.proofs.Common.{◌≡◌, ◌≤◌, ℕ, ◌+◌, List, [], ◌∷◌, ◌++◌, Result, Ok, Err, IsErrAnd, map, length, length-append, append_assoc, ap, ◌∙◌, refl, sym, subst, arith}
+use Rattle.std.specs.Prelude.{IfErr, IfOk}
 use Rattle.fx_css_types.specs.declared.sheets.Sheet.{Sheet}
-use Rattle.fx_load.specs.Loading.{IsElaborated, Loaded, all_read, loaded_with, scene_in, scene_refused, script_refused, sheet_refused, sheet_task}
-use Rattle.fx_load.specs.Loads.{AreTasksOf, loaded_of}
-use Rattle.fx_load.specs.Making.{AreMade}
-use Rattle.fx_load.specs.Telling.{warnings_of}
+use Rattle.fx_doc_grammar.specs.Grammar.{Reading}
+use Rattle.fx_load.specs.Loading.{IsElaborated, Loaded, all_read, course_before, loaded_by, scene_refused, script_refused, sheet_refused, sheet_task}
+use Rattle.fx_load.specs.Loads.{loaded_of}
 use Rattle.fx_load.specs.declared.loading.Loaded.{Loaded as Held}
 use Rattle.fx_load_parts.specs.Faults.{Fault}
 use Rattle.fx_load_parts.specs.Files.{Run}
@@ -18,8 +18,10 @@ use Rattle.fx_port.specs.Causes.{HasCause}
 use Rattle.fx_port.specs.Files.{Files}
 use Rattle.fx_port.specs.declared.files.FetchError.{FetchError}
 use Rattle.fx_port.specs.declared.files.FetchError.TheVariants as fetch
-use Rattle.fx_scene_acts.specs.declared.acts.Act.{Act}
 use Rattle.fx_scene_acts.specs.declared.tasks.Task.{Task}
+use Rattle.fx_scene_load.specs.Courses.{Course, first_course}
+use Rattle.fx_scene_load.specs.Documents.{document_in}
+use Rattle.fx_scene_load.specs.Reading.{IsSceneRead}
 use Rattle.fx_script_commands.specs.Requests.{Numbered}
 
 -- such is the fault, if it is one
@@ -70,13 +72,13 @@ sheets_stop run files lines seen error result script says at =
     (by_relation seen (AreSheets files run.sheets) error says) (λ fault is. sheet_refused lines fault script is) at
 
 pub scene_stops : {A : Type 0} (run : Run) (files : Files) (lines : List Numbered) (sheets : List Sheet)
-    (seen : A → List Act) (error : LoadError) (result : Result Held LoadError) → script_in files run.script ≡ Ok lines
+    (seen : A → Reading) (error : LoadError) (result : Result Held LoadError) → script_in files run.script ≡ Ok lines
     → AreSheets files run.sheets (Ok sheets)
-    → LoadSays {A = A} seen (Err error) (scene_in files (length run.sheets) run.scene)
+    → LoadSays {A = A} seen (Err error) (document_in files (length run.sheets) run.scene)
     → IsErrAnd result (λ e. e ≡ error) → SaysSuch loaded_of (IsElaborated run files) result
 scene_stops run files lines sheets seen error result script read says at =
-    told_on run files (λ f. scene_in files (length run.sheets) run.scene ≡ Err f) error result
-    (by_answer seen (scene_in files (length run.sheets) run.scene) error says)
+    told_on run files (λ f. document_in files (length run.sheets) run.scene ≡ Err f) error result
+    (by_answer seen (document_in files (length run.sheets) run.scene) error says)
     (λ fault is. scene_refused lines sheets fault script read is) at
 
 -- a fetch that gave nothing says nothing
@@ -102,29 +104,28 @@ fetch_cause first before now fetch.Memory (Err e) earlier cause at = record {
   rose = λ same. absurd (cc);
 }
 
-pub all_loaded : (run : Run) (files : Files) (lines : List Numbered) (sheets : List Sheet) (acts : List Act)
-    (loaded : Loaded) (names : List (List ℕ)) (tasks : List Task) → script_in files run.script ≡ Ok lines
-    → AreSheets files run.sheets (Ok sheets) → scene_in files (length run.sheets) run.scene ≡ Ok acts
-    → names ≡ run.sheets ++ (run.scene ∷ []) → tasks ≡ map sheet_task sheets
-    → AreTasksOf files (length run.sheets) run.scene acts names loaded.files tasks loaded.tasks
-    → loaded.lines ≡ lines → loaded.warnings ≡ warnings_of loaded.files loaded.tasks → IsElaborated run files (Ok loaded)
-all_loaded run files lines sheets acts loaded names tasks script read scene named begun so same told =
-    let count : length names ≡ length run.sheets + 1 =
-    ap (λ (l : List (List ℕ)). length l) named ∙ length-append run.sheets (run.scene ∷ []) in
-    let made : AreMade files (length run.sheets) run.scene (length run.sheets + 1) acts so.tasks so.names =
-    subst (λ (n : ℕ). AreMade files (length run.sheets) run.scene n acts so.tasks so.names) count so.made in
-    let all_tasks : loaded.tasks ≡ map sheet_task sheets ++ so.tasks =
-    so.done ∙ ap (λ (l : List Task). l ++ so.tasks) begun in
-    let all_files : loaded.files ≡ run.sheets ++ (run.scene ∷ so.names) =
-    so.fetched ∙ (ap (λ (l : List (List ℕ)). l ++ so.names) named ∙ append_assoc run.sheets (run.scene ∷ []) so.names) in
-    let is : loaded ≡ loaded_with run lines sheets so.tasks so.names =
-    (λ i. record {
-      tasks = all_tasks i;
-      files = all_files i;
-      lines = same i;
-      warnings =
-          (told ∙ (ap (λ (l : List (List ℕ)). warnings_of l loaded.tasks) all_files
-          ∙ ap (warnings_of (run.sheets ++ (run.scene ∷ so.names))) all_tasks)) i;
-    }) in
+pub all_loaded : (run : Run) (files : Files) (lines : List Numbered) (sheets : List Sheet) (document : Reading)
+    (loaded : Loaded) (names now : List (List ℕ)) (before tasks : List Task) → script_in files run.script ≡ Ok lines
+    → AreSheets files run.sheets (Ok sheets) → document_in files (length run.sheets) run.scene ≡ Ok document
+    → names ≡ run.sheets ++ (run.scene ∷ []) → before ≡ map sheet_task sheets
+    → IsSceneRead files (length run.sheets) run.scene (first_course before names) document tasks now
+    → loaded ≡ loaded_by tasks now lines → IsElaborated run files (Ok loaded)
+all_loaded run files lines sheets document loaded names now before tasks script read scene named begun made is =
+    let begins : IsSceneRead files (length run.sheets) run.scene (course_before run sheets) document tasks now =
+    subst (λ (c : Course). IsSceneRead files (length run.sheets) run.scene c document tasks now)
+    (λ i. first_course (begun i) (named i)) made in
     subst (λ (l : Loaded). IsElaborated run files (Ok l)) (sym is)
-    (all_read lines sheets acts so.tasks so.names script read scene made)
+    (all_read lines sheets document tasks now script read scene begins)
+
+pub all_told : (run : Run) (files : Files) (lines : List Numbered) (sheets : List Sheet) (document : Reading)
+    (names now : List (List ℕ)) (before tasks : List Task) (result : Result Held LoadError)
+    → script_in files run.script ≡ Ok lines → AreSheets files run.sheets (Ok sheets)
+    → document_in files (length run.sheets) run.scene ≡ Ok document → names ≡ run.sheets ++ (run.scene ∷ [])
+    → before ≡ map sheet_task sheets
+    → IsSceneRead files (length run.sheets) run.scene (first_course before names) document tasks now
+    → IfOk result (λ (held : Held). loaded_of held ≡ loaded_by tasks now lines)
+    → IfErr result (λ (error : LoadError). error ≡ load.Memory) → SaysSuch loaded_of (IsElaborated run files) result
+all_told run files lines sheets document names now before tasks (Ok held) script read scene named begun made is at =
+    all_loaded run files lines sheets document (loaded_of held) names now before tasks script read scene named begun made is
+all_told run files lines sheets document names now before tasks (Err error) script read scene named begun made is at =
+    subst (λ (x : LoadError). SaysSuch {A = Held} loaded_of (IsElaborated run files) (Err x)) (sym at) tt

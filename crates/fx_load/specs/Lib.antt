@@ -1,4 +1,3 @@
 pub mod Loading
 pub mod Loads
-pub mod Making
 pub mod Telling

@@ -30,6 +30,7 @@ step_lines files place _ = []
 abbrev pub doing_lines : List (List ℕ) → Place → Doing → List ℕ
 doing_lines files place (doing.Step step) = step_lines files place step
 doing_lines files place (doing.Fault kind) = []
+doing_lines files place (doing.Room node) = []
 
 unfoldable pub task_lines : List (List ℕ) → Task → List ℕ
 task_lines files task = doing_lines files task.place task.doing

@@ -3,8 +3,6 @@
 #![tactic(auto)]
 
 mod loading;
-mod making;
-mod scene;
 mod telling;
 
 pub use loading::{Loaded, load};

@@ -1,24 +1,23 @@
 //! Loading a run: the script first, then the sheets, and then the scene.
-ghost use Rattle.std.specs.Prelude.{◌≡◌, ◌≤◌, [], ◌∷◌, ◌++◌, IfOk, Some, map, vec_len};
+ghost use Rattle.std.specs.Prelude.{◌≡◌, ◌≤◌, [], ◌∷◌, ◌++◌, IfErr, IfOk, Some, map, vec_len};
 ghost use Rattle.fx_load.specs.Loading as spec;
 ghost use Rattle.fx_load.specs.Loading.{IsElaborated};
 ghost use Rattle.fx_load.specs.Loads.{loaded_of};
 ghost use Rattle.fx_load_parts.specs.Says.{LoadSays, SaysSuch};
 ghost use Rattle.fx_load_parts.specs.Scripts.{script_in};
 ghost use Rattle.fx_load_parts.specs.Views.{run_of};
-ghost use Rattle.fx_load_parts.specs.declared.files.LoadError.TheVariants.{Failed};
+ghost use Rattle.fx_load_parts.specs.declared.files.LoadError.TheVariants.{Failed, Memory};
 ghost use Rattle.fx_port.specs.Causes.{HasCause};
 ghost use Rattle.fx_port.specs.Files.{Files};
 ghost use Rattle.fx_script_commands.specs.Requests.{line_view};
 
-use crate::making::add_tasks;
-use crate::scene::read_scene;
 use crate::telling::warnings_of;
 use fx_base::{Place, Position, Str};
 use fx_css_types::Sheet;
 use fx_load_parts::{LoadError, Run, read_file, read_script, read_sheets};
 use fx_port::Shelf;
 use fx_scene_acts::{Doing, Task};
+use fx_scene_load::{Scene, add_scene, fetch_document};
 use fx_scene_plan::PlannedStep;
 use fx_script_commands::Line;
 use std::alloc::{AllocError, Global};
@@ -48,11 +47,23 @@ pub fn load<'a, F: Shelf>(
 {
     let lines = read_lines(alloc, shelf, run.script)?;
     let sheets = read_sheets(alloc, shelf, run.sheets)?;
-    let acts = read_scene(alloc, shelf, run.sheets.len(), run.scene)?;
-    let mut files = names_of(alloc, run.sheets, run.scene)?;
-    let mut tasks = sheet_tasks(alloc, sheets)?;
+    let document = fetch_document(alloc, shelf, run.sheets.len(), run.scene)?;
+    let before = Scene {
+        tasks: sheet_tasks(alloc, sheets)?,
+        files: names_of(alloc, run.sheets, run.scene)?,
+    };
     let file = run.sheets.len() as u32;
-    add_tasks(alloc, shelf, file, run.scene, acts, &mut files, &mut tasks)?;
+    let scene = add_scene(alloc, shelf, file, run.scene, &document, before)?;
+    loaded_by(alloc, scene, lines)
+}
+
+fn loaded_by<'a>(alloc: Global, scene: Scene, lines: Vec<Line>) -> Result<Loaded, LoadError<'a>>
+    ensures loaded { IfOk result (λ loaded. loaded_of loaded
+        ≡ spec.loaded_by scene.tasks.items scene.files.items (map line_view lines.items)) }
+    ensures lines { IfOk result (λ loaded. loaded.lines ≡ lines) }
+    ensures err { IfErr result (λ error. error ≡ Memory) }
+{
+    let Scene { tasks, files } = scene;
     let warnings = warnings_of(alloc, files.as_slice(), tasks.as_slice())?;
     Ok(Loaded {
         tasks,

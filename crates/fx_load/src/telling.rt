@@ -30,7 +30,7 @@ fn add_task(alloc: Global, files: &[Str], task: &Task, text: &mut Vec<u8>) -> Re
 {
     match &task.doing {
         Doing::Step(step) => add_step(alloc, files, task.place, step, text),
-        Doing::Fault(_) => Ok(()),
+        Doing::Fault(_) | Doing::Room(_) => Ok(()),
     }
 }
 

@@ -56,6 +56,7 @@ fn flaw_word(flaw: Flaw) -> &'static str
         Flaw::Value => "value",
         Flaw::Duplicate => "duplicate",
         Flaw::Name => "name",
+        Flaw::IncludeCycle => "includecycle",
         Flaw::Expression => "expression",
         Flaw::Kinds => "type",
         Flaw::Cycle => "cycle",

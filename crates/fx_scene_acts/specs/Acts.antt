@@ -1,9 +1,9 @@
--- What tasks make of a world: each is a step of building, or a fault. The first fault ends them, and so does the first
--- step that is refused, whose word is a flaw at its place.
+-- What tasks make of a world: each is a step of building, a fault, or a look for room. The first fault ends them, and so
+-- does the first step that is refused, whose word is a flaw at its place.
 use Rattle.std.specs.Prelude.{◌≡◌, ℕ, List, [], ◌∷◌, Result, Ok, Err}
 use Rattle.fx_base.specs.declared.positions.Place.{Place}
 use Rattle.fx_base.specs.declared.positions.Position.{Position}
-use Rattle.fx_scene_plan.specs.Plans.{Standing, stepped, unbuilt}
+use Rattle.fx_scene_plan.specs.Plans.{Standing, roomy, stepped, unbuilt}
 use Rattle.fx_stage_model.specs.World.{World}
 use Rattle.fx_stage_types.specs.declared.refusals.Refusal.{Refusal}
 use Rattle.fx_stage_types.specs.declared.refusals.Refusal.TheVariants as word
@@ -61,6 +61,7 @@ told place (Err word) = Err (fault_at place (Flawed (flaw_of word)))
 abbrev pub done : ℕ → Place → Doing → Standing → Result Standing SceneFault
 done slot place (doing.Step step) standing = told place (stepped slot step standing)
 done slot place (doing.Fault kind) standing = Err (fault_at place kind)
+done slot place (doing.Room node) standing = told place (roomy standing node)
 
 -- what one task makes of what stands, or its fault; what it makes anew is kept in this slot
 unfoldable pub acted : ℕ → Task → Standing → Result Standing SceneFault

@@ -1,7 +1,19 @@
 //! What documents ask for, in the order of work.
 use fx_base::{Position, Text};
+use fx_kinds::Class;
 use fx_scene_flaws::Flaw;
 use fx_scene_plan::PlannedStep;
+
+/// A property that is bound to an expression, once all names of the scene are known.
+#[derive(Drop)]
+pub struct Binding {
+    pub node: usize,
+    pub class: Class,
+    /// The property as documents call it.
+    pub property: Text,
+    /// What stands between `${` and `}`.
+    pub text: Text,
+}
 
 /// What is asked for at an act.
 #[derive(Drop)]
@@ -12,6 +24,10 @@ pub enum Deed {
     Flaw(Flaw),
     /// The style sheet at this location beside the document is a further one of the node.
     Sheet(usize, Text),
+    /// The style sheet in the file of this name is a further one of the node.
+    File(usize, Text),
+    /// The property is bound behind all documents.
+    Bind(Binding),
 }
 
 /// What a place of a document asks for.

@@ -10,6 +10,8 @@ pub enum Doing {
     Step(PlannedStep),
     /// A file is at fault, and nothing behind it is done.
     Fault(FaultKind),
+    /// There has to be room for a further node under the one of this ordinal.
+    Room(usize),
 }
 
 /// What is done at a place of a file, when all files that it needs are read.

@@ -1,3 +1,2 @@
 pub mod OperandLemmas
-pub mod PieceLemmas
 pub mod ReadLemmas

@@ -1,15 +1,18 @@
 -- Operands, one after another.
-use Rattle.std.proofs.Common.{◌≡◌, ℕ, suc, List, [], ◌∷◌, ◌++◌, length, map, Option, Some, None, is_none, cond, refl, sym, ◌∙◌, ap, subst, arith}
-use Rattle.std.proofs.lemmas.List.{length-map}
+use Rattle.std.proofs.Common.{◌≡◌, ◌<◌, ◌+◌, ℕ, suc, Bool, true, false, List, [], ◌∷◌, ◌++◌, length, map, drop, get_or, Option, Some, None, is_none, cond, refl, sym, ◌∙◌, ap, subst, arith, append_assoc, Bor}
+use Rattle.std.specs.Prelude.{is_some}
+use Rattle.std.specs.Option.{option_copied, option_map}
+use Rattle.std.proofs.lemmas.List.{drop_more, length-map, map-append}
 use Rattle.std.proofs.lemmas.List.Sums.{sum_by-cons}
 use Rattle.std.specs.Bool.{IsTrue}
 use Rattle.fx_base.specs.declared.values.Value.{Value as Content}
 use Rattle.fx_expr.specs.Filling.{unknowns}
 use Rattle.fx_expr.specs.Tree.{Tree, is_within}
-use Rattle.fx_scene_bindings.specs.Bindings.{Operand, operand_of, operands_of, value_of, values_of, with_path}
+use Rattle.fx_scene_bindings.specs.Bindings.{Operand, operand_of, operands_of, value_of, values_of, with_operand, with_path}
 use Rattle.fx_scene_bindings.specs.Views.{operand_view}
 use Rattle.fx_scene_bindings.specs.declared.operands.Operand.{Operand as Shown}
 use Rattle.fx_scene_things.specs.Names.{Names}
+use Rattle.fx_scene_things.specs.Spaces.{Space}
 
 -- what is found so far in front of the rest
 abbrev pub behind : List Operand → Option (List Operand) → Option (List Operand)
@@ -27,12 +30,12 @@ known_more : (v : Content) (values : List (Option Content)) → unknowns (Some v
 known_more v values = let e = sum_by-cons (λ (v : Option Content). cond (is_none v) 1 0) (Some v) values in omega (arith, e)
 
 -- there is an operand for each path that stands for no value
-one_each : (names : Names) (paths : List (List (List ℕ))) (found : List Operand) → operands_of names paths ≡ Some found
+one_each : (spaces : List Space) (names : Names) (paths : List (List (List ℕ))) (found : List Operand) → operands_of spaces names paths ≡ Some found
     → length found ≡ unknowns (values_of names paths)
-one_each names [] found e = ap (λ o. count o) (sym e)
-one_each names (path ∷ paths) found e =
-    by_first (value_of names path) (operand_of names path) (operands_of names paths)
-    (λ all h. one_each names paths all h) e
+one_each spaces names [] found e = ap (λ o. count o) (sym e)
+one_each spaces names (path ∷ paths) found e =
+    by_first (value_of names path) (operand_of spaces names path) (operands_of spaces names paths)
+    (λ all h. one_each spaces names paths all h) e
   where
     by_first : (known : Option Content) (one : Option Operand) (others : Option (List Operand))
         → ((all : List Operand) → others ≡ Some all → length all ≡ unknowns (values_of names paths))
@@ -44,11 +47,69 @@ one_each names (path ∷ paths) found e =
     by_first None (Some o) (Some all) each e =
         ap count (sym e) ∙ (ap suc (each all refl) ∙ sym (unknown_more (values_of names paths)))
 
-pub enough : (names : Names) (paths : List (List (List ℕ))) (values : List (Option Content)) (operands seen : List Shown)
-    (t : Tree) → values ≡ values_of names paths → Some (map operand_view operands) ≡ operands_of names paths
+pub enough : (spaces : List Space) (names : Names) (paths : List (List (List ℕ))) (values : List (Option Content)) (operands seen : List Shown)
+    (t : Tree) → values ≡ values_of names paths → Some (map operand_view operands) ≡ operands_of spaces names paths
     → seen ≡ operands → IsTrue (is_within t (unknowns values)) → IsTrue (is_within t (length seen))
-enough names paths values operands seen t known found shown_as within =
+enough spaces names paths values operands seen t known found shown_as within =
     let long = ap (λ (os : List Shown). length os) shown_as ∙ (sym (length-map operands operand_view)
-    ∙ (one_each names paths (map operand_view operands) (sym found)
+    ∙ (one_each spaces names paths (map operand_view operands) (sym found)
     ∙ ap (λ (vs : List (Option Content)). unknowns vs) (sym known))) in
     subst (λ n. IsTrue (is_within t n)) (sym long) within
+
+-- a turn of the loop over all paths
+
+abbrev rest_of : List Space → Names → List (List (List ℕ)) → ℕ → Option (List Operand)
+rest_of spaces names paths i = operands_of spaces names (drop i paths)
+
+no_value : {A : Type 0} (found : Option (Bor A)) → is_some found ≡ false → option_copied found ≡ None
+no_value None e = refl
+no_value (Some v) e = absurd (cc)
+
+at : (spaces : List Space) (names : Names) (paths : List (List (List ℕ))) (i : ℕ) (path : List (List ℕ))
+    → i < length paths → path ≡ get_or paths i path
+    → rest_of spaces names paths i
+    ≡ with_path (value_of names path) (operand_of spaces names path) (rest_of spaces names paths (i + 1))
+at spaces names paths i path h is =
+    ap (operands_of spaces names)
+    (drop_more paths i path h ∙ ap (λ (p : List (List ℕ)). p ∷ drop (i + 1) paths) (sym is))
+
+pub turn_found : (spaces : List Space) (names : Names) (paths : List (List (List ℕ))) (i : ℕ) (path seen again : List (List ℕ))
+    (known : Option (Bor Content)) (one : Shown) (found now : List Shown) → i < length paths → path ≡ get_or paths i path
+    → seen ≡ path → again ≡ path → option_copied known ≡ value_of names seen → is_some known ≡ false
+    → Some (operand_view one) ≡ operand_of spaces names again → now ≡ found ++ (one ∷ [])
+    → behind (map operand_view found) (rest_of spaces names paths i) ≡ operands_of spaces names paths
+    → behind (map operand_view now) (rest_of spaces names paths (i + 1)) ≡ operands_of spaces names paths
+turn_found spaces names paths i path seen again known one found now h is same twice copied none operand more so_far =
+    let nothing : value_of names path ≡ None =
+    ap (value_of names) (sym same) ∙ (sym copied ∙ no_value known none) in
+    let here : operand_of spaces names path ≡ Some (operand_view one) =
+    ap (operand_of spaces names) (sym twice) ∙ sym operand in
+    let next : rest_of spaces names paths i ≡ with_operand (Some (operand_view one)) (rest_of spaces names paths (i + 1)) =
+    at spaces names paths i path h is
+    ∙ (λ j. with_path (nothing j) (here j) (rest_of spaces names paths (i + 1))) in
+    ap (λ (l : List Shown). behind (map operand_view l) (rest_of spaces names paths (i + 1))) more
+    ∙ (joined (rest_of spaces names paths (i + 1)) ∙ (ap (behind (map operand_view found)) (sym next) ∙ so_far))
+  where
+    joined : (others : Option (List Operand))
+        → behind (map operand_view (found ++ (one ∷ []))) others
+        ≡ behind (map operand_view found) (with_operand (Some (operand_view one)) others)
+    joined None = refl
+    joined (Some all) =
+        ap (λ (l : List Operand). Some (l ++ all)) (map-append operand_view found (one ∷ []))
+        ∙ ap (λ (l : List Operand). Some l) (append_assoc (map operand_view found) (operand_view one ∷ []) all)
+
+pub turn_missing : (spaces : List Space) (names : Names) (paths : List (List (List ℕ))) (i : ℕ) (path seen again : List (List ℕ))
+    (known : Option (Bor Content)) (one : Option Shown) (found : List Shown) → i < length paths → path ≡ get_or paths i path
+    → seen ≡ path → again ≡ path → option_copied known ≡ value_of names seen → is_some known ≡ false → one ≡ None
+    → option_map operand_view one ≡ operand_of spaces names again
+    → behind (map operand_view found) (rest_of spaces names paths i) ≡ operands_of spaces names paths
+    → None ≡ operands_of spaces names paths
+turn_missing spaces names paths i path seen again known one found h is same twice copied none gone operand so_far =
+    let nothing : value_of names path ≡ None =
+    ap (value_of names) (sym same) ∙ (sym copied ∙ no_value known none) in
+    let here : operand_of spaces names path ≡ None =
+    ap (operand_of spaces names) (sym twice) ∙ (sym operand ∙ ap (option_map operand_view) gone) in
+    let next : rest_of spaces names paths i ≡ None =
+    at spaces names paths i path h is
+    ∙ (λ j. with_path (nothing j) (here j) (rest_of spaces names paths (i + 1))) in
+    ap (behind (map operand_view found)) (sym next) ∙ so_far

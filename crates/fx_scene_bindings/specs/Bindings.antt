@@ -1,5 +1,5 @@
 -- What a property is bound to by a text between `${` and `}`, or what is wrong with the text.
-use Rattle.std.specs.Prelude.{◌≡◌, ℕ, Bool, true, false, List, [], ◌∷◌, map, Option, Some, None, Result, Ok, Err, is_some, if◌then◌else◌}
+use Rattle.std.specs.Prelude.{◌≡◌, ℕ, ◌-◌, ◌==◌, Bool, true, false, List, [], ◌∷◌, length, map, slice_get, take, Option, Some, None, Result, Ok, Err, is_some, if◌then◌else◌}
 use Rattle.std.specs.List.{list_all}
 use Rattle.std.specs.Option.{option_map}
 use Rattle.std.specs.Str.{chars}
@@ -16,12 +16,16 @@ use Rattle.fx_expr.specs.declared.reading.ExprError.TheVariants as fault
 use Rattle.fx_expr.specs.declared.tree.BinarySign.TheVariants as binary
 use Rattle.fx_expr.specs.declared.tree.Parsed.{Parsed}
 use Rattle.fx_kinds.specs.Properties.{ListedProperty}
-use Rattle.fx_scene_acts.specs.declared.acts.Deed.{Deed}
-use Rattle.fx_scene_acts.specs.declared.acts.Deed.TheVariants as deed
+use Rattle.fx_scene_acts.specs.declared.acts.Binding.{Binding}
+use Rattle.fx_scene_acts.specs.declared.tasks.Doing.{Doing}
+use Rattle.fx_scene_acts.specs.declared.tasks.Doing.TheVariants as doing
+use Rattle.fx_scene_flaws.specs.declared.flaws.FaultKind.TheVariants.{Flawed}
+use Rattle.fx_scene_flaws.specs.declared.flaws.Flaw.{Flaw as Mistake}
 use Rattle.fx_scene_flaws.specs.declared.flaws.Flaw.TheVariants as flaw
 use Rattle.fx_scene_plan.specs.declared.steps.PlannedProperty.{PlannedProperty}
 use Rattle.fx_scene_plan.specs.declared.steps.PlannedStep.TheVariants as planned
-use Rattle.fx_scene_things.specs.Names.{Names, node_called}
+use Rattle.fx_scene_things.specs.Names.{Names}
+use Rattle.fx_scene_things.specs.Spaces.{Space, node_along}
 use Rattle.fx_scene_things.specs.declared.things.Named.{Named}
 use Rattle.fx_scene_things.specs.declared.things.Thing.{Thing}
 use Rattle.fx_scene_things.specs.declared.things.Thing.TheVariants as thing
@@ -47,11 +51,17 @@ abbrev pub value_of : Names → List (List ℕ) → Option Content
 value_of names (name ∷ []) = value_if (names name)
 value_of names _ = None
 
--- a path leads to such a value, or to a node, by a node's name and a property's
-abbrev pub is_named : Names → List (List ℕ) → Bool
-is_named names (name ∷ []) = is_some (value_if (names name))
-is_named names (name ∷ property ∷ []) = is_some (node_called names name)
-is_named names _ = false
+-- the node of a path, by the names of nodes in front of the last name, which is a property's
+abbrev pub node_of : List Space → Names → List (List ℕ) → Option Named
+node_of spaces names path = node_along spaces names (take (length path - 1) path)
+
+abbrev pub is_single : List (List ℕ) → Bool
+is_single path = length path == 1
+
+-- a path leads to such a value, or to a node
+abbrev pub is_named : List Space → Names → List (List ℕ) → Bool
+is_named spaces names path =
+    if is_single path then is_some (value_of names path) else is_some (node_of spaces names path)
 
 abbrev pub operand_at : ℕ → ListedProperty → Operand
 operand_at node property = record { node = node; property = property }
@@ -60,9 +70,12 @@ abbrev pub operand_in : List ℕ → Option Named → Option Operand
 operand_in property None = None
 operand_in property (Some known) = option_map (operand_at known.node) (property_named known.class property)
 
-abbrev pub operand_of : Names → List (List ℕ) → Option Operand
-operand_of names (name ∷ property ∷ []) = operand_in property (node_called names name)
-operand_of names _ = None
+abbrev pub operand_if : Option (List ℕ) → Option Named → Option Operand
+operand_if None found = None
+operand_if (Some property) found = operand_in property found
+
+unfoldable pub operand_of : List Space → Names → List (List ℕ) → Option Operand
+operand_of spaces names path = operand_if (slice_get path (length path - 1)) (node_of spaces names path)
 
 abbrev pub with_operand : Option Operand → Option (List Operand) → Option (List Operand)
 with_operand None others = None
@@ -75,18 +88,18 @@ with_path (Some content) one others = others
 with_path None one others = with_operand one others
 
 -- all operands, unless one isn't there
-abbrev pub operands_of : Names → List (List (List ℕ)) → Option (List Operand)
-operands_of names [] = Some []
-operands_of names (path ∷ paths) =
-    with_path (value_of names path) (operand_of names path) (operands_of names paths)
+abbrev pub operands_of : List Space → Names → List (List (List ℕ)) → Option (List Operand)
+operands_of spaces names [] = Some []
+operands_of spaces names (path ∷ paths) =
+    with_path (value_of names path) (operand_of spaces names path) (operands_of spaces names paths)
 
 -- the values among the paths
 abbrev pub values_of : Names → List (List (List ℕ)) → List (Option Content)
 values_of names paths = map (value_of names) paths
 
 -- each path leads to something
-abbrev pub are_named : Names → List (List (List ℕ)) → Bool
-are_named names paths = list_all (is_named names) paths
+abbrev pub are_named : List Space → Names → List (List (List ℕ)) → Bool
+are_named spaces names paths = list_all (is_named spaces names) paths
 
 -- a number or a truth is printed where a text is wanted
 abbrev pub is_printed : Option Kind → Bool
@@ -111,28 +124,36 @@ formula_of want t operands =
 abbrev pub planned_of : List Operand → List PlannedProperty
 planned_of operands = map (λ (o : Operand). property_of o.node o.property.name) operands
 
-abbrev pub bound_to : ℕ → ListedProperty → Tree → List Operand → Deed
+abbrev pub bound_to : ℕ → ListedProperty → Tree → List Operand → Doing
 bound_to node property t operands =
-    deed.Step (planned.Bind (property_of node property.name) (formula_of property.kind t operands) (planned_of operands))
+    doing.Step (planned.Bind (property_of node property.name) (formula_of property.kind t operands) (planned_of operands))
 
-abbrev pub bound_if : ℕ → ListedProperty → Tree → Option (List Operand) → Deed
-bound_if node property t None = deed.Flaw flaw.Property
+abbrev pub at_fault : Mistake → Doing
+at_fault mistake = doing.Fault (Flawed mistake)
+
+abbrev pub bound_if : ℕ → ListedProperty → Tree → Option (List Operand) → Doing
+bound_if node property t None = at_fault flaw.Property
 bound_if node property t (Some operands) = bound_to node property t operands
 
-abbrev pub bound_over : Names → ℕ → ListedProperty → Tree → List (List (List ℕ)) → Deed
-bound_over names node property t paths =
-    if are_named names paths
-    then bound_if node property (filled (values_of names paths) t) (operands_of names paths) else deed.Flaw flaw.Name
+abbrev pub bound_over : List Space → Names → ℕ → ListedProperty → Tree → List (List (List ℕ)) → Doing
+bound_over spaces names node property t paths =
+    if are_named spaces names paths
+    then bound_if node property (filled (values_of names paths) t) (operands_of spaces names paths) else at_fault flaw.Name
 
 -- no expression; or one past its own limits; or a name that nothing has, before a property that isn't there
-abbrev pub bound_by : Names → ℕ → ListedProperty → Result (Tree × List (List (List ℕ))) ExprError → Deed
-bound_by names node property (Ok read) = bound_over names node property read.0 read.1
-bound_by names node property (Err fault.Syntax) = deed.Flaw flaw.Expression
-bound_by names node property (Err other) = deed.Flaw flaw.Limit
+abbrev pub bound_by : List Space → Names → ℕ → ListedProperty → Result (Tree × List (List (List ℕ))) ExprError → Doing
+bound_by spaces names node property (Ok read) = bound_over spaces names node property read.0 read.1
+bound_by spaces names node property (Err fault.Syntax) = at_fault flaw.Expression
+bound_by spaces names node property (Err other) = at_fault flaw.Limit
 
--- what binding the property of the node of an ordinal to the text asks for
-unfoldable pub bound_deed : Names → ℕ → ListedProperty → List ℕ → Deed
-bound_deed names node property text = bound_by names node property (reading_of (chars text))
+abbrev pub bound_property : List Space → Names → ℕ → List ℕ → Option ListedProperty → Doing
+bound_property spaces names node text None = at_fault flaw.Property
+bound_property spaces names node text (Some property) =
+    bound_by spaces names node property (reading_of (chars text))
+
+-- What is done for a binding over the names of its document, and of the documents that those include.
+unfoldable pub bound : List Space → Names → Binding → Doing
+bound spaces names b = bound_property spaces names b.node b.text (property_named b.class b.property)
 
 -- the answer of the reader of expressions; want of memory says nothing
 abbrev pub Reads : Result (Tree × List (List (List ℕ))) ExprError → Result Parsed ExprError → Type 0
@@ -143,8 +164,8 @@ Reads read (Err fault.Depth) = read ≡ Err fault.Depth
 Reads read (Err fault.Operands) = read ≡ Err fault.Operands
 
 -- what is wrong where the reader refuses
-abbrev pub IsRefused : ExprError → Deed → Type 0
+abbrev pub IsRefused : ExprError → Doing → Type 0
 IsRefused fault.Memory told = ⊥
-IsRefused fault.Syntax told = told ≡ deed.Flaw flaw.Expression
-IsRefused fault.Depth told = told ≡ deed.Flaw flaw.Limit
-IsRefused fault.Operands told = told ≡ deed.Flaw flaw.Limit
+IsRefused fault.Syntax told = told ≡ at_fault flaw.Expression
+IsRefused fault.Depth told = told ≡ at_fault flaw.Limit
+IsRefused fault.Operands told = told ≡ at_fault flaw.Limit

@@ -5,7 +5,7 @@ ghost use Rattle.fx_expr.specs.Tree.{is_within, tree};
 ghost use Rattle.fx_kinds.specs.Listing.{listed_property};
 ghost use Rattle.fx_scene_bindings.specs.Bindings as spec;
 ghost use Rattle.fx_scene_bindings.specs.Views.{operand_view};
-ghost use Rattle.fx_scene_things.specs.Known.{known};
+ghost use Rattle.fx_scene_things.specs.Known.{known, space_view};
 
 use crate::operands::{Operand, are_named, kinds_of, operands_of, planned_of, values_of};
 use crate::reading::read;
@@ -13,62 +13,92 @@ use fx_base::Kind;
 use fx_expr::{Expr, ExprError, KindError, Parsed, as_text, fill, type_of};
 use fx_graph_model::Formula;
 use fx_kinds::Property;
-use fx_scene_acts::Deed;
-use fx_scene_flaws::Flaw;
+use fx_scene_acts::{Binding, Doing};
+use fx_scene_flaws::{FaultKind, Flaw};
 use fx_scene_plan::PlannedStep;
-use fx_scene_things::Names;
-use fx_scene_values::planned_property;
+use fx_scene_things::{Names, Space};
+use fx_scene_values::{planned_property, property_named};
 use std::alloc::{AllocError, Global};
 
-/// What binding the property of the node of this ordinal to the text asks for, over the names of a document.
-#[tactic(auto, unfolding(crate::specs::Bindings::bound_deed))]
-pub fn bound_deed(
+/// What is done for a binding over the names of its document, and of the documents that those include.
+#[tactic(auto, unfolding(crate::specs::Bindings::bound))]
+pub fn bound(
     alloc: Global,
-    names: &Names<'_>,
+    spaces: &[Space],
+    names: &Names,
+    binding: &Binding,
+) -> Result<Doing, AllocError>
+    ensures { IfOk result (λ doing. doing
+        ≡ spec.bound (map space_view spaces.now) (known names.now) binding.now) }
+{
+    match property_named(binding.class, binding.property.as_str()) {
+        Some(property) => bound_property(
+            alloc,
+            spaces,
+            names,
+            binding.node,
+            property,
+            binding.text.as_str(),
+        ),
+        None => Ok(at_fault(Flaw::Property)),
+    }
+}
+
+fn bound_property(
+    alloc: Global,
+    spaces: &[Space],
+    names: &Names,
     node: usize,
     property: &Property,
     text: &str,
-) -> Result<Deed, AllocError>
-    ensures { IfOk result (λ deed. deed
-        ≡ spec.bound_deed (known names.now) node (listed_property property.now) text.now) }
+) -> Result<Doing, AllocError>
+    ensures { IfOk result (λ doing. doing ≡ spec.bound_property (map space_view spaces.now) (known names.now) node
+        text.now (Some (listed_property property.now))) }
 {
     match read(alloc, text) {
-        Ok(parsed) => bound_over(alloc, names, node, property, parsed),
+        Ok(parsed) => bound_over(alloc, spaces, names, node, property, parsed),
         Err(error) => refused(error),
     }
 }
 
-fn refused(error: ExprError) -> Result<Deed, AllocError>
-    ensures { IfOk result (λ deed. spec.IsRefused error deed) }
+fn at_fault(flaw: Flaw) -> Doing
+    ensures { result ≡ spec.at_fault flaw }
+{
+    Doing::Fault(FaultKind::Flawed(flaw))
+}
+
+fn refused(error: ExprError) -> Result<Doing, AllocError>
+    ensures { IfOk result (λ doing. spec.IsRefused error doing) }
 {
     match error {
-        ExprError::Syntax => Ok(Deed::Flaw(Flaw::Expression)),
-        ExprError::Depth | ExprError::Operands => Ok(Deed::Flaw(Flaw::Limit)),
+        ExprError::Syntax => Ok(at_fault(Flaw::Expression)),
+        ExprError::Depth | ExprError::Operands => Ok(at_fault(Flaw::Limit)),
         ExprError::Memory => Err(AllocError),
     }
 }
 
 fn bound_over(
     alloc: Global,
-    names: &Names<'_>,
+    spaces: &[Space],
+    names: &Names,
     node: usize,
     property: &Property,
     parsed: Parsed,
-) -> Result<Deed, AllocError>
+) -> Result<Doing, AllocError>
     requires { IsTrue (is_within (tree parsed.expr) (length parsed.paths)) }
-    ensures { IfOk result (λ deed. deed ≡ spec.bound_over (known names.now) node
+    ensures { IfOk result (λ doing. doing ≡ spec.bound_over (map space_view spaces.now) (known names.now) node
         (listed_property property.now) (tree parsed.expr) parsed.paths) }
 {
-    if !are_named(names, parsed.paths.as_slice()) {
-        return Ok(Deed::Flaw(Flaw::Name));
+    if !are_named(spaces, names, parsed.paths.as_slice()) {
+        return Ok(at_fault(Flaw::Name));
     }
     let values = values_of(alloc, names, parsed.paths.as_slice())?;
-    match operands_of(alloc, names, parsed.paths.as_slice())? {
+    match operands_of(alloc, spaces, names, parsed.paths.as_slice())? {
         Some(operands) => {
             let expr = fill(alloc, parsed, values)?;
             bound_to(alloc, node, property, expr, operands.as_slice())
         }
-        None => Ok(Deed::Flaw(Flaw::Property)),
+        None => Ok(at_fault(Flaw::Property)),
     }
 }
 
@@ -78,15 +108,15 @@ fn bound_to(
     property: &Property,
     expr: Expr,
     operands: &[Operand],
-) -> Result<Deed, AllocError>
+) -> Result<Doing, AllocError>
     requires { IsTrue (is_within (tree expr) (length operands.now)) }
-    ensures { IfOk result (λ deed. deed
+    ensures { IfOk result (λ doing. doing
         ≡ spec.bound_to node (listed_property property.now) (tree expr) (map operand_view operands.now)) }
 {
     let formula = formula_of(alloc, property.kind, expr, operands)?;
     let property = planned_property(alloc, node, property.name)?;
     let planned = planned_of(alloc, operands)?;
-    Ok(Deed::Step(PlannedStep::Bind(property, Formula::new(formula), planned)))
+    Ok(Doing::Step(PlannedStep::Bind(property, Formula::new(formula), planned)))
 }
 
 /// The expression of the kind that is wanted: a number or a truth is printed where a text is wanted.

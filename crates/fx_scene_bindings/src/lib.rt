@@ -6,5 +6,5 @@ mod names;
 mod operands;
 mod reading;
 
-pub use binding::bound_deed;
-pub use names::{add_name, behind, value_at};
+pub use binding::bound;
+pub use names::{add_name, add_named, attribute_named, value_at};

@@ -4,12 +4,12 @@ ghost use Rattle.std.specs.Option.{option_copied, option_map};
 ghost use Rattle.fx_kinds.specs.Listing.{listed_property};
 ghost use Rattle.fx_scene_bindings.specs.Bindings as spec;
 ghost use Rattle.fx_scene_bindings.specs.Views.{operand_view};
-ghost use Rattle.fx_scene_things.specs.Known.{known};
+ghost use Rattle.fx_scene_things.specs.Known.{known, space_view};
 
 use fx_base::{Kind, List, Text, Value};
 use fx_kinds::Property;
 use fx_scene_plan::PlannedProperty;
-use fx_scene_things::{Named, Names, Thing};
+use fx_scene_things::{Named, Names, Space, Thing, node_along};
 use fx_scene_values::{planned_property, property_named};
 use std::alloc::{AllocError, Global};
 
@@ -21,21 +21,31 @@ pub struct Operand {
 }
 
 /// Does each path lead to something?
-pub(crate) fn are_named(names: &Names<'_>, paths: &[List<Text>]) -> bool
-    ensures { result ≡ spec.are_named (known names.now) paths.now }
+pub(crate) fn are_named(spaces: &[Space], names: &Names, paths: &[List<Text>]) -> bool
+    ensures { result ≡ spec.are_named (map space_view spaces.now) (known names.now) paths.now }
 {
-    paths.iter().all(|path| is_named(names, path.as_slice()))
+    paths
+        .iter()
+        .all(|path| is_named(spaces, names, path.as_slice()))
 }
 
-/// A path leads to a value of a definition by its name, or to a node by the node's name and a property's.
-fn is_named(names: &Names<'_>, path: &[Text]) -> bool
-    ensures { result ≡ spec.is_named (known names.now) path.now }
+/// A path leads to a value of a definition by its name, or to a node, by the names in front of a property's.
+fn is_named(spaces: &[Space], names: &Names, path: &[Text]) -> bool
+    ensures { result ≡ spec.is_named (map space_view spaces.now) (known names.now) path.now }
 {
-    match path {
-        [name] => value_if(names.get(name.as_str())).is_some(),
-        [name, _] => names.node(name.as_str()).is_some(),
-        _ => false,
+    if path.len() == 1 {
+        value_of(names, path).is_some()
+    } else {
+        node_of(spaces, names, path).is_some()
     }
+}
+
+/// The node of a path, by the names of nodes in front of the last name, which is a property's.
+fn node_of(spaces: &[Space], names: &Names, path: &[Text]) -> Option<Named>
+    ensures { result ≡ spec.node_of (map space_view spaces.now) (known names.now) path.now }
+{
+    let front = path.split_at(path.len().saturating_sub(1)).0;
+    node_along(spaces, names, front)
 }
 
 fn value_if(thing: Option<&Thing>) -> Option<&Value>
@@ -58,7 +68,7 @@ fn defined_value(thing: &Thing) -> Option<&Value>
 }
 
 /// The value that a path of one name stands for.
-fn value_of<'n>(names: &'n Names<'_>, path: &[Text]) -> Option<&'n Value>
+fn value_of<'n>(names: &'n Names, path: &[Text]) -> Option<&'n Value>
     ensures { option_copied result ≡ spec.value_of (known names.now) path.now }
 {
     match path {
@@ -70,7 +80,7 @@ fn value_of<'n>(names: &'n Names<'_>, path: &[Text]) -> Option<&'n Value>
 /// The values among the paths.
 pub(crate) fn values_of(
     alloc: Global,
-    names: &Names<'_>,
+    names: &Names,
     paths: &[List<Text>],
 ) -> Result<Vec<Option<Value>>, AllocError>
     ensures { IfOk result (λ values. values.items ≡ spec.values_of (known names.now) paths.now) }
@@ -94,18 +104,19 @@ fn copied(alloc: Global, value: Option<&Value>) -> Result<Option<Value>, AllocEr
 /// The operands at the paths, unless a property isn't there. A value is no operand.
 pub(crate) fn operands_of(
     alloc: Global,
-    names: &Names<'_>,
+    spaces: &[Space],
+    names: &Names,
     paths: &[List<Text>],
 ) -> Result<Option<Vec<Operand>>, AllocError>
     ensures { IfOk result (λ operands. option_map (λ all. map operand_view all.items) operands
-        ≡ spec.operands_of (known names.now) paths.now) }
+        ≡ spec.operands_of (map space_view spaces.now) (known names.now) paths.now) }
 {
     let mut operands = Vec::with_capacity(alloc, paths.len())?;
     for path in paths {
         if value_of(names, path.as_slice()).is_some() {
             continue;
         }
-        match operand_of(names, path.as_slice()) {
+        match operand_of(spaces, names, path.as_slice()) {
             Some(operand) => operands.push(operand)?,
             None => return Ok(None),
         }
@@ -113,12 +124,14 @@ pub(crate) fn operands_of(
     Ok(Some(operands))
 }
 
-fn operand_of(names: &Names<'_>, path: &[Text]) -> Option<Operand>
-    ensures { option_map operand_view result ≡ spec.operand_of (known names.now) path.now }
+#[tactic(auto, unfolding(crate::specs::Bindings::operand_of))]
+fn operand_of(spaces: &[Space], names: &Names, path: &[Text]) -> Option<Operand>
+    ensures { option_map operand_view result
+        ≡ spec.operand_of (map space_view spaces.now) (known names.now) path.now }
 {
-    match path {
-        [name, property] => operand_in(property.as_str(), names.node(name.as_str())),
-        _ => None,
+    match path.get(path.len().saturating_sub(1)) {
+        Some(property) => operand_in(property.as_str(), node_of(spaces, names, path)),
+        None => None,
     }
 }
 

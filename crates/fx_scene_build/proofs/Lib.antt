@@ -1,2 +1,3 @@
 pub mod PropertyLemmas
+pub mod RoomLemmas
 pub mod StepLemmas

@@ -1,7 +1,10 @@
 -- What is answered of one step of a plan.
 use Rattle.std.specs.Prelude.{◌≡◌, ℕ, Result, Ok, Err}
+use Rattle.fx_tree.specs.declared.TreeError.{TreeError}
+use Rattle.fx_tree.specs.declared.TreeError.TheVariants as tree
 use Rattle.fx_stage_types.specs.declared.answers.StageError.{StageError}
 use Rattle.fx_stage_types.specs.declared.answers.StageError.TheVariants.{Refused, Memory}
+use Rattle.fx_stage_types.specs.declared.refusals.Refusal.TheVariants.{Unknown}
 use Rattle.fx_scene_plan.specs.declared.steps.PlannedStep.{PlannedStep}
 use Rattle.fx_scene_plan.specs.Plans.{Standing, stepped}
 
@@ -10,3 +13,8 @@ abbrev pub IsStepTaken : {T : Type 0} → PlannedStep → Standing → Standing 
 IsStepTaken step before now (Ok done) = (slot : ℕ) × (stepped slot step before ≡ Ok now)
 IsStepTaken step before now (Err (Refused word)) = (slot : ℕ) × (stepped slot step before ≡ Err word)
 IsStepTaken step before now (Err Memory) = Unit {0}
+
+-- why there is no path to a node
+abbrev pub IsPathRefusal : TreeError → StageError → Type 0
+IsPathRefusal tree.Memory error = error ≡ Memory
+IsPathRefusal _ error = error ≡ Refused Unknown

@@ -3,5 +3,7 @@
 
 mod building;
 mod resolving;
+mod room;
 
 pub use building::{build_scene, take_step};
+pub use room::look_for_room;

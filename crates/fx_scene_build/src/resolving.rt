@@ -56,7 +56,7 @@ pub fn resolve(
 }
 
 /// The node of this ordinal.
-fn key_at(keys: &[NodeKey], node: usize) -> Result<NodeKey, Refusal>
+pub(crate) fn key_at(keys: &[NodeKey], node: usize) -> Result<NodeKey, Refusal>
     ensures { result ≡ spec.key_in keys.now node }
 {
     match keys.get(node) {

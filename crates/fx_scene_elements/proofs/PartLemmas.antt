@@ -9,9 +9,10 @@ use Rattle.fx_doc.specs.declared.document.Content.{Content}
 use Rattle.fx_scene_acts.specs.declared.acts.Act.{Act}
 use Rattle.fx_scene_elements.specs.Added.{Asked, asked_then}
 use Rattle.fx_scene_elements.specs.Held.{held_asked, part_asked}
-use Rattle.fx_scene_elements.specs.Lists.{class_asked, class_part}
+use Rattle.fx_scene_elements.specs.Lists.{item_asked, list_asked}
 use Rattle.fx_scene_elements.specs.Targets.{Target}
 use Rattle.fx_scene_elements.specs.Tracks.{Told, part_told, tracks_told, with_part}
+use Rattle.fx_scene_elements.specs.declared.entries.Entry.{Entry}
 use Rattle.fx_scene_literals.specs.declared.instances.Want.{Want}
 use Rattle.fx_scene_literals.proofs.PartLemmas.{read_more}
 use Rattle.fx_scene_things.specs.Names.{Names}
@@ -86,25 +87,25 @@ held_names_more scope node name target first_names content i x first names next 
     (λ before head inner. refl) content i x names next h is known
     (more ∙ ap (λ b. (part_asked scope node name target b names (onto x Nothing)).names) alone)
 
-pub class_acts_more : (scope : Scope) (node : ℕ) (first_names : Names) (content : List Content) (i : ℕ) (x : Content)
-    (old now new : List Act) (names : Names) → i < length content → x ≡ get_or content i x
-    → now ≡ old ++ (class_asked scope first_names node (nodes_of (take i content))).acts
-    → names ≡ (class_asked scope first_names node (nodes_of (take i content))).names
-    → new ≡ now ++ (class_part scope names node (onto x Nothing)).acts
-    → new ≡ old ++ (class_asked scope first_names node (nodes_of (take (i + 1) content))).acts
-unfolding class_asked
-class_acts_more scope node first_names content i x old now new names h is so_far known more =
-    acts_more (class_asked scope first_names node) (λ before k item. class_part scope k node item)
+pub list_acts_more : (entry : Entry) (scope : Scope) (node : ℕ) (first_names : Names) (content : List Content) (i : ℕ)
+    (x : Content) (old now new : List Act) (names : Names) → i < length content → x ≡ get_or content i x
+    → now ≡ old ++ (list_asked entry scope first_names node (nodes_of (take i content))).acts
+    → names ≡ (list_asked entry scope first_names node (nodes_of (take i content))).names
+    → new ≡ now ++ (item_asked entry scope names node (onto x Nothing)).acts
+    → new ≡ old ++ (list_asked entry scope first_names node (nodes_of (take (i + 1) content))).acts
+unfolding list_asked
+list_acts_more entry scope node first_names content i x old now new names h is so_far known more =
+    acts_more (list_asked entry scope first_names node) (λ before k item. item_asked entry scope k node item)
     (λ before text spot. refl) (λ before head inner. refl) content i x old now new names h is so_far known more
 
-pub class_names_more : (scope : Scope) (node : ℕ) (first_names : Names) (content : List Content) (i : ℕ) (x : Content)
-    (names next : Names) → i < length content → x ≡ get_or content i x
-    → names ≡ (class_asked scope first_names node (nodes_of (take i content))).names
-    → next ≡ (class_part scope names node (onto x Nothing)).names
-    → next ≡ (class_asked scope first_names node (nodes_of (take (i + 1) content))).names
-unfolding class_asked
-class_names_more scope node first_names content i x names next h is known more =
-    names_more (class_asked scope first_names node) (λ before k item. class_part scope k node item)
+pub list_names_more : (entry : Entry) (scope : Scope) (node : ℕ) (first_names : Names) (content : List Content) (i : ℕ)
+    (x : Content) (names next : Names) → i < length content → x ≡ get_or content i x
+    → names ≡ (list_asked entry scope first_names node (nodes_of (take i content))).names
+    → next ≡ (item_asked entry scope names node (onto x Nothing)).names
+    → next ≡ (list_asked entry scope first_names node (nodes_of (take (i + 1) content))).names
+unfolding list_asked
+list_names_more entry scope node first_names content i x names next h is known more =
+    names_more (list_asked entry scope first_names node) (λ before k item. item_asked entry scope k node item)
     (λ before text spot. refl) (λ before head inner. refl) content i x names next h is known more
 
 -- constraints of columns and rows

@@ -8,12 +8,13 @@ use Rattle.fx_kinds.specs.declared.classes.Class.TheVariants as class
 use Rattle.fx_scene_acts.specs.declared.acts.Act.{Act}
 use Rattle.fx_scene_elements.specs.Added.{Asked, asked, flaw_at}
 use Rattle.fx_scene_elements.specs.Held.{held_asked}
-use Rattle.fx_scene_elements.specs.Lists.{class_asked}
+use Rattle.fx_scene_elements.specs.Lists.{list_asked}
 use Rattle.fx_scene_elements.specs.Targets.{Target, target_of}
 use Rattle.fx_scene_elements.specs.Tracks as track
 use Rattle.fx_scene_elements.specs.Tracks.{column_acts, columns_told, lanes_of, row_acts, rows_told}
 use Rattle.fx_scene_elements.specs.declared.elements.Listed.{Listed}
 use Rattle.fx_scene_elements.specs.declared.elements.Listed.TheVariants as listed
+use Rattle.fx_scene_elements.specs.declared.entries.Entry.TheVariants as entry
 use Rattle.fx_scene_elements.specs.declared.lanes.Lane.{Lane}
 use Rattle.fx_scene_flaws.specs.declared.flaws.Fault.{Fault}
 use Rattle.fx_scene_flaws.specs.declared.flaws.Flaw.{Flaw as Mistake}
@@ -81,11 +82,11 @@ abbrev pub rows_by : Head → List Lane → ℕ → ℕ → track.Told → Told
 rows_by head lanes owner node more =
     told (row_acts head.position lanes owner node more) (lanes_of owner true more.tracks) more.names
 
--- style sheets as elements aren't read yet
 abbrev pub items_told : Scope → Names → List Lane → ℕ → ℕ → Head → Nodes → Listed → Told
-items_told scope names lanes owner node head content listed.Classes = plain (class_asked scope names node content)
+items_told scope names lanes owner node head content listed.Classes =
+    plain (list_asked entry.Class scope names node content)
 items_told scope names lanes owner node head content listed.Sheets =
-    wrong (flaw_at head.position flaw.NotBuilt) names
+    plain (list_asked entry.Sheet scope names node content)
 items_told scope names lanes owner node head content listed.Columns =
     columns_by head lanes owner node (columns_told scope names lanes owner content)
 items_told scope names lanes owner node head content listed.Rows =

@@ -1,5 +1,6 @@
 pub mod Added
 pub mod Elements
+pub mod Entries
 pub mod Held
 pub mod Lists
 pub mod Targets

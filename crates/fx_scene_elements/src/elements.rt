@@ -6,9 +6,10 @@ ghost use Rattle.fx_scene_outline.specs.Views.{content_of, head_of};
 ghost use Rattle.fx_scene_things.specs.Known.{known};
 ghost use Rattle.fx_scene_values.specs.Views.{scope_view};
 
+use crate::entries::Entry;
 use crate::held::add_held;
 use crate::lanes::Lane;
-use crate::lists::add_classes;
+use crate::lists::add_entries;
 use crate::pushing::push_flaw;
 use crate::targets::{Target, target_of};
 use crate::tracks::{add_columns, add_rows};
@@ -37,14 +38,14 @@ pub enum Listed {
 /// Adds the acts of a property element of the instance at the place `owner`, which is the node of an ordinal and of the
 /// class, where these names are known, and grids have these constraints.
 #[tactic(auto, unfolding(crate::specs::Elements::element_told))]
-pub fn add_element<'a>(
+pub fn add_element(
     alloc: Global,
     scope: &Scope<'_>,
     owner: usize,
     node: usize,
     class: Class,
-    element: &'a Element,
-    names: &mut Names<'a>,
+    element: &Element,
+    names: &mut Names,
     lanes: &mut Vec<Lane>,
     acts: &mut Vec<Act>,
 ) -> Result<(), AllocError>
@@ -62,14 +63,14 @@ pub fn add_element<'a>(
 }
 
 /// A list has no attributes.
-fn add_list<'a>(
+fn add_list(
     alloc: Global,
     scope: &Scope<'_>,
     owner: usize,
     node: usize,
-    element: &'a Element,
+    element: &Element,
     list: Listed,
-    names: &mut Names<'a>,
+    names: &mut Names,
     lanes: &mut Vec<Lane>,
     acts: &mut Vec<Act>,
 ) -> Result<(), AllocError>
@@ -89,15 +90,14 @@ fn add_list<'a>(
     }
 }
 
-/// Style sheets as elements aren't read yet.
-fn add_items<'a>(
+fn add_items(
     alloc: Global,
     scope: &Scope<'_>,
     owner: usize,
     node: usize,
-    element: &'a Element,
+    element: &Element,
     list: Listed,
-    names: &mut Names<'a>,
+    names: &mut Names,
     lanes: &mut Vec<Lane>,
     acts: &mut Vec<Act>,
 ) -> Result<(), AllocError>
@@ -110,21 +110,25 @@ fn add_items<'a>(
 {
     match list {
         Listed::Classes => {
-            add_classes(alloc, scope, node, element.content.as_slice(), names, acts)
+            let content = element.content.as_slice();
+            add_entries(alloc, Entry::Class, scope, node, content, names, acts)
         }
-        Listed::Sheets => push_flaw(acts, element.position, Flaw::NotBuilt),
+        Listed::Sheets => {
+            let content = element.content.as_slice();
+            add_entries(alloc, Entry::Sheet, scope, node, content, names, acts)
+        }
         Listed::Columns => add_columns(alloc, scope, owner, node, element, names, lanes, acts),
         Listed::Rows => add_rows(alloc, scope, owner, node, element, names, lanes, acts),
     }
 }
 
-fn add_value<'a>(
+fn add_value(
     alloc: Global,
     scope: &Scope<'_>,
     node: usize,
     class: Class,
-    element: &'a Element,
-    names: &mut Names<'a>,
+    element: &Element,
+    names: &mut Names,
     acts: &mut Vec<Act>,
 ) -> Result<(), AllocError>
     ensures acts { OnOk result (acts.new.items ≡ acts.old.items ++ (spec.value_asked (scope_view scope.now)
@@ -138,13 +142,13 @@ fn add_value<'a>(
     }
 }
 
-fn add_bare<'a>(
+fn add_bare(
     alloc: Global,
     scope: &Scope<'_>,
     node: usize,
-    element: &'a Element,
+    element: &Element,
     target: Target,
-    names: &mut Names<'a>,
+    names: &mut Names,
     acts: &mut Vec<Act>,
 ) -> Result<(), AllocError>
     ensures acts { OnOk result (acts.new.items ≡ acts.old.items ++ (spec.target_asked (scope_view scope.now)

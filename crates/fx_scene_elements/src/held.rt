@@ -21,14 +21,14 @@ use fx_scene_values::Scope;
 use std::alloc::{AllocError, Global};
 
 /// Adds what the content of a property element of this name asks for.
-pub(crate) fn add_held<'a>(
+pub(crate) fn add_held(
     alloc: Global,
     scope: &Scope<'_>,
     node: usize,
     name: &Text,
     target: Target,
-    content: &'a [Content],
-    names: &mut Names<'a>,
+    content: &[Content],
+    names: &mut Names,
     acts: &mut Vec<Act>,
 ) -> Result<(), AllocError>
     ensures acts { OnOk result (acts.new.items ≡ acts.old.items ++ (spec.held_asked (scope_view scope.now) node name.now
@@ -44,15 +44,15 @@ pub(crate) fn add_held<'a>(
     Ok(())
 }
 
-fn add_part<'a>(
+fn add_part(
     alloc: Global,
     scope: &Scope<'_>,
     node: usize,
     name: &Text,
     target: Target,
     first: bool,
-    item: &'a Content,
-    names: &mut Names<'a>,
+    item: &Content,
+    names: &mut Names,
     acts: &mut Vec<Act>,
 ) -> Result<(), AllocError>
     ensures acts { OnOk result (acts.new.items ≡ acts.old.items ++ (spec.part_asked (scope_view scope.now) node name.now
@@ -75,15 +75,15 @@ fn add_part<'a>(
     }
 }
 
-fn add_item<'a>(
+fn add_item(
     alloc: Global,
     scope: &Scope<'_>,
     node: usize,
     name: &Text,
     target: Target,
     first: bool,
-    item: &'a Content,
-    names: &mut Names<'a>,
+    item: &Content,
+    names: &mut Names,
     acts: &mut Vec<Act>,
 ) -> Result<(), AllocError>
     ensures acts { OnOk result (acts.new.items ≡ acts.old.items ++ (spec.item_asked (scope_view scope.now) node name.now
@@ -96,15 +96,15 @@ fn add_item<'a>(
 }
 
 /// A value is given by a reference before the content is looked at that a reference may not have.
-fn add_reference<'a>(
+fn add_reference(
     alloc: Global,
     scope: &Scope<'_>,
     node: usize,
     name: &Text,
     target: Target,
     first: bool,
-    element: &'a Element,
-    names: &mut Names<'a>,
+    element: &Element,
+    names: &mut Names,
     acts: &mut Vec<Act>,
 ) -> Result<(), AllocError>
     ensures acts { OnOk result (acts.new.items ≡ acts.old.items ++ (spec.reference_asked (scope_view scope.now) node
@@ -119,11 +119,11 @@ fn add_reference<'a>(
 }
 
 /// Adds what is wrong with the content of an element that may have none.
-pub(crate) fn add_closed<'a>(
+pub(crate) fn add_closed(
     alloc: Global,
     scope: &Scope<'_>,
-    element: &'a Element,
-    names: &mut Names<'a>,
+    element: &Element,
+    names: &mut Names,
     acts: &mut Vec<Act>,
 ) -> Result<(), AllocError>
     ensures acts { OnOk result (acts.new.items ≡ acts.old.items

@@ -1,8 +1,9 @@
-//! What property elements ask for: values of properties and of constraints, style classes, and the constraints of columns
-//! and rows.
+//! What property elements ask for: values of properties and of constraints, style classes and style sheets, and the
+//! constraints of columns and rows.
 #![tactic(auto)]
 
 mod elements;
+mod entries;
 mod held;
 mod lanes;
 mod lists;

@@ -27,13 +27,13 @@ use std::alloc::{AllocError, Global};
 const TRACK_LIMIT: usize = 256;
 
 /// Adds further columns of the grid at the place `owner`, which is the node of an ordinal.
-pub(crate) fn add_columns<'a>(
+pub(crate) fn add_columns(
     alloc: Global,
     scope: &Scope<'_>,
     owner: usize,
     node: usize,
-    element: &'a Element,
-    names: &mut Names<'a>,
+    element: &Element,
+    names: &mut Names,
     lanes: &mut Vec<Lane>,
     acts: &mut Vec<Act>,
 ) -> Result<(), AllocError>
@@ -65,13 +65,13 @@ pub(crate) fn add_columns<'a>(
 }
 
 /// Adds further rows of the grid at the place `owner`, which is the node of an ordinal.
-pub(crate) fn add_rows<'a>(
+pub(crate) fn add_rows(
     alloc: Global,
     scope: &Scope<'_>,
     owner: usize,
     node: usize,
-    element: &'a Element,
-    names: &mut Names<'a>,
+    element: &Element,
+    names: &mut Names,
     lanes: &mut Vec<Lane>,
     acts: &mut Vec<Act>,
 ) -> Result<(), AllocError>
@@ -117,13 +117,13 @@ fn add_step(
 }
 
 /// The constraints that some content has, behind these. Adds what is wrong with it.
-fn add_tracks<'a>(
+fn add_tracks(
     alloc: Global,
     scope: &Scope<'_>,
     want: Want,
     earlier: &[Track],
-    content: &'a [Content],
-    names: &mut Names<'a>,
+    content: &[Content],
+    names: &mut Names,
     acts: &mut Vec<Act>,
 ) -> Result<Vec<Track>, AllocError>
     ensures acts { OnOk result (acts.new.items ≡ acts.old.items ++ (spec.tracks_told (scope_view scope.now) want
@@ -141,13 +141,13 @@ fn add_tracks<'a>(
     Ok(tracks)
 }
 
-fn add_part<'a>(
+fn add_part(
     alloc: Global,
     scope: &Scope<'_>,
     want: Want,
     count: usize,
-    item: &'a Content,
-    names: &mut Names<'a>,
+    item: &Content,
+    names: &mut Names,
     tracks: &mut Vec<Track>,
     acts: &mut Vec<Act>,
 ) -> Result<(), AllocError>
@@ -169,13 +169,13 @@ fn add_part<'a>(
     }
 }
 
-fn add_reference<'a>(
+fn add_reference(
     alloc: Global,
     scope: &Scope<'_>,
     want: Want,
     count: usize,
-    element: &'a Element,
-    names: &mut Names<'a>,
+    element: &Element,
+    names: &mut Names,
     tracks: &mut Vec<Track>,
     acts: &mut Vec<Act>,
 ) -> Result<(), AllocError>
@@ -211,13 +211,13 @@ fn limited(count: usize, place: Position, found: Found) -> Found
     }
 }
 
-fn add_item<'a>(
+fn add_item(
     alloc: Global,
     scope: &Scope<'_>,
     want: Want,
     count: usize,
-    element: &'a Element,
-    names: &mut Names<'a>,
+    element: &Element,
+    names: &mut Names,
     tracks: &mut Vec<Track>,
     acts: &mut Vec<Act>,
 ) -> Result<(), AllocError>
@@ -234,13 +234,13 @@ fn add_item<'a>(
     }
 }
 
-fn add_class<'a>(
+fn add_class(
     alloc: Global,
     scope: &Scope<'_>,
     count: usize,
-    element: &'a Element,
+    element: &Element,
     class: Class,
-    names: &mut Names<'a>,
+    names: &mut Names,
     tracks: &mut Vec<Track>,
     acts: &mut Vec<Act>,
 ) -> Result<(), AllocError>

@@ -17,6 +17,8 @@ pub enum Flaw {
     Duplicate,
     /// Nothing has the name that is used.
     Name,
+    /// The file that is included is being read already.
+    IncludeCycle,
     /// A text between `${` and `}` is no expression.
     Expression,
     /// Kinds differ.

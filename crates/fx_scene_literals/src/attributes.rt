@@ -19,12 +19,12 @@ use fx_text::is_identifier;
 use std::alloc::{AllocError, Global};
 
 /// What an instance of the class is by its attributes.
-pub(crate) fn made_from<'a>(
+pub(crate) fn made_from(
     alloc: Global,
     scope: &Scope<'_>,
     class: Class,
-    attributes: &'a [Attribute],
-    names: &mut Names<'a>,
+    attributes: &[Attribute],
+    names: &mut Names,
 ) -> Result<Found, AllocError>
     ensures found { IfOk result (λ found. found ≡ (spec.made_from (scope_view scope.now) class (first_made class)
         (known names.old) (map attr_view attributes.now)).found) }
@@ -42,13 +42,13 @@ pub(crate) fn made_from<'a>(
 }
 
 /// What is made behind the attribute.
-fn read_attribute<'a>(
+fn read_attribute(
     alloc: Global,
     scope: &Scope<'_>,
     class: Class,
-    a: &'a Attribute,
+    a: &Attribute,
     made: Made,
-    names: &mut Names<'a>,
+    names: &mut Names,
 ) -> Result<Found, AllocError>
     ensures found { IfOk result (λ found. found
         ≡ (spec.attribute_told (scope_view scope.now) class (attr_view a.now) made (known names.old)).found) }
@@ -56,13 +56,18 @@ fn read_attribute<'a>(
         ≡ (spec.attribute_told (scope_view scope.now) class (attr_view a.now) made (known names.old)).names) }
 {
     if a.name.as_str() == "fx:id" {
-        return open_name(a, made, names);
+        return open_name(alloc, a, made, names);
     }
     made_after(alloc, scope, names, class, a, made)
 }
 
 /// A name is an identifier that nothing before has. It stands for nothing until what has it is whole.
-fn open_name<'a>(a: &'a Attribute, made: Made, names: &mut Names<'a>) -> Result<Found, AllocError>
+fn open_name(
+    alloc: Global,
+    a: &Attribute,
+    made: Made,
+    names: &mut Names,
+) -> Result<Found, AllocError>
     ensures found { IfOk result (λ found. found ≡ (spec.id_told (known names.old) (attr_view a.now) made).found) }
     ensures names { OnOk result (known names.new ≡ (spec.id_told (known names.old) (attr_view a.now) made).names) }
 {
@@ -72,7 +77,7 @@ fn open_name<'a>(a: &'a Attribute, made: Made, names: &mut Names<'a>) -> Result<
     if names.has(a.value.as_str()) {
         return Ok(Found::Flaw(Flaw::Duplicate, a.position));
     }
-    names.put(a.value.as_str(), Thing::Open)?;
+    names.put(alloc, a.value.as_str(), Thing::Open)?;
     Ok(Found::Whole(made))
 }
 
@@ -80,7 +85,7 @@ fn open_name<'a>(a: &'a Attribute, made: Made, names: &mut Names<'a>) -> Result<
 fn made_after(
     alloc: Global,
     scope: &Scope<'_>,
-    names: &Names<'_>,
+    names: &Names,
     class: Class,
     a: &Attribute,
     made: Made,
@@ -97,7 +102,7 @@ fn made_after(
 fn field_after(
     alloc: Global,
     scope: &Scope<'_>,
-    names: &Names<'_>,
+    names: &Names,
     class: Class,
     field: Field,
     a: &Attribute,
@@ -116,7 +121,7 @@ fn field_after(
 fn unnamed_after(
     alloc: Global,
     scope: &Scope<'_>,
-    names: &Names<'_>,
+    names: &Names,
     class: Class,
     a: &Attribute,
     made: Made,
@@ -139,7 +144,7 @@ fn is_font(class: Class) -> bool
 fn plain_after(
     alloc: Global,
     scope: &Scope<'_>,
-    names: &Names<'_>,
+    names: &Names,
     class: Class,
     a: &Attribute,
 ) -> Result<Found, AllocError>
@@ -155,7 +160,7 @@ fn plain_after(
 fn location_after(
     alloc: Global,
     scope: &Scope<'_>,
-    names: &Names<'_>,
+    names: &Names,
     a: &Attribute,
 ) -> Result<Found, AllocError>
     ensures { IfOk result (λ found. found

@@ -50,13 +50,13 @@ pub(crate) fn kept(made: Made, found: Found) -> Found
 }
 
 /// A whole value, which is known by its name from now on.
-pub(crate) fn finish<'a>(
+pub(crate) fn finish(
     alloc: Global,
     class: Class,
     defined: bool,
-    attributes: &'a [Attribute],
+    attributes: &[Attribute],
     found: Found,
-    names: &mut Names<'a>,
+    names: &mut Names,
 ) -> Result<Found, AllocError>
     ensures found { IfOk result (λ next. next ≡ (spec.whole_then (map attr_view attributes.now) class defined
         (spec.told found (known names.old))).found) }
@@ -66,23 +66,24 @@ pub(crate) fn finish<'a>(
     match found {
         Found::Whole(made) => {
             let thing = thing_of(alloc, class, defined, &made)?;
-            put_thing(value_at(attributes, "fx:id"), thing, names)?;
+            put_thing(alloc, value_at(attributes, "fx:id"), thing, names)?;
             Ok(Found::Whole(made))
         }
         Found::Flaw(flaw, place) => Ok(Found::Flaw(flaw, place)),
     }
 }
 
-fn put_thing<'a>(
-    name: Option<&'a Text>,
+fn put_thing(
+    alloc: Global,
+    name: Option<&Text>,
     thing: Thing,
-    names: &mut Names<'a>,
+    names: &mut Names,
 ) -> Result<(), AllocError>
     ensures ok { OnOk result (known names.new
         ≡ spec.named_if (known names.old) thing (option_map (λ text. text.now) name.entry)) }
 {
     match name {
-        Some(name) => names.put(name.as_str(), thing),
+        Some(name) => names.put(alloc, name.as_str(), thing),
         None => Ok(()),
     }
 }

@@ -28,13 +28,13 @@ use fx_scene_values::{Given, Scope, literal};
 use std::alloc::{AllocError, Global};
 
 /// What one part of a property element that holds one value of the kind makes, as the first part of it or a further one.
-pub fn one_part<'a>(
+pub fn one_part(
     alloc: Global,
     scope: &Scope<'_>,
     kind: Kind,
     first: bool,
-    item: &'a Content,
-    names: &mut Names<'a>,
+    item: &Content,
+    names: &mut Names,
 ) -> Result<Found, AllocError>
     ensures found { IfOk result (λ found. found ≡ (item_told (scope_view scope.now) (One kind) first spec.no_value
         (known names.old) (onto item.now Nothing)).found) }
@@ -54,13 +54,13 @@ pub fn one_part<'a>(
 
 /// An instance of the class by its attributes and its content, which stands right in a definition or not.
 #[tactic(auto, unfolding(crate::specs::Literals::whole))]
-pub fn whole<'a>(
+pub fn whole(
     alloc: Global,
     scope: &Scope<'_>,
-    element: &'a Element,
+    element: &Element,
     class: Class,
     defined: bool,
-    names: &mut Names<'a>,
+    names: &mut Names,
 ) -> Result<Found, AllocError>
     ensures found { IfOk result (λ found. found ≡ (spec.whole (scope_view scope.now) (known names.old)
         (head_of element.now) (content_of element.now) class defined).found) }
@@ -72,11 +72,11 @@ pub fn whole<'a>(
 
 /// The content of an element that may have none.
 #[tactic(auto, unfolding(crate::specs::Literals::closed))]
-pub fn closed<'a>(
+pub fn closed(
     alloc: Global,
     scope: &Scope<'_>,
-    element: &'a Element,
-    names: &mut Names<'a>,
+    element: &Element,
+    names: &mut Names,
 ) -> Result<Found, AllocError>
     ensures found { IfOk result (λ found. found
         ≡ (spec.closed (scope_view scope.now) (known names.old) (content_of element.now)).found) }
@@ -95,13 +95,13 @@ pub fn closed<'a>(
 
 /// What is made behind some content.
 #[cycle(reading)]
-fn read_content<'a>(
+fn read_content(
     alloc: Global,
     scope: &Scope<'_>,
     part: Part,
     made: Made,
-    content: &'a [Content],
-    names: &mut Names<'a>,
+    content: &[Content],
+    names: &mut Names,
 ) -> Result<Found, AllocError>
     ensures found { IfOk result (λ found. found
         ≡ (spec.read_in (scope_view scope.now) part made (known names.old) (nodes_of content.now)).found) }
@@ -118,14 +118,14 @@ fn read_content<'a>(
 }
 
 #[cycle(reading)]
-fn read_part<'a>(
+fn read_part(
     alloc: Global,
     scope: &Scope<'_>,
     part: Part,
     first: bool,
     found: Found,
-    item: &'a Content,
-    names: &mut Names<'a>,
+    item: &Content,
+    names: &mut Names,
 ) -> Result<Found, AllocError>
     ensures found { IfOk result (λ next. next ≡ (part_told (scope_view scope.now) part first
         (spec.told found (known names.old)) (onto item.now Nothing)).found) }
@@ -139,14 +139,14 @@ fn read_part<'a>(
 }
 
 #[cycle(reading)]
-fn read_item<'a>(
+fn read_item(
     alloc: Global,
     scope: &Scope<'_>,
     part: Part,
     first: bool,
     made: Made,
-    item: &'a Content,
-    names: &mut Names<'a>,
+    item: &Content,
+    names: &mut Names,
 ) -> Result<Found, AllocError>
     ensures found { IfOk result (λ next. next ≡ (item_told (scope_view scope.now) part first made
         (known names.old) (onto item.now Nothing)).found) }
@@ -160,14 +160,14 @@ fn read_item<'a>(
 }
 
 #[cycle(reading)]
-fn read_child<'a>(
+fn read_child(
     alloc: Global,
     scope: &Scope<'_>,
     part: Part,
     first: bool,
     made: Made,
-    element: &'a Element,
-    names: &mut Names<'a>,
+    element: &Element,
+    names: &mut Names,
 ) -> Result<Found, AllocError>
     ensures found { IfOk result (λ next. next ≡ (spec.child_told (scope_view scope.now) part first made (known names.old)
         (λ p m k. spec.read_in (scope_view scope.now) p m k (content_of element.now)) (head_of element.now)
@@ -186,12 +186,12 @@ fn read_child<'a>(
 
 /// One value, as an instance or a reference.
 #[cycle(reading)]
-fn read_one<'a>(
+fn read_one(
     alloc: Global,
     scope: &Scope<'_>,
     want: Want,
-    element: &'a Element,
-    names: &mut Names<'a>,
+    element: &Element,
+    names: &mut Names,
 ) -> Result<Found, AllocError>
     ensures found { IfOk result (λ next. next ≡ (spec.one_told (scope_view scope.now)
         (λ p m k. spec.read_in (scope_view scope.now) p m k (content_of element.now)) (known names.old) want
@@ -207,12 +207,12 @@ fn read_one<'a>(
 }
 
 #[cycle(reading)]
-fn read_reference<'a>(
+fn read_reference(
     alloc: Global,
     scope: &Scope<'_>,
     want: Want,
-    element: &'a Element,
-    names: &mut Names<'a>,
+    element: &Element,
+    names: &mut Names,
 ) -> Result<Found, AllocError>
     ensures found { IfOk result (λ next. next ≡ (spec.reference_told
         (λ p m k. spec.read_in (scope_view scope.now) p m k (content_of element.now)) (known names.old) want
@@ -226,12 +226,12 @@ fn read_reference<'a>(
 }
 
 #[cycle(reading)]
-fn read_closed<'a>(
+fn read_closed(
     alloc: Global,
     scope: &Scope<'_>,
     found: Found,
-    element: &'a Element,
-    names: &mut Names<'a>,
+    element: &Element,
+    names: &mut Names,
 ) -> Result<Found, AllocError>
     ensures found { IfOk result (λ next. next ≡ (spec.closed_then
         (λ p m k. spec.read_in (scope_view scope.now) p m k (content_of element.now))
@@ -250,13 +250,13 @@ fn read_closed<'a>(
 }
 
 #[cycle(reading)]
-fn read_value<'a>(
+fn read_value(
     alloc: Global,
     scope: &Scope<'_>,
     want: Want,
     defined: bool,
-    element: &'a Element,
-    names: &mut Names<'a>,
+    element: &Element,
+    names: &mut Names,
 ) -> Result<Found, AllocError>
     ensures found { IfOk result (λ next. next ≡ (spec.value_told (scope_view scope.now)
         (λ p m k. spec.read_in (scope_view scope.now) p m k (content_of element.now)) (known names.old) want defined
@@ -272,13 +272,13 @@ fn read_value<'a>(
 }
 
 #[cycle(reading)]
-fn read_fields<'a>(
+fn read_fields(
     alloc: Global,
     scope: &Scope<'_>,
-    element: &'a Element,
+    element: &Element,
     class: Class,
     defined: bool,
-    names: &mut Names<'a>,
+    names: &mut Names,
 ) -> Result<Found, AllocError>
     ensures found { IfOk result (λ next. next ≡ (spec.class_told (scope_view scope.now)
         (λ p m k. spec.read_in (scope_view scope.now) p m k (content_of element.now)) (known names.old)
@@ -301,13 +301,13 @@ fn read_fields<'a>(
 }
 
 #[cycle(reading)]
-fn read_inside<'a>(
+fn read_inside(
     alloc: Global,
     scope: &Scope<'_>,
     class: Class,
     found: Found,
-    element: &'a Element,
-    names: &mut Names<'a>,
+    element: &Element,
+    names: &mut Names,
 ) -> Result<Found, AllocError>
     ensures found { IfOk result (λ next. next ≡ (spec.inside_then
         (λ p m k. spec.read_in (scope_view scope.now) p m k (content_of element.now)) class
@@ -327,13 +327,13 @@ fn read_inside<'a>(
 
 /// A property element or a definition within a value.
 #[cycle(reading)]
-fn read_field<'a>(
+fn read_field(
     alloc: Global,
     scope: &Scope<'_>,
     class: Class,
     made: Made,
-    element: &'a Element,
-    names: &mut Names<'a>,
+    element: &Element,
+    names: &mut Names,
 ) -> Result<Found, AllocError>
     ensures found { IfOk result (λ next. next ≡ (spec.field_told (scope_view scope.now)
         (λ p m k. spec.read_in (scope_view scope.now) p m k (content_of element.now)) (known names.old) class made
@@ -350,12 +350,12 @@ fn read_field<'a>(
 
 /// A definition within a value has no attributes.
 #[cycle(reading)]
-fn read_define<'a>(
+fn read_define(
     alloc: Global,
     scope: &Scope<'_>,
     made: Made,
-    element: &'a Element,
-    names: &mut Names<'a>,
+    element: &Element,
+    names: &mut Names,
 ) -> Result<Found, AllocError>
     ensures found { IfOk result (λ next. next ≡ (spec.define_by
         (λ p m k. spec.read_in (scope_view scope.now) p m k (content_of element.now)) (known names.old) made
@@ -375,12 +375,12 @@ fn read_define<'a>(
 
 /// A value in a definition within a value.
 #[cycle(reading)]
-fn read_defined<'a>(
+fn read_defined(
     alloc: Global,
     scope: &Scope<'_>,
     made: Made,
-    element: &'a Element,
-    names: &mut Names<'a>,
+    element: &Element,
+    names: &mut Names,
 ) -> Result<Found, AllocError>
     ensures found { IfOk result (λ next. next ≡ (spec.kept_told made (spec.value_told (scope_view scope.now)
         (λ p m k. spec.read_in (scope_view scope.now) p m k (content_of element.now)) (known names.old) Defined
@@ -394,13 +394,13 @@ fn read_defined<'a>(
 }
 
 #[cycle(reading)]
-fn read_named<'a>(
+fn read_named(
     alloc: Global,
     scope: &Scope<'_>,
     class: Class,
     made: Made,
-    element: &'a Element,
-    names: &mut Names<'a>,
+    element: &Element,
+    names: &mut Names,
 ) -> Result<Found, AllocError>
     ensures found { IfOk result (λ next. next ≡ (spec.field_held
         (λ p m k. spec.read_in (scope_view scope.now) p m k (content_of element.now)) (known names.old) class made
@@ -419,14 +419,14 @@ fn read_named<'a>(
 
 /// A property element that holds one value for a field.
 #[cycle(reading)]
-fn read_held<'a>(
+fn read_held(
     alloc: Global,
     scope: &Scope<'_>,
     class: Class,
     field: Field,
     made: Made,
-    element: &'a Element,
-    names: &mut Names<'a>,
+    element: &Element,
+    names: &mut Names,
 ) -> Result<Found, AllocError>
     ensures found { IfOk result (λ next. next ≡ (spec.held_if
         (λ p m k. spec.read_in (scope_view scope.now) p m k (content_of element.now)) (known names.old) class field made

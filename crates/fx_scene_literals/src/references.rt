@@ -19,7 +19,7 @@ use std::alloc::{AllocError, Global};
 /// What a reference stands for where this is wanted, without a look at its content.
 pub fn referred(
     alloc: Global,
-    names: &Names<'_>,
+    names: &Names,
     want: Want,
     element: &Element,
 ) -> Result<Found, AllocError>
@@ -33,7 +33,7 @@ pub fn referred(
 
 fn open_reference(
     alloc: Global,
-    names: &Names<'_>,
+    names: &Names,
     want: Want,
     element: &Element,
     name: &str,
@@ -58,7 +58,7 @@ fn is_closed(want: Want) -> bool
 }
 
 /// What is wrong with the attributes of a reference, if anything is.
-fn attributes_fault(names: &Names<'_>, attributes: &[Attribute]) -> Option<Fault>
+fn attributes_fault(names: &Names, attributes: &[Attribute]) -> Option<Fault>
     ensures { result ≡ spec.attributes_fault (known names.now) (map attr_view attributes.now) }
 {
     for a in attributes {
@@ -73,7 +73,7 @@ fn attributes_fault(names: &Names<'_>, attributes: &[Attribute]) -> Option<Fault
 }
 
 /// What is wrong with an attribute of a reference: it has one, the name of something.
-pub fn attribute_flaw(names: &Names<'_>, a: &Attribute) -> Option<Flaw>
+pub fn attribute_flaw(names: &Names, a: &Attribute) -> Option<Flaw>
     ensures { result ≡ spec.attribute_flaw (known names.now) (attr_view a.now) }
 {
     if a.name.as_str() != "source" {

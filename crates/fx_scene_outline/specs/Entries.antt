@@ -11,7 +11,7 @@ use Rattle.fx_scene_flaws.specs.declared.flaws.Flaw.TheVariants as flaw
 use Rattle.fx_scene_names.specs.Names.{class_named, is_instance}
 use Rattle.fx_scene_outline.specs.Edges.{edge_named, has_edge}
 use Rattle.fx_scene_outline.specs.Nodes.{is_scene_node}
-use Rattle.fx_scene_outline.specs.Pieces.{Piece, Instance, Property, Reference, Value, Wrong}
+use Rattle.fx_scene_outline.specs.Pieces.{Piece, Include, Instance, Property, Reference, Value, Wrong}
 use Rattle.fx_scene_outline.specs.declared.edges.Earlier.{Earlier}
 use Rattle.fx_scene_outline.specs.declared.pieces.Room.{Room}
 use Rattle.fx_scene_outline.specs.declared.pieces.Room.TheVariants.{Closed, Inside, Listed}
@@ -109,13 +109,13 @@ abbrev pub seated : ℕ → Seat → Head → Nodes → Entry
 seated count seat.Aside head content = aside_if count head content (class_named head.name)
 seated count place head content = instance count place head
 
--- an instance of before, by its name
-abbrev pub reference : Seat → Head → Entry
-reference seat head = record { front = Reference seat head ∷ []; room = Some Closed }
+-- an element that may have no content
+abbrev pub closed : Piece → Entry
+closed piece = record { front = piece ∷ []; room = Some Closed }
 
--- includes aren't read yet
+-- an instance of before, by its name, or the root of another document
 abbrev pub insert : Seat → Head → Entry
-insert seat head = if is_reference head.name then reference seat head else wrong flaw.NotBuilt head.position
+insert seat head = if is_reference head.name then closed (Reference seat head) else closed (Include seat head)
 
 abbrev pub is_insert : List ℕ → Bool
 is_insert name = is_reference name || is_include name

@@ -11,6 +11,8 @@ pub data Piece : Type 0 where
   Instance : Seat → Head → Piece
   -- an instance of before, by its name
   Reference : Seat → Head → Piece
+  -- the root of another document
+  Include : Seat → Head → Piece
   -- an instance in a definition that is no node, with its content
   Value : Head → Nodes → Piece
   -- a property element of the instance at this place, which is of this class, with its content

@@ -8,7 +8,7 @@ use Rattle.fx_scene_flaws.specs.declared.flaws.Flaw.TheVariants as flaw
 use Rattle.fx_scene_outline.specs.Edges.{behind_element, behind_text}
 use Rattle.fx_scene_outline.specs.Entries.{Entry, entry}
 use Rattle.fx_scene_outline.specs.Outlines.{inside_of, pieces, with_content}
-use Rattle.fx_scene_outline.specs.Pieces.{Piece as PlainPiece, Instance, Property, Reference, Value, Wrong}
+use Rattle.fx_scene_outline.specs.Pieces.{Piece as PlainPiece, Include, Instance, Property, Reference, Value, Wrong}
 use Rattle.fx_scene_outline.specs.declared.edges.Earlier.{Earlier}
 use Rattle.fx_scene_outline.specs.declared.pieces.Piece.{Piece}
 use Rattle.fx_scene_outline.specs.declared.pieces.Piece.TheVariants as piece
@@ -28,6 +28,7 @@ content_of e = nodes_of (out-Element e).content.items
 abbrev pub piece_view : Piece → PlainPiece
 piece_view (piece.Instance seat e) = Instance seat (head_of e.now)
 piece_view (piece.Reference seat e) = Reference seat (head_of e.now)
+piece_view (piece.Include seat e) = Include seat (head_of e.now)
 piece_view (piece.Value e) = Value (head_of e.now) (content_of e.now)
 piece_view (piece.Property owner class e) = Property owner class (head_of e.now) (content_of e.now)
 piece_view (piece.Flaw flaw place) = Wrong flaw place

@@ -2,7 +2,7 @@
 ghost use Rattle.std.specs.Prelude.{◌≡◌, ◌++◌, OnOk, length, map};
 ghost use Rattle.fx_doc.specs.Views.{attr_view};
 ghost use Rattle.fx_scene_outline.specs.Entries as spec;
-ghost use Rattle.fx_scene_outline.specs.Views.{Entered, content_of, head_of, shown};
+ghost use Rattle.fx_scene_outline.specs.Views.{Entered, content_of, head_of, piece_view, shown};
 
 use crate::edges::{Earlier, edge_named};
 use crate::nodes::is_scene_node;
@@ -148,7 +148,7 @@ fn enter_instance<'a>(
     Ok(room_of(class_named(element.name.as_str()), count))
 }
 
-/// A reference may have no content. Includes aren't read yet.
+/// A reference and an include may have no content.
 fn enter_insert<'a>(
     element: &'a Element,
     seat: Seat,
@@ -157,19 +157,18 @@ fn enter_insert<'a>(
     ensures { Entered (spec.insert seat (head_of element.now)) pieces.old.items pieces.new.items result }
 {
     if is_reference(element.name.as_str()) {
-        return enter_reference(element, seat, pieces);
+        return enter_closed(Piece::Reference(seat, element), pieces);
     }
-    add_wrong(Flaw::NotBuilt, element.position, pieces)
+    enter_closed(Piece::Include(seat, element), pieces)
 }
 
-fn enter_reference<'a>(
-    element: &'a Element,
-    seat: Seat,
+fn enter_closed<'a>(
+    piece: Piece<'a>,
     pieces: &mut Vec<Piece<'a>>,
 ) -> Result<Option<Room>, AllocError>
-    ensures { Entered (spec.reference seat (head_of element.now)) pieces.old.items pieces.new.items result }
+    ensures { Entered (spec.closed (piece_view piece.entry)) pieces.old.items pieces.new.items result }
 {
-    pieces.push(Piece::Reference(seat, element))?;
+    pieces.push(piece)?;
     Ok(Some(Room::Closed))
 }
 

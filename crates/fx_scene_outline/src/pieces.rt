@@ -26,6 +26,8 @@ pub enum Piece<'a> {
     Instance(Seat, &'a Element),
     /// An instance of before, by its name. What stands in the element follows, and may not stand there.
     Reference(Seat, &'a Element),
+    /// The root of another document. What stands in the element follows, and may not stand there.
+    Include(Seat, &'a Element),
     /// An instance in a definition that is no node, with its content.
     Value(&'a Element),
     /// A property element of the piece at this place, which is an instance of this class.

@@ -1,5 +1,5 @@
 -- What a plan makes of a world: each of its steps is a step of building, once the ordinals of nodes are keys.
-use Rattle.std.specs.Prelude.{◌≡◌, ℕ, not, List, [], ◌∷◌, ◌++◌, length, slice_get, Option, Some, None, Result, Ok, Err, Vec}
+use Rattle.std.specs.Prelude.{◌≡◌, ℕ, nat_lt, not, List, [], ◌∷◌, ◌++◌, length, slice_get, Option, Some, None, Result, Ok, Err, Vec}
 use Rattle.std.specs.Global.{Global}
 use Rattle.std.specs.Option.{option_map, option_to_list}
 use Rattle.fx_base.specs.Names.{name_of}
@@ -14,9 +14,10 @@ use Rattle.fx_stage_types.specs.declared.refusals.Refusal.TheVariants as word
 use Rattle.fx_stage_types.specs.declared.steps.BuildStep.{BuildStep}
 use Rattle.fx_stage_types.specs.declared.steps.BuildStep.TheVariants as step
 use Rattle.fx_stage_model.specs.Answers.{Taken, and_then, or_word, unless}
-use Rattle.fx_stage_model.specs.Building.{built, node_made}
+use Rattle.fx_stage_model.specs.Building.{built, living, node_made}
 use Rattle.fx_stage_model.specs.Looking.{property_in}
 use Rattle.fx_stage_model.specs.World.{World}
+use Rattle.fx_tree.specs.Scene.{path}
 use Rattle.fx_scene_plan.specs.declared.steps.PlannedProperty.{PlannedProperty}
 use Rattle.fx_scene_plan.specs.declared.steps.PlannedStep.{PlannedStep}
 use Rattle.fx_scene_plan.specs.declared.steps.PlannedStep.TheVariants as planned
@@ -101,6 +102,19 @@ built_on slot standing step =
 -- what one step makes of what stands, or the word that refuses it; what it makes anew is kept in this slot
 unfoldable pub stepped : ℕ → PlannedStep → Standing → Result Standing Refusal
 stepped slot planned standing = and_then (resolved standing planned) (built_on slot standing)
+
+-- a node below which a tree of at most 64 levels has room, or the word for why there is none
+unfoldable pub room_below : World → NodeKey → Result NodeKey Refusal
+room_below world key =
+    and_then (living world key) (λ (there : NodeKey).
+    unless (nat_lt 63 (length (path world.graph.tree.nodes key))) word.Depth (Ok key))
+
+-- A further node has room under the one of this ordinal, in a tree of at most 64 levels, or this word tells why not.
+-- Nothing is made.
+unfoldable pub roomy : Standing → ℕ → Result Standing Refusal
+roomy standing node =
+    and_then (key_in standing.keys node) (λ (key : NodeKey).
+    and_then (room_below standing.world key) (λ (there : NodeKey). Ok standing))
 
 -- What the steps make of what stands, one after another, or the word that refuses the first of them that is refused.
 -- Each node is kept in some slot.

@@ -8,7 +8,7 @@ ghost use Rattle.fx_scene_raise.specs.declared.errors.RaiseError.TheVariants.{Fa
 use crate::errors::RaiseError;
 use fx_base::{Ledgers, NodeKey, Place, Work};
 use fx_scene_acts::{Doing, SceneFault, Task, flaw_of};
-use fx_scene_build::take_step;
+use fx_scene_build::{look_for_room, take_step};
 use fx_scene_flaws::FaultKind;
 use fx_stage::Stage;
 use fx_stage_types::StageError;
@@ -47,6 +47,7 @@ fn take_task<L: Ledgers>(
     match doing {
         Doing::Step(step) => told(place, take_step(alloc, stage, keys, step, work)),
         Doing::Fault(kind) => Err(fault(place, kind)),
+        Doing::Room(node) => told(place, look_for_room(alloc, stage, keys.as_slice(), node)),
     }
 }
 

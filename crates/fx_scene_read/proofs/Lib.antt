@@ -1,2 +1,2 @@
-pub mod ActLemmas
 pub mod CountLemmas
+pub mod WalkLemmas

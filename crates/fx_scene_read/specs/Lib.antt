@@ -1,5 +1,5 @@
 pub mod Acting
-pub mod Documents
 pub mod Opening
+pub mod Pieces
 pub mod References
 pub mod Sheets

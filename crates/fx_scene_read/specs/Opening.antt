@@ -1,27 +1,21 @@
 -- How an instance comes to stand: what is wrong with its name or its place, or the steps by which its node is made.
-use Rattle.std.specs.Prelude.{ℕ, nat_le, Bool, true, false, ◌==◌, List, count_by, take, Option, Some, None, if◌then◌else◌}
+use Rattle.std.specs.Prelude.{ℕ, nat_le, Bool, true, false, ◌==◌, List, count_by, slice_get, unwrap_or, Option, Some, None, if◌then◌else◌}
 use Rattle.fx_doc_grammar.specs.Grammar.{Attr, Head}
 use Rattle.fx_kinds.specs.declared.classes.Class.{Class}
 use Rattle.fx_scene_flaws.specs.declared.flaws.Flaw.{Flaw}
 use Rattle.fx_scene_flaws.specs.declared.flaws.Flaw.TheVariants as flaw
 use Rattle.fx_scene_literals.specs.Needs.{is_scene_node, lacks_value}
 use Rattle.fx_scene_names.specs.Names.{lacks_import}
-use Rattle.fx_scene_outline.specs.Pieces.{Piece, Instance, Reference}
+use Rattle.fx_scene_outline.specs.Pieces.{Piece, Include, Instance, Reference}
 use Rattle.fx_scene_outline.specs.declared.pieces.Seat.{Seat}
 use Rattle.fx_scene_outline.specs.declared.pieces.Seat.TheVariants as seat
 use Rattle.fx_scene_plan.specs.declared.steps.PlannedStep.{PlannedStep}
 use Rattle.fx_scene_plan.specs.declared.steps.PlannedStep.TheVariants as planned
+use Rattle.fx_scene_read.specs.declared.opening.Stand.{Stand}
+use Rattle.fx_scene_read.specs.declared.opening.Stand.TheVariants as stand
 use Rattle.fx_stage_types.specs.declared.steps.Spot.TheVariants.{At, On}
 
 -- ordinals and places
-
-abbrev pub is_instance : Piece → Bool
-is_instance (Instance seat head) = true
-is_instance _ = false
-
--- how many instances there are, which is the ordinal of the next one's node
-unfoldable pub instances : List Piece → ℕ
-instances pieces = count_by is_instance pieces
 
 abbrev pub is_child_of : ℕ → Seat → Bool
 is_child_of owner (seat.Child parent) = parent == owner
@@ -30,15 +24,16 @@ is_child_of owner _ = false
 abbrev pub is_child : ℕ → Piece → Bool
 is_child owner (Instance seat head) = is_child_of owner seat
 is_child owner (Reference seat head) = is_child_of owner seat
+is_child owner (Include seat head) = is_child_of owner seat
 is_child owner _ = false
 
 -- how many children a piece has
 unfoldable pub children : ℕ → List Piece → ℕ
 children owner pieces = count_by (is_child owner) pieces
 
--- the ordinal of the node of a piece, among these
-abbrev pub node_at : ℕ → List Piece → ℕ
-node_at owner before = instances (take owner before)
+-- the ordinal of the node of the piece at this place, where each piece has that of the next node in front of it
+abbrev pub node_at : ℕ → List ℕ → ℕ
+node_at owner nodes = unwrap_or (slice_get nodes owner) 0
 
 -- A value may not stand where a node must. Defined values aren't read yet.
 abbrev pub place_flaw : Seat → Flaw
@@ -64,11 +59,19 @@ opening_flaw imports node seat head class =
     else (if is_scene_node class head.attributes then node_flaw node seat
     else Some (value_flaw seat class head.attributes))
 
--- where the node of an instance stands, behind these pieces
-abbrev pub seat_step : List Piece → ℕ → Seat → Option PlannedStep
-seat_step before node seat.Root = Some (planned.Root node)
-seat_step before node (seat.Child owner) =
-    Some (planned.Child (node_at owner before) node (At (children owner before)))
-seat_step before node (seat.Edge owner edge) = Some (planned.Child (node_at owner before) node (On edge))
-seat_step before node seat.Aside = None
-seat_step before node seat.Nowhere = None
+-- where a node comes to stand, behind these pieces with these ordinals
+abbrev pub stand_at : List Piece → List ℕ → Seat → Stand
+stand_at before nodes seat.Root = stand.Root
+stand_at before nodes (seat.Child owner) = stand.Below (node_at owner nodes) (At (children owner before))
+stand_at before nodes (seat.Edge owner edge) = stand.Below (node_at owner nodes) (On edge)
+stand_at before nodes seat.Aside = stand.Aside
+stand_at before nodes seat.Nowhere = stand.Aside
+
+-- the step by which a node comes to stand there
+abbrev pub stand_step : Stand → ℕ → Option PlannedStep
+stand_step stand.Root node = Some (planned.Root node)
+stand_step (stand.Below owner spot) node = Some (planned.Child owner node spot)
+stand_step stand.Aside node = None
+
+abbrev pub seat_step : List Piece → List ℕ → ℕ → Seat → Option PlannedStep
+seat_step before nodes node seat = stand_step (stand_at before nodes seat) node

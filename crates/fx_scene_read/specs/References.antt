@@ -31,9 +31,9 @@ abbrev pub reference_attribute : Names → Attr → List Act
 reference_attribute names a = name_acts a.position (attribute_flaw names a)
 
 -- only a node may stand there
-abbrev pub seated_acts : List Piece → Seat → Position → Option Named → List Act
-seated_acts before place spot None = flaw_at spot flaw.Child
-seated_acts before place spot (Some known) = step_if spot (seat_step before known.node place)
+abbrev pub seated_acts : List Piece → List ℕ → Seat → Position → Option Named → List Act
+seated_acts before nodes place spot None = flaw_at spot flaw.Child
+seated_acts before nodes place spot (Some known) = step_if spot (seat_step before nodes known.node place)
 
 -- nothing is referred to among definitions
 abbrev pub is_closed : Seat → Bool
@@ -41,20 +41,20 @@ is_closed seat.Aside = true
 is_closed seat.Nowhere = true
 is_closed _ = false
 
-abbrev pub named_reference : Names → List Piece → Seat → Head → List ℕ → List Act
-named_reference names before place head name =
+abbrev pub named_reference : Names → List Piece → List ℕ → Seat → Head → List ℕ → List Act
+named_reference names before nodes place head name =
     flat_map (reference_attribute names) head.attributes
-    ++ seated_acts before place head.position (node_called names name)
+    ++ seated_acts before nodes place head.position (node_called names name)
 
-abbrev pub open_reference : Names → List Piece → Seat → Head → List ℕ → List Act
-open_reference names before place head name =
-    if is_closed place then flaw_at head.position flaw.Child else named_reference names before place head name
+abbrev pub open_reference : Names → List Piece → List ℕ → Seat → Head → List ℕ → List Act
+open_reference names before nodes place head name =
+    if is_closed place then flaw_at head.position flaw.Child else named_reference names before nodes place head name
 
-abbrev pub reference_if : Names → List Piece → Seat → Head → Option (List ℕ) → List Act
-reference_if names before place head None = flaw_at head.position flaw.Value
-reference_if names before place head (Some name) = open_reference names before place head name
+abbrev pub reference_if : Names → List Piece → List ℕ → Seat → Head → Option (List ℕ) → List Act
+reference_if names before nodes place head None = flaw_at head.position flaw.Value
+reference_if names before nodes place head (Some name) = open_reference names before nodes place head name
 
 -- a reference behind these pieces, which have these names: the node stands where the reference does
-unfoldable pub reference_acts : Names → List Piece → Seat → Head → List Act
-reference_acts names before place head =
-    reference_if names before place head (value_at head.attributes (codes "source"))
+unfoldable pub reference_acts : Names → List Piece → List ℕ → Seat → Head → List Act
+reference_acts names before nodes place head =
+    reference_if names before nodes place head (value_at head.attributes (codes "source"))

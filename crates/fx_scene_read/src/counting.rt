@@ -5,26 +5,6 @@ ghost use Rattle.fx_scene_read.specs.Opening as spec;
 
 use fx_scene_outline::{Piece, Seat};
 
-/// How many of the pieces are instances?
-#[tactic(auto, unfolding(crate::specs::Opening::instances))]
-pub(crate) fn instances(pieces: &[Piece<'_>]) -> usize
-    ensures { result ≡ spec.instances (shown pieces.now) }
-{
-    count_instances(pieces)
-}
-
-fn count_instances(pieces: &[Piece<'_>]) -> usize
-    ensures { result ≡ count_by (λ piece. spec.is_instance (piece_view piece)) pieces.now }
-{
-    pieces.iter().filter(|piece| is_instance(piece)).count()
-}
-
-fn is_instance(piece: &Piece<'_>) -> bool
-    ensures { result ≡ spec.is_instance (piece_view piece.now) }
-{
-    matches!(piece, Piece::Instance(_, _))
-}
-
 /// How many of the pieces are children of the piece at this place?
 #[tactic(auto, unfolding(crate::specs::Opening::children))]
 pub(crate) fn children(owner: usize, pieces: &[Piece<'_>]) -> usize
@@ -45,6 +25,7 @@ fn is_child(owner: usize, piece: &Piece<'_>) -> bool
     match piece {
         Piece::Instance(seat, _) => is_child_of(owner, *seat),
         Piece::Reference(seat, _) => is_child_of(owner, *seat),
+        Piece::Include(seat, _) => is_child_of(owner, *seat),
         _ => false,
     }
 }
@@ -58,12 +39,12 @@ fn is_child_of(owner: usize, seat: Seat) -> bool
     }
 }
 
-/// The ordinal of the node of the piece at this place.
-pub(crate) fn node_at(owner: usize, pieces: &[Piece<'_>]) -> usize
-    ensures { result ≡ spec.node_at owner (shown pieces.now) }
+/// The ordinal of the node of the piece at this place, where each piece has that of the next node in front of it.
+pub(crate) fn node_at(owner: usize, nodes: &[usize]) -> usize
+    ensures { result ≡ spec.node_at owner nodes.now }
 {
-    if owner < pieces.len() {
-        return instances(pieces.split_at(owner).0);
+    match nodes.get(owner) {
+        Some(node) => *node,
+        None => 0,
     }
-    instances(pieces)
 }

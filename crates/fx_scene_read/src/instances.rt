@@ -4,11 +4,11 @@ ghost use Rattle.std.specs.List.{flat_map};
 ghost use Rattle.fx_doc.specs.Views.{attr_view};
 ghost use Rattle.fx_scene_things.specs.Known.{known};
 ghost use Rattle.fx_scene_outline.specs.Views.{head_of, shown};
-ghost use Rattle.fx_scene_read.specs.Documents as spec;
+ghost use Rattle.fx_scene_read.specs.Pieces as spec;
 ghost use Rattle.fx_scene_read.specs.Opening.{opening_flaw, seat_step};
 ghost use Rattle.fx_scene_values.specs.Views.{scope_view};
 
-use crate::acting::{add_bindings, add_deeds};
+use crate::acting::add_deeds;
 use crate::opening::{opening_flaw, seat_step};
 use crate::references::push_step;
 use fx_base::Position;
@@ -17,6 +17,7 @@ use fx_kinds::Class;
 use fx_scene_acts::{Act, Deed};
 use fx_scene_elements::{push, push_all, push_flaw};
 use fx_scene_flaws::Flaw;
+use fx_scene_literals::has_attribute;
 use fx_scene_names::class_named;
 use fx_scene_outline::{Piece, Seat};
 use fx_scene_plan::PlannedStep;
@@ -28,19 +29,20 @@ use std::alloc::{AllocError, Global};
 pub(crate) fn add_instance(
     alloc: Global,
     scope: &Scope<'_>,
-    names: &Names<'_>,
+    names: &Names,
     before: &[Piece<'_>],
+    nodes: &[usize],
     node: usize,
     seat: Seat,
     element: &Element,
     acts: &mut Vec<Act>,
 ) -> Result<(), AllocError>
     ensures ok { OnOk result (acts.new.items ≡ acts.old.items ++ spec.instance_acts (scope_view scope.now)
-        (known names.now) (shown before.now) node seat (head_of element.now)) }
+        (known names.now) (shown before.now) nodes.now node seat (head_of element.now)) }
 {
     match class_named(element.name.as_str()) {
         Some(class) => add_class(
-            alloc, scope, names, before, node, seat, element, class, acts,
+            alloc, scope, names, before, nodes, node, seat, element, class, acts,
         ),
         None => push_flaw(acts, element.position, Flaw::Class),
     }
@@ -49,8 +51,9 @@ pub(crate) fn add_instance(
 fn add_class(
     alloc: Global,
     scope: &Scope<'_>,
-    names: &Names<'_>,
+    names: &Names,
     before: &[Piece<'_>],
+    nodes: &[usize],
     node: usize,
     seat: Seat,
     element: &Element,
@@ -58,13 +61,18 @@ fn add_class(
     acts: &mut Vec<Act>,
 ) -> Result<(), AllocError>
     ensures ok { OnOk result (acts.new.items ≡ acts.old.items ++ spec.opened_acts (scope_view scope.now)
-        (known names.now) (shown before.now) node seat (head_of element.now) class
+        (known names.now) (shown before.now) nodes.now node seat (head_of element.now) class
         (opening_flaw (scope_view scope.now).imports node seat (head_of element.now) class)) }
 {
     match opening_flaw(scope.imports, node, seat, element, class) {
         Some(flaw) => push_flaw(acts, element.position, flaw),
         None => {
-            add_node(acts, element.position, class, seat_step(before, node, seat))?;
+            add_node(
+                acts,
+                element.position,
+                class,
+                seat_step(before, nodes, node, seat),
+            )?;
             let attributes = element.attributes.as_slice();
             add_attributes(alloc, scope, names, class, node, attributes, acts)
         }
@@ -84,20 +92,38 @@ fn add_node(
     push_step(acts, place, step)
 }
 
+/// Adds what the attributes of an instance of the class ask for.
 fn add_attributes(
     alloc: Global,
     scope: &Scope<'_>,
-    names: &Names<'_>,
+    names: &Names,
     class: Class,
     node: usize,
     attributes: &[Attribute],
     acts: &mut Vec<Act>,
 ) -> Result<(), AllocError>
+    ensures ok { OnOk result (acts.new.items ≡ acts.old.items ++ spec.attributes_acts (scope_view scope.now)
+        (known names.now) class node (map attr_view attributes.now)) }
+{
+    let given = has_attribute(attributes, "id");
+    add_given(alloc, scope, names, class, node, given, attributes, acts)
+}
+
+fn add_given(
+    alloc: Global,
+    scope: &Scope<'_>,
+    names: &Names,
+    class: Class,
+    node: usize,
+    given: bool,
+    attributes: &[Attribute],
+    acts: &mut Vec<Act>,
+) -> Result<(), AllocError>
     ensures ok { OnOk result (acts.new.items ≡ acts.old.items ++ flat_map (spec.attribute_acts (scope_view scope.now)
-        (known names.now) class node (map attr_view attributes.now)) (map attr_view attributes.now)) }
+        (known names.now) class node given) (map attr_view attributes.now)) }
 {
     for a in attributes {
-        add_attribute(alloc, scope, names, class, node, attributes, a, acts)?;
+        add_attribute(alloc, scope, names, class, node, given, a, acts)?;
     }
     Ok(())
 }
@@ -105,76 +131,76 @@ fn add_attributes(
 fn add_attribute(
     alloc: Global,
     scope: &Scope<'_>,
-    names: &Names<'_>,
+    names: &Names,
     class: Class,
     node: usize,
-    attributes: &[Attribute],
+    given: bool,
     a: &Attribute,
     acts: &mut Vec<Act>,
 ) -> Result<(), AllocError>
     ensures ok { OnOk result (acts.new.items ≡ acts.old.items ++ spec.attribute_acts (scope_view scope.now)
-        (known names.now) class node (map attr_view attributes.now) (attr_view a.now)) }
+        (known names.now) class node given (attr_view a.now)) }
 {
     let mut deeds = Vec::new(alloc);
-    add_deeds(alloc, scope, names, class, node, attributes, a, &mut deeds)?;
+    add_deeds(alloc, scope, names, class, node, given, a, &mut deeds)?;
     push_all(acts, a.position, deeds)
 }
 
-/// Adds the expressions of an instance, which is the node of an ordinal.
-pub(crate) fn add_bound(
+/// Adds what the attributes of an include ask for of the root of its document, which is the node of this ordinal and of
+/// this class, and has an id already or not.
+#[tactic(auto, unfolding(crate::specs::Pieces::root_acts))]
+pub fn add_root_attributes(
     alloc: Global,
-    names: &Names<'_>,
-    node: usize,
-    element: &Element,
-    acts: &mut Vec<Act>,
-) -> Result<(), AllocError>
-    ensures ok { OnOk result (acts.new.items ≡ acts.old.items
-        ++ spec.instance_bindings (known names.now) node (head_of element.now)) }
-{
-    match class_named(element.name.as_str()) {
-        Some(class) => {
-            add_class_bindings(
-                alloc,
-                names,
-                class,
-                node,
-                element.attributes.as_slice(),
-                acts,
-            )
-        }
-        None => Ok(()),
-    }
-}
-
-fn add_class_bindings(
-    alloc: Global,
-    names: &Names<'_>,
+    scope: &Scope<'_>,
+    names: &Names,
     class: Class,
     node: usize,
+    has_id: bool,
     attributes: &[Attribute],
     acts: &mut Vec<Act>,
 ) -> Result<(), AllocError>
-    ensures ok { OnOk result (acts.new.items ≡ acts.old.items ++ flat_map (spec.binding_acts
-        (known names.now) class node) (map attr_view attributes.now)) }
+    ensures ok { OnOk result (acts.new.items ≡ acts.old.items ++ spec.root_acts (scope_view scope.now)
+        (known names.now) class node has_id (map attr_view attributes.now)) }
+{
+    let given = has_id || has_attribute(attributes, "id");
+    add_root_given(alloc, scope, names, class, node, given, attributes, acts)
+}
+
+fn add_root_given(
+    alloc: Global,
+    scope: &Scope<'_>,
+    names: &Names,
+    class: Class,
+    node: usize,
+    given: bool,
+    attributes: &[Attribute],
+    acts: &mut Vec<Act>,
+) -> Result<(), AllocError>
+    ensures ok { OnOk result (acts.new.items ≡ acts.old.items ++ flat_map (spec.root_attribute (scope_view scope.now)
+        (known names.now) class node given) (map attr_view attributes.now)) }
 {
     for a in attributes {
-        add_binding(alloc, names, class, node, a, acts)?;
+        add_root_attribute(alloc, scope, names, class, node, given, a, acts)?;
     }
     Ok(())
 }
 
-fn add_binding(
+/// The attribute `source` tells which document is included.
+fn add_root_attribute(
     alloc: Global,
-    names: &Names<'_>,
+    scope: &Scope<'_>,
+    names: &Names,
     class: Class,
     node: usize,
+    given: bool,
     a: &Attribute,
     acts: &mut Vec<Act>,
 ) -> Result<(), AllocError>
-    ensures ok { OnOk result (acts.new.items ≡ acts.old.items
-        ++ spec.binding_acts (known names.now) class node (attr_view a.now)) }
+    ensures ok { OnOk result (acts.new.items ≡ acts.old.items ++ spec.root_attribute (scope_view scope.now)
+        (known names.now) class node given (attr_view a.now)) }
 {
-    let mut deeds = Vec::new(alloc);
-    add_bindings(alloc, names, class, node, a, &mut deeds)?;
-    push_all(acts, a.position, deeds)
+    if a.name.as_str() == "source" {
+        return Ok(());
+    }
+    add_attribute(alloc, scope, names, class, node, given, a, acts)
 }

@@ -15,6 +15,17 @@ use fx_scene_outline::{Piece, Seat};
 use fx_scene_plan::PlannedStep;
 use fx_stage_types::Spot;
 
+/// Where a node comes to stand.
+#[derive(Clone, Copy, Debug, PartialEq, Eq)]
+pub enum Stand {
+    /// It is the root of its document.
+    Root,
+    /// It is a child of the node of this ordinal.
+    Below(usize, Spot),
+    /// It has no parent.
+    Aside,
+}
+
 /// The most nodes of a scene.
 const NODE_LIMIT: usize = 4096;
 
@@ -78,22 +89,40 @@ fn limit_flaw(node: usize) -> Option<Flaw>
     }
 }
 
-/// Where the node of an instance stands, behind these pieces.
-pub(crate) fn seat_step(before: &[Piece<'_>], node: usize, seat: Seat) -> Option<PlannedStep>
-    ensures { result ≡ spec.seat_step (shown before.now) node seat }
+/// Where a node comes to stand, behind these pieces with these ordinals.
+pub fn stand_at(before: &[Piece<'_>], nodes: &[usize], seat: Seat) -> Stand
+    ensures { result ≡ spec.stand_at (shown before.now) nodes.now seat }
 {
     match seat {
-        Seat::Root => Some(PlannedStep::Root(node)),
+        Seat::Root => Stand::Root,
         Seat::Child(owner) => {
             let place = Spot::At(children(owner, before));
-            Some(PlannedStep::Child(node_at(owner, before), node, place))
+            Stand::Below(node_at(owner, nodes), place)
         }
-        Seat::Edge(owner, edge) => Some(PlannedStep::Child(
-            node_at(owner, before),
-            node,
-            Spot::On(edge),
-        )),
-        Seat::Aside => None,
-        Seat::Nowhere => None,
+        Seat::Edge(owner, edge) => Stand::Below(node_at(owner, nodes), Spot::On(edge)),
+        Seat::Aside | Seat::Nowhere => Stand::Aside,
     }
+}
+
+/// The step by which a node comes to stand there.
+pub fn stand_step(stand: Stand, node: usize) -> Option<PlannedStep>
+    ensures { result ≡ spec.stand_step stand node }
+{
+    match stand {
+        Stand::Root => Some(PlannedStep::Root(node)),
+        Stand::Below(owner, spot) => Some(PlannedStep::Child(owner, node, spot)),
+        Stand::Aside => None,
+    }
+}
+
+/// The step by which a node comes to stand in a seat.
+pub(crate) fn seat_step(
+    before: &[Piece<'_>],
+    nodes: &[usize],
+    node: usize,
+    seat: Seat,
+) -> Option<PlannedStep>
+    ensures { result ≡ spec.seat_step (shown before.now) nodes.now node seat }
+{
+    stand_step(stand_at(before, nodes, seat), node)
 }

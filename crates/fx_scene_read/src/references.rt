@@ -22,36 +22,38 @@ use std::alloc::AllocError;
 /// Adds the acts of a reference behind these pieces, which have these names.
 #[tactic(auto, unfolding(crate::specs::References::reference_acts))]
 pub(crate) fn add_reference(
-    names: &Names<'_>,
+    names: &Names,
     before: &[Piece<'_>],
+    nodes: &[usize],
     seat: Seat,
     element: &Element,
     acts: &mut Vec<Act>,
 ) -> Result<(), AllocError>
     ensures ok { OnOk result (acts.new.items ≡ acts.old.items ++ spec.reference_acts (known names.now)
-        (shown before.now) seat (head_of element.now)) }
+        (shown before.now) nodes.now seat (head_of element.now)) }
 {
     match value_at(element.attributes.as_slice(), "source") {
-        Some(name) => add_open(names, before, seat, element, name.as_str(), acts),
+        Some(name) => add_open(names, before, nodes, seat, element, name.as_str(), acts),
         None => push_flaw(acts, element.position, Flaw::Value),
     }
 }
 
 fn add_open(
-    names: &Names<'_>,
+    names: &Names,
     before: &[Piece<'_>],
+    nodes: &[usize],
     seat: Seat,
     element: &Element,
     name: &str,
     acts: &mut Vec<Act>,
 ) -> Result<(), AllocError>
     ensures ok { OnOk result (acts.new.items ≡ acts.old.items ++ spec.open_reference (known names.now)
-        (shown before.now) seat (head_of element.now) name.now) }
+        (shown before.now) nodes.now seat (head_of element.now) name.now) }
 {
     if is_closed(seat) {
         return push_flaw(acts, element.position, Flaw::Child);
     }
-    add_named(names, before, seat, element, name, acts)
+    add_named(names, before, nodes, seat, element, name, acts)
 }
 
 fn is_closed(seat: Seat) -> bool
@@ -61,22 +63,30 @@ fn is_closed(seat: Seat) -> bool
 }
 
 fn add_named(
-    names: &Names<'_>,
+    names: &Names,
     before: &[Piece<'_>],
+    nodes: &[usize],
     seat: Seat,
     element: &Element,
     name: &str,
     acts: &mut Vec<Act>,
 ) -> Result<(), AllocError>
     ensures ok { OnOk result (acts.new.items ≡ acts.old.items ++ spec.named_reference (known names.now)
-        (shown before.now) seat (head_of element.now) name.now) }
+        (shown before.now) nodes.now seat (head_of element.now) name.now) }
 {
     add_attributes(names, element.attributes.as_slice(), acts)?;
-    add_seated(before, seat, element.position, names.node(name), acts)
+    add_seated(
+        before,
+        nodes,
+        seat,
+        element.position,
+        names.node(name),
+        acts,
+    )
 }
 
 fn add_attributes(
-    names: &Names<'_>,
+    names: &Names,
     attributes: &[Attribute],
     acts: &mut Vec<Act>,
 ) -> Result<(), AllocError>
@@ -90,7 +100,7 @@ fn add_attributes(
 }
 
 /// A reference has one attribute, the name.
-fn add_attribute(names: &Names<'_>, a: &Attribute, acts: &mut Vec<Act>) -> Result<(), AllocError>
+fn add_attribute(names: &Names, a: &Attribute, acts: &mut Vec<Act>) -> Result<(), AllocError>
     ensures ok { OnOk result (acts.new.items
         ≡ acts.old.items ++ spec.reference_attribute (known names.now) (attr_view a.now)) }
 {
@@ -103,16 +113,17 @@ fn add_attribute(names: &Names<'_>, a: &Attribute, acts: &mut Vec<Act>) -> Resul
 /// Only a node may stand there.
 fn add_seated(
     before: &[Piece<'_>],
+    nodes: &[usize],
     seat: Seat,
     place: Position,
     known: Option<Named>,
     acts: &mut Vec<Act>,
 ) -> Result<(), AllocError>
     ensures ok { OnOk result (acts.new.items
-        ≡ acts.old.items ++ spec.seated_acts (shown before.now) seat place known) }
+        ≡ acts.old.items ++ spec.seated_acts (shown before.now) nodes.now seat place known) }
 {
     match known {
-        Some(known) => push_step(acts, place, seat_step(before, known.node, seat)),
+        Some(known) => push_step(acts, place, seat_step(before, nodes, known.node, seat)),
         None => push_flaw(acts, place, Flaw::Child),
     }
 }

@@ -17,7 +17,7 @@ use std::alloc::{AllocError, Global};
 pub(crate) fn add_sheets(
     alloc: Global,
     scope: &Scope<'_>,
-    names: &Names<'_>,
+    names: &Names,
     node: usize,
     text: &str,
     deeds: &mut Vec<Deed>,
@@ -32,7 +32,7 @@ pub(crate) fn add_sheets(
 fn add_items(
     alloc: Global,
     scope: &Scope<'_>,
-    names: &Names<'_>,
+    names: &Names,
     node: usize,
     items: &[&str],
     deeds: &mut Vec<Deed>,
@@ -49,7 +49,7 @@ fn add_items(
 fn sheet_deed(
     alloc: Global,
     scope: &Scope<'_>,
-    names: &Names<'_>,
+    names: &Names,
     node: usize,
     item: &str,
 ) -> Result<Deed, AllocError>
@@ -62,7 +62,7 @@ fn sheet_deed(
 fn formed_sheet(
     alloc: Global,
     scope: &Scope<'_>,
-    names: &Names<'_>,
+    names: &Names,
     node: usize,
     form: Form<'_>,
 ) -> Result<Deed, AllocError>

@@ -1,5 +1,5 @@
 //! The names of a document that are known so far.
-ghost use Rattle.std.specs.Prelude.{◌≡◌, OnOk};
+ghost use Rattle.std.specs.Prelude.{◌≡◌, OnOk, string_bytes};
 ghost use Rattle.std.specs.Option.{option_copied};
 ghost use Rattle.fx_scene_things.specs.Known.{known};
 ghost use Rattle.fx_scene_things.specs.Names as spec;
@@ -10,13 +10,13 @@ use std::alloc::{AllocError, Global};
 
 /// Names with what they stand for.
 #[derive(Drop)]
-pub struct Names<'a> {
-    things: IndexMap<&'a str, Thing>,
+pub struct Names {
+    things: IndexMap<String, Thing>,
 }
 
-impl<'a> Names<'a> {
+impl Names {
     /// No name is known.
-    pub fn new(alloc: Global) -> Names<'a>
+    pub fn new(alloc: Global) -> Names
         ensures { known result ≡ spec.nothing }
     {
         Names {
@@ -49,8 +49,14 @@ impl<'a> Names<'a> {
     }
 
     /// The name stands for this from now on.
-    pub fn put(&mut self, name: &'a str, thing: Thing) -> Result<(), AllocError>
+    pub fn put(&mut self, alloc: Global, name: &str, thing: Thing) -> Result<(), AllocError>
         ensures ok { OnOk result (known self.new ≡ spec.with_name (known self.old) name.now thing) }
+    {
+        self.keep(String::from_str(alloc, name)?, thing)
+    }
+
+    fn keep(&mut self, name: String, thing: Thing) -> Result<(), AllocError>
+        ensures ok { OnOk result (known self.new ≡ spec.with_name (known self.old) (string_bytes name) thing) }
     {
         match self.things.insert(name, thing) {
             Ok(_) => Ok(()),

@@ -7,6 +7,8 @@ use fx_kinds::Class;
 pub struct Named {
     pub node: usize,
     pub class: Class,
+    /// The number of the file whose names stand behind this one, where the node is the root of an included document.
+    pub inside: Option<u32>,
 }
 
 /// What a name of a document stands for.

@@ -4,6 +4,7 @@ use Rattle.std.specs.List.{find}
 use Rattle.std.specs.Str.{bytes_eq}
 use Rattle.fx_kinds.specs.Properties.{ListedProperty, properties_of}
 use Rattle.fx_kinds.specs.declared.classes.Class.{Class}
+use Rattle.fx_scene_acts.specs.declared.acts.Binding.{Binding}
 use Rattle.fx_scene_acts.specs.declared.acts.Deed.{Deed}
 use Rattle.fx_scene_acts.specs.declared.acts.Deed.TheVariants as deed
 use Rattle.fx_scene_flaws.specs.declared.flaws.Flaw.TheVariants as flaw
@@ -35,18 +36,25 @@ given_deed node property (Value content) =
     if property.read_only then deed.Flaw flaw.ReadOnly
     else deed.Step (planned.Code (property_of node property.name) content)
 
--- an expression is taken once all nodes are there
-abbrev pub bound_deed : ListedProperty → Option Deed
-bound_deed property = if property.read_only then Some (deed.Flaw flaw.ReadOnly) else None
+abbrev pub binding_of : Class → ℕ → List ℕ → List ℕ → Binding
+binding_of class node name text = record { node = node; class = class; property = name; text = text }
 
-abbrev pub formed_deed : Scope → Names → ℕ → ListedProperty → Form → Option Deed
-formed_deed scope names node property (form.Bound text) = bound_deed property
-formed_deed scope names node property other = Some (given_deed node property (value_in scope names property.kind other))
+-- an expression is taken once all names are there
+abbrev pub bound_deed : Class → ℕ → List ℕ → ListedProperty → List ℕ → Deed
+bound_deed class node name property text =
+    if property.read_only then deed.Flaw flaw.ReadOnly else deed.Bind (binding_of class node name text)
 
-abbrev pub deed_if : Scope → Names → ℕ → List ℕ → Option ListedProperty → Option Deed
-deed_if scope names node text None = Some (deed.Flaw flaw.Property)
-deed_if scope names node text (Some property) = formed_deed scope names node property (form_of text)
+abbrev pub formed_deed : Scope → Names → Class → ℕ → List ℕ → ListedProperty → Form → Deed
+formed_deed scope names class node name property (form.Bound text) = bound_deed class node name property text
+formed_deed scope names class node name property other =
+    given_deed node property (value_in scope names property.kind other)
+
+abbrev pub deed_if : Scope → Names → Class → ℕ → List ℕ → List ℕ → Option ListedProperty → Deed
+deed_if scope names class node name text None = deed.Flaw flaw.Property
+deed_if scope names class node name text (Some property) =
+    formed_deed scope names class node name property (form_of text)
 
 -- what the attribute of this name and text asks for, where these names are known
-unfoldable pub property_deed : Scope → Names → Class → ℕ → List ℕ → List ℕ → Option Deed
-property_deed scope names class node name text = deed_if scope names node text (property_named class name)
+unfoldable pub property_deed : Scope → Names → Class → ℕ → List ℕ → List ℕ → Deed
+property_deed scope names class node name text =
+    deed_if scope names class node name text (property_named class name)

@@ -12,8 +12,9 @@ ghost use Rattle.fx_scene_values.specs.Views.{form_view, scope_view};
 use crate::forms::{Form, form_of};
 use crate::scopes::Scope;
 use crate::values::{Given, planned_property, value_in};
+use fx_base::Text;
 use fx_kinds::{Class, Property, properties};
-use fx_scene_acts::Deed;
+use fx_scene_acts::{Binding, Deed};
 use fx_scene_flaws::Flaw;
 use fx_scene_plan::PlannedStep;
 use fx_scene_things::Names;
@@ -49,54 +50,82 @@ fn first_named<'a>(list: &'a [Property], name: &str) -> Option<&'a Property>
     list.iter().find(|p| p.name == name)
 }
 
-/// What the attribute of this name and text asks for, where these names are known. An expression asks for nothing yet.
+/// What the attribute of this name and text asks for, where these names are known.
 #[tactic(auto, unfolding(crate::specs::Properties::property_deed))]
 pub fn property_deed(
     alloc: Global,
     scope: &Scope<'_>,
-    names: &Names<'_>,
+    names: &Names,
     class: Class,
     node: usize,
     name: &str,
     text: &str,
-) -> Result<Option<Deed>, AllocError>
+) -> Result<Deed, AllocError>
     ensures { IfOk result (λ deed. deed
         ≡ spec.property_deed (scope_view scope.now) (known names.now) class node name.now text.now) }
 {
     match property_named(class, name) {
-        Some(property) => formed_deed(alloc, scope, names, node, property, form_of(text)),
-        None => Ok(Some(Deed::Flaw(Flaw::Property))),
+        Some(property) => {
+            formed_deed(
+                alloc,
+                scope,
+                names,
+                class,
+                node,
+                name,
+                property,
+                form_of(text),
+            )
+        }
+        None => Ok(Deed::Flaw(Flaw::Property)),
     }
 }
 
 fn formed_deed(
     alloc: Global,
     scope: &Scope<'_>,
-    names: &Names<'_>,
+    names: &Names,
+    class: Class,
     node: usize,
+    name: &str,
     property: &Property,
     form: Form<'_>,
-) -> Result<Option<Deed>, AllocError>
-    ensures { IfOk result (λ deed. deed ≡ spec.formed_deed (scope_view scope.now) (known names.now) node
+) -> Result<Deed, AllocError>
+    ensures { IfOk result (λ deed. deed ≡ spec.formed_deed (scope_view scope.now) (known names.now) class node name.now
         (listed_property property.now) (form_view form.entry)) }
 {
     match form {
-        Form::Bound(_) => Ok(bound_deed(property)),
+        Form::Bound(text) => bound_deed(alloc, class, node, name, property, text),
         _ => {
             let given = value_in(alloc, scope, names, property.kind, form)?;
-            Ok(Some(property_given(alloc, node, property, given)?))
+            property_given(alloc, node, property, given)
         }
     }
 }
 
-fn bound_deed(property: &Property) -> Option<Deed>
-    ensures { result ≡ spec.bound_deed (listed_property property.now) }
+/// An expression is taken once all names are there.
+fn bound_deed(
+    alloc: Global,
+    class: Class,
+    node: usize,
+    name: &str,
+    property: &Property,
+    text: &str,
+) -> Result<Deed, AllocError>
+    ensures { IfOk result (λ deed. deed
+        ≡ spec.bound_deed class node name.now (listed_property property.now) text.now) }
 {
     if property.read_only {
-        Some(Deed::Flaw(Flaw::ReadOnly))
-    } else {
-        None
+        return Ok(Deed::Flaw(Flaw::ReadOnly));
     }
+    let property = text_of(alloc, name)?;
+    let text = text_of(alloc, text)?;
+    Ok(Deed::Bind(Binding {
+        node,
+        class,
+        property,
+        text,
+    }))
 }
 
 /// What giving the property a value asks for.
@@ -117,5 +146,15 @@ pub fn property_given(
             let property = planned_property(alloc, node, property.name)?;
             Ok(Deed::Step(PlannedStep::Code(property, value)))
         }
+    }
+}
+
+/// A text of a document, which is short enough.
+fn text_of(alloc: Global, text: &str) -> Result<Text, AllocError>
+    ensures { IfOk result (λ copy. copy ≡ text.now) }
+{
+    match Text::from_str(alloc, text) {
+        Ok(text) => Ok(text),
+        Err(_) => Err(AllocError),
     }
 }

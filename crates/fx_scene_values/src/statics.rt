@@ -22,7 +22,7 @@ use std::alloc::{AllocError, Global};
 pub fn static_deed(
     alloc: Global,
     scope: &Scope<'_>,
-    names: &Names<'_>,
+    names: &Names,
     node: usize,
     name: &Text,
     text: &str,
@@ -42,7 +42,7 @@ pub fn static_deed(
 fn row_deed(
     alloc: Global,
     scope: &Scope<'_>,
-    names: &Names<'_>,
+    names: &Names,
     node: usize,
     name: &Text,
     row: ConstraintRow,

@@ -25,7 +25,7 @@ use std::str;
 pub fn style_deed(
     alloc: Global,
     scope: &Scope<'_>,
-    names: &Names<'_>,
+    names: &Names,
     node: usize,
     text: &str,
 ) -> Result<Deed, AllocError>
@@ -60,7 +60,7 @@ fn literal_style(alloc: Global, node: usize, style: &str) -> Result<Deed, AllocE
 pub fn add_classes(
     alloc: Global,
     scope: &Scope<'_>,
-    names: &Names<'_>,
+    names: &Names,
     node: usize,
     text: &str,
     deeds: &mut Vec<Deed>,
@@ -75,7 +75,7 @@ pub fn add_classes(
 fn add_items(
     alloc: Global,
     scope: &Scope<'_>,
-    names: &Names<'_>,
+    names: &Names,
     node: usize,
     items: &[&str],
     deeds: &mut Vec<Deed>,
@@ -99,7 +99,7 @@ pub fn items_of<'a>(alloc: Global, text: &'a str) -> Result<Vec<&'a str>, AllocE
 fn class_deed(
     alloc: Global,
     scope: &Scope<'_>,
-    names: &Names<'_>,
+    names: &Names,
     node: usize,
     text: &str,
 ) -> Result<Deed, AllocError>

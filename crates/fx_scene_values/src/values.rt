@@ -29,7 +29,7 @@ pub enum Given {
 pub fn value_in(
     alloc: Global,
     scope: &Scope<'_>,
-    names: &Names<'_>,
+    names: &Names,
     kind: Kind,
     form: Form<'_>,
 ) -> Result<Given, AllocError>
@@ -160,7 +160,7 @@ pub fn planned_property(
 pub fn path_in(
     alloc: Global,
     scope: &Scope<'_>,
-    names: &Names<'_>,
+    names: &Names,
     form: Form<'_>,
 ) -> Result<Given, AllocError>
     ensures { IfOk result (λ given. given

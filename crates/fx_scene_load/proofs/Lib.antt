@@ -1,0 +1,3 @@
+pub mod ActLemmas
+pub mod ReadLemmas
+pub mod SceneLemmas

@@ -1,0 +1,13 @@
+-- the attributes so far
+use Rattle.std.proofs.Common.{◌≡◌, ◌++◌, map, take}
+use Rattle.std.specs.List.{flat_map}
+use Rattle.fx_doc.specs.Views.{attr_view}
+use Rattle.fx_scene_read.specs.Pieces.{attribute_acts}
+use Rattle.fx_scene_things.specs.Known.{known}
+use Rattle.fx_scene_values.specs.Views.{scope_view}
+use Rattle.fx_scene_read.proofs.instances.add_given.Given as goal
+
+abbrev pub invariant-loop-a : goal.invariant-loop-a
+invariant-loop-a l =
+    l.acts.items ≡ l.fn.acts.items ++ flat_map (attribute_acts (scope_view l.scope) (known l.names) l.class l.node l.given)
+    (map attr_view (take l.a-index l.attributes))

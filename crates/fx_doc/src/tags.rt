@@ -113,7 +113,8 @@ pub fn keyed(
 
 fn behind_key(held: &Held, head: Head, position: Position, key: Word) -> Result<Option<Mode>, Halt>
     ensures { views.Moves (machine.some_if (machine.is_fresh (string_bytes key.text) (views.head_view head))
-        (views.key_spaced_state (views.held_view held.now) (views.head_view head) position (string_bytes key.text))) held.now result }
+        (views.key_spaced_state (views.held_view held.now) (views.head_view head) position (string_bytes key.text)))
+        held.now result }
 {
     if !head.is_fresh(&key) {
         return Ok(None);
@@ -123,7 +124,8 @@ fn behind_key(held: &Held, head: Head, position: Position, key: Word) -> Result<
 
 fn behind_sign(held: &Held, head: Head, position: Position, key: Word) -> Result<Option<Mode>, Halt>
     ensures { views.Moves (machine.some_if (machine.is_fresh (string_bytes key.text) (views.head_view head))
-        (views.signed_state (views.held_view held.now) (views.head_view head) position (string_bytes key.text))) held.now result }
+        (views.signed_state (views.held_view held.now) (views.head_view head) position (string_bytes key.text)))
+        held.now result }
 {
     if !head.is_fresh(&key) {
         return Ok(None);
@@ -142,8 +144,8 @@ fn longer_key(
 ) -> Result<Option<Mode>, Halt>
     requires { class ≡ class_of c }
     ensures { views.Moves (machine.some_if (in_name class)
-        (views.keyed_state (views.held_view held.now) (views.head_view head) position (string_bytes key.text ++ (c ∷ [])))) held.now
-        result }
+        (views.keyed_state (views.held_view held.now) (views.head_view head) position
+        (string_bytes key.text ++ (c ∷ [])))) held.now result }
 {
     if !class.is_named() {
         return Ok(None);

@@ -1,5 +1,5 @@
--- What lies between two values, in a straight line: JavaFX 21 API, javafx.animation.Interpolator (LINEAR); that steps are
--- whole is our own. Cited by src/mixing.rt.
+-- What lies between two values, in a straight line: JavaFX 21 API, javafx.animation.Interpolator (LINEAR); that steps
+-- are whole is our own. Cited by src/mixing.rt.
 use Rattle.std.specs.Prelude.{ℕ, ℤ, pos, ◌+◌, ◌-◌, ◌*◌, ◌/◌, ◌+ℤ◌, ◌-ℤ◌, int_le, nat_le, unsigned_abs, if◌then◌else◌}
 use Rattle.fx_base.specs.declared.color.Color.{Color}
 use Rattle.fx_base.specs.declared.values.Value.{Value}

@@ -166,8 +166,8 @@ impl Listeners {
         kind: ListenKind,
     ) -> Result<Vec<u32>, AllocError>
         ensures { IfOk result (λ numbers. numbers.items
-            ≡ spec.numbers_of (filter (λ listener. spec.tells name.0 kind listener && spec.is_live owners.now.living listener)
-            self.now.entries)) }
+            ≡ spec.numbers_of (filter (λ listener. spec.tells name.0 kind listener
+            && spec.is_live owners.now.living listener) self.now.entries)) }
     {
         let found = listeners_on(self.entries.as_slice(), name);
         numbers_heard(alloc, owners, found, kind)

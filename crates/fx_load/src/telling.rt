@@ -8,8 +8,8 @@ use fx_scene_acts::{Doing, Task};
 use fx_scene_plan::PlannedStep;
 use std::alloc::{AllocError, Global};
 
-/// A line `warn FILE LINE COLUMN` for each part that was dropped, in the order of the tasks: of a sheet where it stands,
-/// of an inline style at its attribute.
+/// A line `warn FILE LINE COLUMN` for each part that was dropped, in the order of the tasks: of a sheet where it
+/// stands, of an inline style at its attribute.
 pub(crate) fn warnings_of(
     alloc: Global,
     files: &[Str],

@@ -1,5 +1,5 @@
-//! Tests of what the panes share, each public function once, and the laws of the panes. They stand apart, so that a test
-//! that changes has nothing else proved anew.
+//! Tests of what the panes share, each public function once, and the laws of the panes. They stand apart, so that a
+//! test that changes has nothing else proved anew.
 #![tactic(auto)]
 
 #[cfg(test)]

@@ -28,10 +28,11 @@ next_run place course = first_run course.world place (drop place course.heard)
 abbrev pub overrun : ℕ → Course → Course
 overrun number course = record course { text = course.text ++ overrun_line number }
 
--- All listeners from this place on run their actions in the order in which they were told, those too who are told by these
--- actions; where there are more than so many runs, the rest is left out, and this is told of the script's line.
+-- All listeners from this place on run their actions in the order in which they were told, those too who are told by
+-- these actions; where there are more than so many runs, the rest is left out, and this is told of the script's line.
 pub data IsSettled (number : ℕ) : ℕ → ℕ → Course → Course → Type 0 where
-  all_ran : (left place : ℕ) (course : Course) → next_run place course ≡ None → IsSettled number left place course course
+  all_ran : (left place : ℕ) (course : Course) → next_run place course ≡ None
+      → IsSettled number left place course course
   one_ran : (left place : ℕ) (run : Run) (course next now : Course) → next_run place course ≡ Some run
       → AreRun run.1 course next → IsSettled number left (run.0 + 1) next now
       → IsSettled number (suc left) place course now

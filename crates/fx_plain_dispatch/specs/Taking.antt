@@ -22,7 +22,8 @@ abbrev pub IsCarried : Numbered → World → Course → Type 0
 IsCarried line world now = (slot : ℕ) × (now ≡ after (line_step slot line.number line.request world) (begun world))
 
 abbrev pub IsInstructed : List Entry → Numbered → Bool → Instruction → World → Course → Type 0
-IsInstructed entries line true instruction world now = IsStarted line.number (started entries instruction world) world now
+IsInstructed entries line true instruction world now =
+    IsStarted line.number (started entries instruction world) world now
 IsInstructed entries line false instruction world now = IsCarried line world now
 
 -- what the line does itself, where the last picture has these entries

@@ -4,8 +4,8 @@ use Rattle.fx_base.specs.declared.keys.Name.{Name}
 use Rattle.fx_stage_model.specs.World.{World}
 use Rattle.fx_plain_steps.specs.Lines.{Step}
 
--- the world, what was printed, which listeners were told (each by its property and number), and whether the event on its
--- way was consumed
+-- the world, what was printed, which listeners were told (each by its property and number), and whether the event on
+-- its way was consumed
 pub record Course : Type 0 where
   pub world : World
   pub text : List ℕ

@@ -18,10 +18,10 @@ use fx_port::{Shelf, Sink};
 use fx_words::accept;
 use std::alloc::Global;
 
-/// Plays a script on a scene: reads the script, the style sheets and the scene from the shelf, and writes frames, values,
-/// notices and refusals to the sink, or their totals.
-/// What is written is the plain player's output, for all words and all files that the shelf tells; only a counted
-/// failure of the shelf or the sink, or want of memory, ends it earlier, after a part of that output.
+/// Plays a script on a scene: reads the script, the style sheets and the scene from the shelf, and writes frames,
+/// values, notices and refusals to the sink, or their totals. What is written is the plain player's output, for all
+/// words and all files that the shelf tells; only a counted failure of the shelf or the sink, or want of memory, ends
+/// it earlier, after a part of that output.
 pub fn play<F: Shelf, O: Sink, L: Ledgers>(
     alloc: Global,
     words: &[String],

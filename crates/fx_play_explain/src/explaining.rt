@@ -22,8 +22,9 @@ use fx_stage_text::print_refusal;
 use fx_stage_types::Refusal;
 use std::alloc::{AllocError, Global};
 
-/// Takes the line `explain` of this number, which asks for the property of this name of the node of this path. The trace
-/// then holds this line alone. Want of memory may leave a part of its text there, and some of the properties read.
+/// Takes the line `explain` of this number, which asks for the property of this name of the node of this path. The
+/// trace then holds this line alone. Want of memory may leave a part of its text there, and some of the properties
+/// read.
 pub fn explain_line<L: Ledgers>(
     alloc: Global,
     stage: &mut Stage,

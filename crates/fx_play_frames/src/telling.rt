@@ -68,7 +68,8 @@ impl Game {
         ensures cause { HasCause Failed (O.faults out.old) (O.faults out.new) result }
         ensures writes { (last : Option Image) → Follows writer.old last
             → Writes (O.written out.old) (O.written out.new) result
-            (frame_text writer.old.form self.old.frames last damage.now (image_last (game_of self.old).last) ++ text.now) }
+            (frame_text writer.old.form self.old.frames last damage.now (image_last (game_of self.old).last)
+            ++ text.now) }
         ensures behind { OnOk result (IsAt writer.new (game_of self.old).last) }
     {
         self.put_frame(alloc, writer, damage, out)?;

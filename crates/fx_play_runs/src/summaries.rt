@@ -31,8 +31,8 @@ pub(crate) fn put_summary<O: Sink, L: Ledgers>(
     requires fresh { game.old.frames ≡ 0 }
     requires short { manner.summary ≡ true }
     ensures cause { HasCause Failed (O.faults out.old) (O.faults out.new) result }
-    ensures put { (warnings : List ℕ) → IsPut manner warnings (game_of game.old) (map line_view lines.items) (O.written out.old)
-        (O.written out.new) result }
+    ensures put { (warnings : List ℕ) → IsPut manner warnings (game_of game.old) (map line_view lines.items)
+        (O.written out.old) (O.written out.new) result }
 {
     let totals = count_lines(alloc, game, lines, work)?;
     let text = summary_text(alloc, totals)?;

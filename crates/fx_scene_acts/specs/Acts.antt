@@ -1,5 +1,5 @@
--- What tasks make of a world: each is a step of building, a fault, or a look for room. The first fault ends them, and so
--- does the first step that is refused, whose word is a flaw at its place.
+-- What tasks make of a world: each is a step of building, a fault, or a look for room. The first fault ends them, and
+-- so does the first step that is refused, whose word is a flaw at its place.
 use Rattle.std.specs.Prelude.{◌≡◌, ℕ, List, [], ◌∷◌, Result, Ok, Err}
 use Rattle.fx_base.specs.declared.positions.Place.{Place}
 use Rattle.fx_base.specs.declared.positions.Position.{Position}

@@ -126,7 +126,8 @@ planned_of operands = map (λ (o : Operand). property_of o.node o.property.name)
 
 abbrev pub bound_to : ℕ → ListedProperty → Tree → List Operand → Doing
 bound_to node property t operands =
-    doing.Step (planned.Bind (property_of node property.name) (formula_of property.kind t operands) (planned_of operands))
+    doing.Step
+        (planned.Bind (property_of node property.name) (formula_of property.kind t operands) (planned_of operands))
 
 abbrev pub at_fault : Mistake → Doing
 at_fault mistake = doing.Fault (Flawed mistake)
@@ -138,7 +139,8 @@ bound_if node property t (Some operands) = bound_to node property t operands
 abbrev pub bound_over : List Space → Names → ℕ → ListedProperty → Tree → List (List (List ℕ)) → Doing
 bound_over spaces names node property t paths =
     if are_named spaces names paths
-    then bound_if node property (filled (values_of names paths) t) (operands_of spaces names paths) else at_fault flaw.Name
+    then bound_if node property (filled (values_of names paths) t) (operands_of spaces names paths)
+    else at_fault flaw.Name
 
 -- no expression; or one past its own limits; or a name that nothing has, before a property that isn't there
 abbrev pub bound_by : List Space → Names → ℕ → ListedProperty → Result (Tree × List (List (List ℕ))) ExprError → Doing

@@ -1,4 +1,5 @@
-//! Expressions of a document: properties bound to what stands between `${` and `}`, over properties of nodes by their names.
+//! Expressions of a document: properties bound to what stands between `${` and `}`, over properties of nodes by their
+//! names.
 #![tactic(auto)]
 
 mod binding;

@@ -37,8 +37,8 @@ pub(crate) fn add_columns(
     lanes: &mut Vec<Lane>,
     acts: &mut Vec<Act>,
 ) -> Result<(), AllocError>
-    ensures acts { OnOk result (acts.new.items ≡ acts.old.items ++ (columns_by (head_of element.now) lanes.old.items owner
-        node (spec.columns_told (scope_view scope.now) (known names.old) lanes.old.items owner
+    ensures acts { OnOk result (acts.new.items ≡ acts.old.items ++ (columns_by (head_of element.now) lanes.old.items
+        owner node (spec.columns_told (scope_view scope.now) (known names.old) lanes.old.items owner
         (content_of element.now))).acts) }
     ensures lanes { OnOk result (lanes.new.items ≡ lanes.old.items ++ (columns_by (head_of element.now) lanes.old.items
         owner node (spec.columns_told (scope_view scope.now) (known names.old) lanes.old.items owner
@@ -181,8 +181,8 @@ fn add_reference(
 ) -> Result<(), AllocError>
     ensures acts { OnOk result (acts.new.items ≡ acts.old.items ++ (spec.reference_told (scope_view scope.now) want
         (known names.old) count (head_of element.now) (content_of element.now)).acts) }
-    ensures tracks { OnOk result (tracks.new.items ≡ tracks.old.items ++ (spec.reference_told (scope_view scope.now) want
-        (known names.old) count (head_of element.now) (content_of element.now)).tracks) }
+    ensures tracks { OnOk result (tracks.new.items ≡ tracks.old.items ++ (spec.reference_told (scope_view scope.now)
+        want (known names.old) count (head_of element.now) (content_of element.now)).tracks) }
     ensures names { OnOk result (known names.new ≡ (spec.reference_told (scope_view scope.now) want (known names.old)
         count (head_of element.now) (content_of element.now)).names) }
 {

@@ -27,7 +27,8 @@ use fx_scene_things::Names;
 use fx_scene_values::{Given, Scope, literal};
 use std::alloc::{AllocError, Global};
 
-/// What one part of a property element that holds one value of the kind makes, as the first part of it or a further one.
+/// What one part of a property element that holds one value of the kind makes, as the first part of it or a further
+/// one.
 pub fn one_part(
     alloc: Global,
     scope: &Scope<'_>,
@@ -169,9 +170,9 @@ fn read_child(
     element: &Element,
     names: &mut Names,
 ) -> Result<Found, AllocError>
-    ensures found { IfOk result (λ next. next ≡ (spec.child_told (scope_view scope.now) part first made (known names.old)
-        (λ p m k. spec.read_in (scope_view scope.now) p m k (content_of element.now)) (head_of element.now)
-        (is_nothing (content_of element.now))).found) }
+    ensures found { IfOk result (λ next. next ≡ (spec.child_told (scope_view scope.now) part first made
+        (known names.old) (λ p m k. spec.read_in (scope_view scope.now) p m k (content_of element.now))
+        (head_of element.now) (is_nothing (content_of element.now))).found) }
     ensures names { OnOk result (known names.new ≡ (spec.child_told (scope_view scope.now) part first made
         (known names.old) (λ p m k. spec.read_in (scope_view scope.now) p m k (content_of element.now))
         (head_of element.now) (is_nothing (content_of element.now))).names) }

@@ -25,8 +25,8 @@ source_of head = attribute_named head.attributes (codes "source")
 abbrev pub is_open : List (List ℕ) → List ℕ → Bool
 is_open around target = list_any (λ (name : List ℕ). bytes_eq name target) around
 
--- what is wrong with fetching this file where others are open and so many were fetched: no document includes itself, and
--- includes stand in each other at most 16 deep
+-- what is wrong with fetching this file where others are open and so many were fetched: no document includes itself,
+-- and includes stand in each other at most 16 deep
 abbrev pub source_flaw : List (List ℕ) → ℕ → List ℕ → Option Flaw
 source_flaw around count target =
     if is_open around target then Some flaw.IncludeCycle

@@ -22,7 +22,8 @@ IsToldOn load.Failed error = error ≡ Failed
 IsToldOn _ error = error ≡ Memory
 
 -- what was read of a file is kept: the sheet of this number is one of the node, or at fault
-abbrev pub IsSheetKept : {T : Type 0} → Place → ℕ → ℕ → Result Sheet LoadError → Course → Course → Result T FetchError → Type 0
+abbrev pub IsSheetKept :
+    {T : Type 0} → Place → ℕ → ℕ → Result Sheet LoadError → Course → Course → Result T FetchError → Type 0
 IsSheetKept place node file (Ok sheet) old new (Ok done) = new ≡ with_read place node sheet old
 IsSheetKept place node file (Err (load.Fault fault)) old new (Ok done) = new ≡ with_fault_in old file (fault_of fault)
 IsSheetKept place node file (Err _) old new (Ok done) = ⊥
@@ -39,6 +40,7 @@ IsFaultKept file error old new (Err other) = IsToldOn error other
 pub record IsInnerRead (files : Files) (here : Open) (desk : Desk) (spot : Stand) (file : ℕ) (target : List ℕ)
     (course : Course) (head : Head) (document : Document) (names : Names) (last : Course) : Type 0 where
   pub middle : Course
-  pub whole : IsDocumentRead files (inner here desk.names head.attributes spot file target document) course document middle
+  pub whole :
+      IsDocumentRead files (inner here desk.names head.attributes spot file target document) course document middle
   pub rest : AreActsDone files here middle (include_acts here desk middle (length course.classes) head) last
   pub named : names ≡ include_names desk middle (length course.classes) file head

@@ -1,6 +1,6 @@
--- What is done for the acts of a document: steps are taken, bindings wait, and the style sheets that are wanted are fetched
--- and read where they are asked for. A location is judged before anything is fetched; at most 63 files are fetched behind
--- the script. The first fault ends all.
+-- What is done for the acts of a document: steps are taken, bindings wait, and the style sheets that are wanted are
+-- fetched and read where they are asked for. A location is judged before anything is fetched; at most 63 files are
+-- fetched behind the script. The first fault ends all.
 use Rattle.std.specs.Prelude.{◌≡◌, ◌<◌, ◌≤◌, ℕ, true, false, List, [], ◌∷◌, Some, None, Ok, Err, length}
 use Rattle.fx_base.specs.declared.positions.Place.{Place}
 use Rattle.fx_base.specs.declared.positions.Position.{Position}
@@ -25,11 +25,14 @@ abbrev pub with_read : Place → ℕ → Sheet → Course → Course
 with_read place node sheet course = with_task course place (doing.Step (planned.Sheet (Some node) sheet))
 
 -- the style sheet in the file of this name is a further one of the node
-pub data IsSheetAdded (files : Files) (place : Place) (node : ℕ) (target : List ℕ) (course : Course) : Course → Type 0 where
-  one_too_many : 63 ≤ length course.files → IsSheetAdded files place node target course (with_flaw course place flaw.Limit)
+pub data IsSheetAdded (files : Files) (place : Place) (node : ℕ) (target : List ℕ) (course : Course)
+    : Course → Type 0 where
+  one_too_many : 63 ≤ length course.files
+      → IsSheetAdded files place node target course (with_flaw course place flaw.Limit)
   sheet_refused : (fault : Fault) → length course.files < 63
       → IsSheetIn files (length course.files) target (Err fault)
-      → IsSheetAdded files place node target course (with_fault_in (with_file course target) (length course.files) fault)
+      → IsSheetAdded files place node target course
+          (with_fault_in (with_file course target) (length course.files) fault)
   sheet_read : (sheet : Sheet) → length course.files < 63 → IsSheetIn files (length course.files) target (Ok sheet)
       → IsSheetAdded files place node target course
       (with_read place node sheet (with_file course target))

@@ -1,6 +1,6 @@
 -- A document piece by piece, in the order of work: an include is read where it stands, and behind its document its
--- attributes are those of that document's root. The first fault ends all. Behind all documents, if nothing is wrong, the
--- bindings are resolved in the order in which they were met.
+-- attributes are those of that document's root. The first fault ends all. Behind all documents, if nothing is wrong,
+-- the bindings are resolved in the order in which they were met.
 use Rattle.std.specs.Prelude.{◌≡◌, ℕ, Bool, true, false, List, [], ◌∷◌, ◌++◌, length, map, slice_get, Option, Some, None, Ok, Err, if◌then◌else◌}
 use Rattle.fx_base.specs.declared.positions.Place.{Place}
 use Rattle.fx_base.specs.declared.positions.Position.{Position}

@@ -7,8 +7,8 @@ use fx_scene_elements::Lane;
 use fx_scene_things::Names;
 use std::alloc::Global;
 
-/// The names of a document, the constraints of its grids, and for each of its pieces the ordinal of the next node in front
-/// of it.
+/// The names of a document, the constraints of its grids, and for each of its pieces the ordinal of the next node in
+/// front of it.
 #[derive(Drop)]
 pub struct Desk {
     pub names: Names,

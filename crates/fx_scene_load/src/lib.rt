@@ -1,5 +1,5 @@
-//! The tasks of a scene: its document piece by piece, with the documents that it includes and the style sheets that its nodes
-//! ask for, fetched and read where they stand.
+//! The tasks of a scene: its document piece by piece, with the documents that it includes and the style sheets that its
+//! nodes ask for, fetched and read where they stand.
 #![tactic(auto)]
 
 mod asking;

@@ -17,8 +17,9 @@ use fx_scene_values::Scope;
 use fx_text::is_identifier;
 use std::alloc::{AllocError, Global};
 
-/// A document that is being read: the number and the name of its file, its imports, the names of the files that are open,
-/// itself among them, the path behind which scripts name its nodes, if they can, and where its root comes to stand.
+/// A document that is being read: the number and the name of its file, its imports, the names of the files that are
+/// open, itself among them, the path behind which scripts name its nodes, if they can, and where its root comes to
+/// stand.
 #[derive(Drop)]
 pub struct Open<'a> {
     pub file: u32,
@@ -85,8 +86,8 @@ fn joined(alloc: Global, front: &[Text], back: &[Text]) -> Result<Vec<Text>, All
     Ok(all)
 }
 
-/// The path behind which nodes of an included document are named: behind the name of its root, if that is one that nothing
-/// else has.
+/// The path behind which nodes of an included document are named: behind the name of its root, if that is one that
+/// nothing else has.
 pub(crate) fn inner_path(
     alloc: Global,
     here: &Open<'_>,

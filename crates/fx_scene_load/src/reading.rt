@@ -142,9 +142,11 @@ fn tell_piece(
     desk: &mut Desk,
 ) -> Result<Vec<Act>, AllocError>
     ensures acts { IfOk result (λ acts. acts.items
-        ≡ (spec.told_at (open_view here.now) (desk_view (shown before.now) desk.old) node (piece_view piece.now)).acts) }
+        ≡ (spec.told_at (open_view here.now) (desk_view (shown before.now) desk.old) node
+        (piece_view piece.now)).acts) }
     ensures names { OnOk result (known desk.new.names
-        ≡ (spec.told_at (open_view here.now) (desk_view (shown before.now) desk.old) node (piece_view piece.now)).names) }
+        ≡ (spec.told_at (open_view here.now) (desk_view (shown before.now) desk.old) node
+        (piece_view piece.now)).names) }
     ensures lanes { OnOk result (desk.new.lanes.items ≡ desk.old.lanes.items
         ++ (spec.told_at (open_view here.now) (desk_view (shown before.now) desk.old) node
         (piece_view piece.now)).lanes) }
@@ -360,8 +362,8 @@ fn read_inner<'x, F: Shelf>(
     read_root(alloc, shelf, here, node, file, element, desk, course)
 }
 
-/// What the attributes of an include ask for of the node of this ordinal, which is the root of the document in the file of
-/// this number.
+/// What the attributes of an include ask for of the node of this ordinal, which is the root of the document in the file
+/// of this number.
 fn read_root<F: Shelf>(
     alloc: Global,
     shelf: &mut F,

@@ -26,8 +26,8 @@ pub struct Scene {
     pub files: Vec<Str>,
 }
 
-/// Adds the tasks of a scene, the file of this number and name, up to the first fault, and the names of the files that are
-/// fetched for it.
+/// Adds the tasks of a scene, the file of this number and name, up to the first fault, and the names of the files that
+/// are fetched for it.
 pub fn add_scene<'x, F: Shelf>(
     alloc: Global,
     shelf: &mut F,
@@ -38,9 +38,9 @@ pub fn add_scene<'x, F: Shelf>(
 ) -> Result<Scene, FetchError>
     ensures held { F.held shelf.new ≡ F.held shelf.old }
     ensures cause { HasCause Failed (F.faults shelf.old) (F.faults shelf.new) result }
-    ensures made { (files : Files) → F.held shelf.old ≡ Some files → IfOk result (λ scene. IsSceneRead files file name.now
-        (spec.first_course before.tasks.items before.files.items) (reading document.now) scene.tasks.items
-        scene.files.items) }
+    ensures made { (files : Files) → F.held shelf.old ≡ Some files
+        → IfOk result (λ scene. IsSceneRead files file name.now (spec.first_course before.tasks.items
+        before.files.items) (reading document.now) scene.tasks.items scene.files.items) }
 {
     let mut course = first_course(alloc, before);
     let around = around_with(alloc, &[], name)?;

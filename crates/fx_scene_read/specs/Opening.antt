@@ -51,8 +51,8 @@ abbrev pub node_flaw : ℕ → Seat → Option Flaw
 node_flaw node seat.Nowhere = Some flaw.Child
 node_flaw node _ = limit_flaw node
 
--- what is wrong with an instance of a class at its name, where it would be this node: of all that is wrong, the first in
--- the order of flaws
+-- what is wrong with an instance of a class at its name, where it would be this node: of all that is wrong, the first
+-- in the order of flaws
 unfoldable pub opening_flaw : List (List ℕ) → ℕ → Seat → Head → Class → Option Flaw
 opening_flaw imports node seat head class =
     if lacks_import imports head.name class then Some flaw.Import

@@ -1,5 +1,5 @@
--- What a piece of a document asks for, in the order of work: an element with its own name first, then its attributes from
--- left to right.
+-- What a piece of a document asks for, in the order of work: an element with its own name first, then its attributes
+-- from left to right.
 use Rattle.std.specs.Prelude.{ℕ, Bool, true, false, ◌||◌, List, [], ◌∷◌, ◌++◌, codes, Option, Some, None, Result, Ok, Err, if◌then◌else◌}
 use Rattle.std.specs.List.{flat_map}
 use Rattle.fx_base.specs.declared.positions.Position.{Position}

@@ -20,9 +20,9 @@ use fx_scene_things::Names;
 use fx_scene_values::Scope;
 use std::alloc::{AllocError, Global};
 
-/// Adds what a piece asks for behind these pieces, with the ordinals that they have: an element with its own name first,
-/// then its attributes from left to right. An instance is the node of this ordinal. Of an include nothing is added, since
-/// what it asks for is told where its document is read.
+/// Adds what a piece asks for behind these pieces, with the ordinals that they have: an element with its own name
+/// first, then its attributes from left to right. An instance is the node of this ordinal. Of an include nothing is
+/// added, since what it asks for is told where its document is read.
 #[tactic(auto, unfolding(crate::specs::Pieces::piece_told))]
 pub fn add_piece(
     alloc: Global,

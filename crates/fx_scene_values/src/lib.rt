@@ -1,5 +1,5 @@
-//! What the attributes of an instance ask for, each by itself: values of properties and of constraints, style classes and
-//! inline styles, or what is wrong with them.
+//! What the attributes of an instance ask for, each by itself: values of properties and of constraints, style classes
+//! and inline styles, or what is wrong with them.
 #![tactic(auto)]
 
 mod forms;

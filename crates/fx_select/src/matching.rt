@@ -11,8 +11,8 @@ use fx_base::Text;
 use fx_css_types::{Combinator, Compound, Selector};
 use fx_kinds::{Class, StyleFacts, name_of};
 
-/// Does the selector match the node at this place? A selector without compounds matches nothing. With each ancestor that
-/// is tried for a combinator the walk goes one call deeper, so the nodes are as few as a scene may have.
+/// Does the selector match the node at this place? A selector without compounds matches nothing. With each ancestor
+/// that is tried for a combinator the walk goes one call deeper, so the nodes are as few as a scene may have.
 pub fn matches(selector: &Selector, facts: &[StyleFacts], at: usize) -> bool
     requires few { length facts.now ≤ 4096 }
     requires before { ParentsStandBefore facts.now }

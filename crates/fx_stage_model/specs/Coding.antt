@@ -1,5 +1,5 @@
--- Lines of actions as lists, so that two can be told apart by their lists: a line is one item, and an action's lines stand
--- between its own item and an item that closes it.
+-- Lines of actions as lists, so that two can be told apart by their lists: a line is one item, and an action's lines
+-- stand between its own item and an item that closes it.
 use Rattle.std.proofs.Common.{inl, inr, refl, ap, ◌∙◌}
 use Rattle.std.specs.Prelude.{◌≡◌, ◌⊎◌, ℕ, List, [], ◌∷◌}
 use Rattle.std.specs.Coded.{Coded, code_by, coded_ℕ, coded_list, coded×, coded⊎}

@@ -9,8 +9,8 @@ use Rattle.fx_store_model.specs.Stored.{Stored, empty}
 use Rattle.fx_stage_model.specs.Graphs.{Graph, bare}
 
 -- The names of a script: free properties, owners by their labels, actions with their lines; then the actions that
--- listeners run, in the order in which they were first named; and for each living listener the property's path as it was
--- written.
+-- listeners run, in the order in which they were first named; and for each living listener the property's path as it
+-- was written.
 pub record Names : Type 0 where
   pub free : List (List ℕ × Name)
   pub labels : List (List ℕ × Owner)
@@ -18,8 +18,8 @@ pub record Names : Type 0 where
   pub run : List (List ℕ)
   pub written : List (ℕ × List (List ℕ))
 
--- The properties with their pairs, listeners and owners, the scene graph, the script's names, the pointer if it was ever
--- moved, whether the button is down, and the window if there is one.
+-- The properties with their pairs, listeners and owners, the scene graph, the script's names, the pointer if it was
+-- ever moved, whether the button is down, and the window if there is one.
 pub record World : Type 0 where
   pub store : Stored
   pub graph : Graph

@@ -1,7 +1,7 @@
 //! A pane and its children from the words of a line. A fact is a letter and a number: `a`, `b` and `c` are minimum,
 //! preferred and maximum width, `d`, `e` and `f` the same of the height, and `t`, `r`, `u` and `l` are the top, right,
-//! bottom and left of insets or a margin; the functions below have the other letters. What isn't said is as in a new pane,
-//! and a child grows without end.
+//! bottom and left of insets or a margin; the functions below have the other letters. What isn't said is as in a new
+//! pane, and a child grows without end.
 use anyhow::bail;
 use fx_base::{ChildSize, List, PaneFacts, Sides, Sizes, Text, Track};
 use std::alloc::Global;

@@ -1,8 +1,8 @@
 //! A node from the words of a line: its number, the place of its parent or `-`, its class, and what else it has, each
 //! word by its first sign. `#` stands before the id, `.` before a class, `:` before a pseudo-class, `~` before the
-//! place of its inline style, and `@` before that of a sheet that it lists. `s9=i17` says that code set the value of the
-//! style table's row 9, and `b9=i17` that a binding gives it; its letter says what it is: `i` a size, `t` a truth, `p`
-//! the place of a position, `n` sides and `c` a colour.
+//! place of its inline style, and `@` before that of a sheet that it lists. `s9=i17` says that code set the value of
+//! the style table's row 9, and `b9=i17` that a binding gives it; its letter says what it is: `i` a size, `t` a truth,
+//! `p` the place of a position, `n` sides and `c` a colour.
 use anyhow::bail;
 use fx_base::{Color, Family, List, NodeKey, Sides, Text, Value};
 use fx_kinds::{Class, StyleFacts, class_of};

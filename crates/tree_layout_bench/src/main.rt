@@ -1,5 +1,5 @@
-//! Lays out a tree of all panes, and then so many times after one leaf has changed or everything has, and prints a checksum
-//! of the rectangles. A script counts its instructions; no other crate stands on this one.
+//! Lays out a tree of all panes, and then so many times after one leaf has changed or everything has, and prints a
+//! checksum of the rectangles. A script counts its instructions; no other crate stands on this one.
 #![tactic(auto)]
 
 ghost use Rattle.std.specs.Prelude.{◌≡◌, length};

@@ -1,9 +1,9 @@
 //! A node from its text: its class, the slot and the birth of its key, its parent's place or `-`, and its facts, each a
 //! letter and a number. `a`, `b` and `c` are minimum, preferred and maximum width, `d`, `e` and `f` the same of the
 //! height, `t`, `r`, `u` and `l` the padding at the top, right, bottom and left, and the functions below have the other
-//! letters. Behind semicolons stand its text, its tracks, the layers of its border and its constraints, as in `text AB CD`,
-//! `column b3 g1`, `border 1 1 1 1 0 0 0 0` (the widths and the insets of a layer) and `HBox.hgrow ALWAYS`. What isn't said
-//! is as nothing styles it.
+//! letters. Behind semicolons stand its text, its tracks, the layers of its border and its constraints, as in `text AB
+//! CD`, `column b3 g1`, `border 1 1 1 1 0 0 0 0` (the widths and the insets of a layer) and `HBox.hgrow ALWAYS`. What
+//! isn't said is as nothing styles it.
 use anyhow::bail;
 use fx_base::{Color, List, NodeKey, Sides, Text, Track};
 use fx_kinds::{BoxFacts, Class, Constraint, class_of, constraint_value};
@@ -131,8 +131,8 @@ fn set_length(look: &mut Look, letter: u8, number: i64) -> bool {
     true
 }
 
-/// `p` is alignment, `s` spacing, `h` and `v` are the gaps, `x` and `y` fillWidth and fillHeight, `z` is the font's size
-/// and `w` wrapText.
+/// `p` is alignment, `s` spacing, `h` and `v` are the gaps, `x` and `y` fillWidth and fillHeight, `z` is the font's
+/// size and `w` wrapText.
 fn set_look(look: &mut Look, letter: u8, number: i64) {
     match letter {
         b'p' => look.alignment = choice(number).unwrap_or(0),

@@ -1,12 +1,19 @@
 -- The lines of a script, and of an action, one after another.
-use Rattle.std.proofs.Common.{◌≡◌, ◌+◌, ◌≤◌, ◌<◌, ℕ, Bool, true, false, not, List, [], ◌∷◌, ◌++◌, Bor, length, map, take, drop, drop-cons, get_or, add-one, refl, ap, sym, ◌∙◌, append_assoc, arith, if◌then◌else◌, nat_le, nat_lt, Option, Some, None}
+use Rattle.std.proofs.Common.{◌≡◌, ◌+◌, ◌≤◌, ◌<◌, ℕ, Bool, true, false, not, List, [], ◌∷◌, ◌++◌, Bor, length, map, take, drop, drop-cons, get_or, add-one, refl, ap, sym, ◌∙◌, append_assoc, arith, if◌then◌else◌, nat_le, nat_lt, Option, Some, None, codes}
 use Rattle.std.specs.List.{position, prefix_len}
 use Rattle.std.specs.Option.{option_map, option_to_list}
 use Rattle.std.proofs.lemmas.List.{append-nil, drop_all, length-append, length-map, map-append, take-map}
 use Rattle.std.proofs.lemmas.Bool.Decides.{nat_tests}
-use Rattle.fx_script_commands.specs.Commands.{is_end, is_skipped}
-use Rattle.fx_script_commands.specs.Requests.{Numbered, line_view}
-use Rattle.fx_script_commands.specs.Scripts.{body_from, body_in, body_of, inside_line, line_at, lines_from, opens}
+use Rattle.std.specs.Str.{bytes_eq}
+use Rattle.fx_script_lines.specs.Taking.{alone, behind_word, word, word_in}
+use Rattle.fx_script_lines.specs.declared.shapes.Shape.TheVariants.{Identifier}
+use Rattle.fx_script_commands.specs.Adding.{Adds}
+use Rattle.fx_script_commands.specs.Commands.{action_name, is_end, is_skipped, request_behind, request_of}
+use Rattle.fx_script_commands.specs.Requests.{Numbered, Request, command_view, line_view, numbered}
+use Rattle.fx_script_commands.specs.Scripts.{action_of, body_from, body_in, body_of, inside_line, line_at, lines_from, opens}
+use Rattle.fx_script_commands.specs.declared.commands.Command.TheVariants as v
+use Rattle.fx_script_commands.specs.declared.standing.Standing.TheVariants.{Outside}
+use Rattle.fx_script_commands.proofs.CommandLemmas.{bad_action, bad_seen}
 use Rattle.fx_script_commands.specs.declared.commands.Line.{Line}
 
 -- a line within an action
@@ -27,6 +34,44 @@ pub line_read : (inside next : Bool) (text : List ℕ) (texts : List (List ℕ))
     → at ∷ lines_from next (n + 1) texts ≡ lines_from inside n (text ∷ texts)
 unfolding lines_from
 line_read inside next text texts n at i s is e = rw (i, s, is, e) refl
+
+-- what a line asks for that is no action
+line_alone : (n : ℕ) (text : List ℕ) (behind : List (List ℕ)) → action_name text ≡ None
+    → line_at n text behind ≡ numbered n (request_of Outside text)
+unfolding line_at
+line_alone n text behind e = rw e refl
+
+other_word : (text : List ℕ) → false ≡ bytes_eq (word_in text) (codes "action") → action_name text ≡ None
+unfolding action_name
+other_word text other = rw (← other) refl
+
+pub adds_alone : (n : ℕ) (text first left : List ℕ) (behind : List (List ℕ)) (before after : List Line)
+    → first ≡ word_in text → left ≡ behind_word text → false ≡ bytes_eq first (codes "action")
+    → Adds before (numbered n (request_behind Outside first left)) after → Adds before (line_at n text behind) after
+adds_alone n text first left behind before after w l other is =
+    rw (line_alone n text behind (other_word text (rw (← w) other)), ← w, ← l) is
+
+-- what an action asks for
+line_action : (n : ℕ) (text name : List ℕ) (behind : List (List ℕ)) → true ≡ bytes_eq (word_in text) (codes "action")
+    → alone (word Identifier) (behind_word text) ≡ Some name → line_at n text behind ≡ numbered n (action_of name (n + 1) behind)
+unfolding line_at action_name
+line_action n text name behind begins named = rw (← begins, named) refl
+
+pub adds_action : (n : ℕ) (text first left name : List ℕ) (behind : List (List ℕ)) (asked : Request) (before after : List Line)
+    → first ≡ word_in text → left ≡ behind_word text → true ≡ bytes_eq first (codes "action")
+    → alone (word Identifier) left ≡ Some name → asked ≡ action_of name (n + 1) behind
+    → Adds before (numbered n asked) after → Adds before (line_at n text behind) after
+adds_action n text first left name behind asked before after w l begins named what is =
+    rw (line_action n text name behind (rw (← w) begins) (rw (← l) named), ← what) is
+
+-- what a line asks for that begins as an action, but is none
+pub adds_bad : (n : ℕ) (text first left : List ℕ) (behind : List (List ℕ)) (before after : List Line)
+    → first ≡ word_in text → left ≡ behind_word text → true ≡ bytes_eq first (codes "action")
+    → alone (word Identifier) left ≡ None
+    → Adds before (numbered n (command_view v.Bad)) after → Adds before (line_at n text behind) after
+adds_bad n text first left behind before after w l begins none is =
+    let known = bad_action text (rw (← w) begins) (rw (← l) none) in
+    rw (line_alone n text behind known.0, ← known.1, ← bad_seen) is
 
 listed : (line : Option Line) → map line_view (option_to_list line) ≡ option_to_list (option_map line_view line)
 listed None = refl
@@ -69,21 +114,32 @@ body_turn texts i d n done new line all inside is grows e =
     ∙ sym (ap (body_from n) (seen_more texts i d inside)))
     e
 
--- one line more of a script, or none
-pub line_turn : (texts : List (Bor (List ℕ))) (i : ℕ) (d : Bor (List ℕ)) (n : ℕ) (was now : Bool) (done new : List Line)
-    (line : Option Line) (behind : List (List ℕ)) (all : List Numbered) → i < length texts
+-- a line of a script is gone by, which is within an action or skipped
+pub line_passed : (done : List Numbered) (was now : Bool) (text : List ℕ) (texts : List (List ℕ)) (n : ℕ)
+    → lines_from now (n + 1) texts ≡ lines_from was n (text ∷ texts)
+    → done ++ lines_from now (n + 1) texts ≡ done ++ lines_from was n (text ∷ texts)
+line_passed done was now text texts n e = ap (λ (ls : List Numbered). done ++ ls) e
+
+-- one that is read stands behind the others
+pub line_pushed : (done new : List Numbered) (was now : Bool) (text : List ℕ) (texts : List (List ℕ)) (n : ℕ)
+    → new ≡ done ++ (line_at n text texts ∷ []) → was ≡ false → is_skipped text ≡ false → now ≡ opens text
+    → new ++ lines_from now (n + 1) texts ≡ done ++ lines_from was n (text ∷ texts)
+line_pushed done new was now text texts n grows out unskipped opening =
+    ap (λ (ls : List Numbered). ls ++ lines_from now (n + 1) texts) grows
+    ∙ append_assoc done (line_at n text texts ∷ []) (lines_from now (n + 1) texts)
+    ∙ ap (λ (ls : List Numbered). done ++ ls) (line_read was now text texts n (line_at n text texts) out unskipped refl opening)
+
+-- one turn more of a script
+pub line_turn : (texts : List (Bor (List ℕ))) (i : ℕ) (d : Bor (List ℕ)) (n : ℕ) (was now : Bool)
+    (done new : List Numbered) (behind : List (List ℕ)) (all : List Numbered) → i < length texts
     → behind ≡ seen (drop (i + 1) texts)
-    → option_to_list (option_map line_view line) ++ lines_from now (n + 1) behind
-    ≡ lines_from was n ((get_or texts i d).now ∷ behind)
-    → new ≡ done ++ option_to_list line
-    → map line_view done ++ lines_from was n (seen (drop i texts)) ≡ all
-    → map line_view new ++ lines_from now (n + 1) (seen (drop (i + 1) texts)) ≡ all
-line_turn texts i d n was now done new line behind all inside rest is grows e =
-    pushed done new line (lines_from now (n + 1) (seen (drop (i + 1) texts))) (lines_from was n (seen (drop i texts))) all grows
-    (ap (λ (ls : List (List ℕ)). option_to_list (option_map line_view line) ++ lines_from now (n + 1) ls) (sym rest)
-    ∙ is ∙ ap (λ (ls : List (List ℕ)). lines_from was n ((get_or texts i d).now ∷ ls)) rest
-    ∙ sym (ap (lines_from was n) (seen_more texts i d inside)))
-    e
+    → new ++ lines_from now (n + 1) behind ≡ done ++ lines_from was n ((get_or texts i d).now ∷ behind)
+    → done ++ lines_from was n (seen (drop i texts)) ≡ all
+    → new ++ lines_from now (n + 1) (seen (drop (i + 1) texts)) ≡ all
+line_turn texts i d n was now done new behind all inside rest is e =
+    ap (λ (ls : List (List ℕ)). new ++ lines_from now (n + 1) ls) (sym rest)
+    ∙ is ∙ ap (λ (ls : List (List ℕ)). done ++ lines_from was n ((get_or texts i d).now ∷ ls)) rest
+    ∙ sym (ap (λ (ls : List (List ℕ)). done ++ lines_from was n ls) (seen_more texts i d inside)) ∙ e
 
 -- all lines of an action are read
 by_few : (xs ys : List Numbered) → xs ≡ ys → length ys ≤ 1000

@@ -1,5 +1,5 @@
+pub mod Adding
 pub mod Braces
 pub mod Commands
-pub mod Openings
 pub mod Requests
 pub mod Scripts

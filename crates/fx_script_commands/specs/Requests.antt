@@ -32,6 +32,9 @@ pub record Numbered : Type 0 where
   pub number : ℕ
   pub request : Request
 
+abbrev pub numbered : ℕ → Request → Numbered
+numbered n asked = record { number = n; request = asked }
+
 abbrev pub requests_of : List Numbered → Requests
 requests_of [] = no_more
 requests_of (l ∷ ls) = more l.number l.request (requests_of ls)

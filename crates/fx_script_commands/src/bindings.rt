@@ -1,11 +1,14 @@
 //! What one line asks for by itself, bindings included.
 //! Between the words of a line and the lines of a script.
-ghost use Rattle.std.specs.Prelude.{◌≡◌, IfOk};
+ghost use Rattle.std.specs.Prelude.{◌≡◌, IfOk, OnOk};
+ghost use Rattle.fx_script_commands.specs.Adding.{Adds};
 ghost use Rattle.fx_script_commands.specs.Commands as spec;
-ghost use Rattle.fx_script_commands.specs.Requests.{IsFound, command_view, expression_view};
+ghost use Rattle.fx_script_commands.specs.Requests.{IsFound, command_view, expression_view, numbered};
+ghost use Rattle.fx_script_commands.specs.declared.standing.Standing.TheVariants as standing;
 
 use crate::braces::between_braces;
-use crate::commands::Command;
+use crate::commands::{Command, Line};
+use crate::pushing::push;
 use crate::standing::{Standing, is_barred};
 use fx_expr::{ExprError, Parsed, read_expr};
 use fx_script_lines::{Stop, Words, instruction};
@@ -28,6 +31,28 @@ pub(crate) fn command(
     match allowed(alloc, words, first) {
         Ok(command) => Ok(command),
         Err(Stop::Form) => Ok(Command::Bad),
+        Err(Stop::Memory) => Err(AllocError),
+    }
+}
+
+/// The line whose first word was taken, outside actions: it is put behind the others.
+#[tactic(auto, unfolding(crate::specs::Commands::request_behind))]
+pub(crate) fn push_command(
+    alloc: Global,
+    words: &mut Words<'_>,
+    first: &str,
+    number: u32,
+    lines: &mut Vec<Line>,
+) -> Result<(), AllocError>
+    ensures { OnOk result (Adds lines.old.items
+        (numbered number (spec.request_behind standing.Outside first.now words.old.left.now)) lines.new.items) }
+{
+    if is_barred(Standing::Outside, first) {
+        return push(lines, number, Command::Bad);
+    }
+    match allowed(alloc, words, first) {
+        Ok(command) => push(lines, number, command),
+        Err(Stop::Form) => push(lines, number, Command::Bad),
         Err(Stop::Memory) => Err(AllocError),
     }
 }

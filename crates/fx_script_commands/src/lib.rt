@@ -9,6 +9,7 @@ mod commands;
 mod errors;
 mod laws;
 mod lines;
+mod pushing;
 mod scripts;
 mod skipping;
 mod standing;

@@ -1,26 +1,17 @@
 //! The lines of a script, each by its number.
 //! Loading hands the bytes of a file in; what it gets is carried out line by line.
 ghost use Rattle.std.specs.Prelude.{◌≡◌, ◌≤◌, ◌<◌, ◌+◌, ◌^◌, ◌∷◌, ◌++◌, IfErr, IfOk, List, false, length, map};
-ghost use Rattle.std.specs.Option.{option_map, option_to_list};
 ghost use Rattle.std.specs.Str.{IsUtf8};
 ghost use Rattle.std.specs.Str.Lines.{lines};
 ghost use Rattle.fx_script_commands.specs.Requests.{Numbered, line_view};
 ghost use Rattle.fx_script_commands.specs.Scripts as spec;
 ghost use Rattle.fx_script_commands.specs.Scripts.{HasFault, IsGiven, IsNoText, IsScript, IsTooLong};
 
-use crate::actions::read_action;
 use crate::commands::Line;
 use crate::errors::ScriptError;
-use crate::lines::{Opening, push_some, read_opening};
+use crate::lines::push_line;
 use crate::skipping::{is_end, is_skipped};
 use std::alloc::{AllocError, Global};
-
-/// A line, if there is one, and whether the next stands within an action.
-#[derive(Drop)]
-struct Taken {
-    line: Option<Line>,
-    inside: bool,
-}
 
 /// The most lines of a script.
 const LINE_LIMIT: usize = 100_000;
@@ -64,64 +55,35 @@ fn read_lines(alloc: Global, texts: &[&str]) -> Result<Vec<Line>, AllocError>
     let mut number = 1;
     for (index, text) in texts.iter().enumerate() {
         let behind = texts.split_at(index + 1).1;
-        let taken = take_line(alloc, inside, number, text, behind)?;
-        push_some(&mut lines, taken.line)?;
-        inside = taken.inside;
+        let next = take_line(alloc, inside, number, text, behind, &mut lines)?;
+        inside = next;
         number += 1;
     }
     Ok(lines)
 }
 
-/// The line of this number, from its text and what stands behind it, unless it stands within an action or is skipped.
+/// Puts the line of this number behind the others, from its text and what stands behind it, unless it stands within an
+/// action or is skipped; tells whether the next stands within one.
 fn take_line(
     alloc: Global,
     inside: bool,
     number: u32,
     text: &str,
     behind: &[&str],
-) -> Result<Taken, AllocError>
+    lines: &mut Vec<Line>,
+) -> Result<bool, AllocError>
     requires { number + 1 + length behind.now < 2 ^ 32 }
-    ensures { IfOk result (λ taken. option_to_list (option_map line_view taken.line)
-        ++ spec.lines_from taken.inside (number + 1) (map (λ line. line.now) behind.now)
-        ≡ spec.lines_from inside number (text.now ∷ map (λ line. line.now) behind.now)) }
+    ensures { IfOk result (λ next. map line_view lines.new.items
+        ++ spec.lines_from next (number + 1) (map (λ line. line.now) behind.now)
+        ≡ map line_view lines.old.items
+        ++ spec.lines_from inside number (text.now ∷ map (λ line. line.now) behind.now)) }
 {
     if inside {
-        return Ok(Taken {
-            line: None,
-            inside: !is_end(text),
-        });
+        return Ok(!is_end(text));
     }
     if is_skipped(text) {
-        return Ok(Taken {
-            line: None,
-            inside: false,
-        });
+        return Ok(false);
     }
-    let (line, opens) = read_at(alloc, number, text, behind)?;
-    Ok(Taken {
-        line: Some(line),
-        inside: opens,
-    })
-}
-
-/// The line of this number, from its text and what stands behind it, and whether it opens an action.
-#[tactic(auto, unfolding(crate::specs::Scripts::line_at, crate::specs::Scripts::opens))]
-fn read_at(
-    alloc: Global,
-    number: u32,
-    text: &str,
-    behind: &[&str],
-) -> Result<(Line, bool), AllocError>
-    requires { number + 1 + length behind.now < 2 ^ 32 }
-    ensures line { IfOk result (λ read. line_view read.0
-        ≡ spec.line_at number text.now (map (λ line. line.now) behind.now)) }
-    ensures opens { IfOk result (λ read. read.1 ≡ spec.opens text.now) }
-{
-    match read_opening(alloc, text)? {
-        Opening::Alone(command) => Ok((Line { number, command }, false)),
-        Opening::Action(name) => {
-            let command = read_action(alloc, name, number + 1, behind)?;
-            Ok((Line { number, command }, true))
-        }
-    }
+    let opened = push_line(alloc, number, text, behind, lines)?;
+    Ok(opened)
 }

@@ -1,6 +1,6 @@
 //! Where lines may stand.
 //! The readers of single lines ask it by a line's first word.
-ghost use Rattle.std.specs.Prelude.{◌≡◌};
+ghost use Rattle.std.specs.Prelude.{◌≡◌, codes};
 ghost use Rattle.std.specs.List.{list_any};
 ghost use Rattle.std.specs.Str.{bytes_eq};
 ghost use Rattle.fx_script_commands.specs.Commands as spec;
@@ -37,9 +37,15 @@ pub(crate) fn is_barred(standing: Standing, first: &str) -> bool
     ensures { result ≡ spec.is_barred standing first.now }
 {
     match standing {
-        Standing::Outside => is_among(&["consume"], first),
+        Standing::Outside => is_consume(first),
         Standing::InAction => is_among(&OUTSIDE_ALONE, first),
     }
+}
+
+fn is_consume(first: &str) -> bool
+    ensures { result ≡ bytes_eq (codes "consume") first.now }
+{
+    b"consume".as_slice() == first.as_bytes()
 }
 
 fn is_among(words: &[&str], first: &str) -> bool

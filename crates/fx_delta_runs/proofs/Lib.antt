@@ -1,0 +1,9 @@
+pub mod BoxLemmas
+pub mod ColorLemmas
+pub mod DamageLemmas
+pub mod DrawableLemmas
+pub mod FrameLemmas
+pub mod PointLemmas
+pub mod RunLemmas
+pub mod StreamLemmas
+pub mod TextLemmas

@@ -1,0 +1,75 @@
+//! The laws of a run's stream.
+ghost use Rattle.std.specs.Prelude.{◌≡◌, ◌<◌, ◌≤◌, ◌^◌, ℕ, true, All, IfSome, List, None, Option, length};
+ghost use Rattle.fx_base.specs.declared.geometry.Rect.{Rect as Rectangle};
+ghost use Rattle.fx_delta.specs.Pictures.{is_size};
+ghost use Rattle.fx_delta.specs.Stream.{shown};
+ghost use Rattle.fx_delta_runs.specs.Frames.{AreLines, IsColor, IsDrawable, IsProper, IsSent, Telling, tolds_in};
+ghost use Rattle.fx_delta_runs.specs.Runs.{AreProper, IsFirst, IsRun, IsShownAs, in_form};
+ghost use Rattle.fx_frame_text.specs.declared.forms.Form.{Form};
+ghost use Rattle.fx_frame_text.specs.declared.forms.Form.TheVariants.{Delta, Text};
+ghost use Rattle.fx_picture.specs.Pixels.{shapes_of};
+ghost use Rattle.fx_picture.specs.Shapes.{color_of};
+ghost use Rattle.fx_picture.specs.declared.entries.Entry.{Entry as Node};
+ghost use Rattle.fx_picture.specs.declared.shapes.Shape.{Shape};
+ghost use Rattle.fx_plain_frames.specs.Games.{Game};
+ghost use Rattle.fx_plain_frames.specs.Playing.{IsPlayed};
+ghost use Rattle.fx_plain_runs.specs.Runs.{IsWritten};
+ghost use Rattle.fx_plain_runs.specs.declared.manners.Manner.{Manner};
+ghost use Rattle.fx_plain_steps.specs.Told.{Told, texts_of};
+ghost use Rattle.fx_pulse_model.specs.Frames.{Framed, IsFrame};
+ghost use Rattle.fx_pulse_model.specs.Scenes.{IsScene, Scene};
+ghost use Rattle.fx_script_commands.specs.Requests.{Numbered};
+
+/// The frame of a scene can be drawn where its size is one that a frame can have, and its colours' channels are bytes.
+pub fn scenes_are_drawable()
+    ensures { (scene : Scene) (window : Option (ℕ × ℕ)) (w h : ℕ) (rects : List Rectangle) (picture : List Node)
+        → IsScene scene → IsFrame scene window w h rects picture → is_size w h ≡ true
+        → All (λ (s : Shape). IsColor (color_of s)) (shapes_of picture)
+        → IsDrawable (record { width = w; height = h; picture = picture }) }
+{}
+
+/// A frame that can be drawn is sent as a part of a stream, behind any other one or as the first: its changed rows make
+/// its image of what is shown, and what is written of it as text is what a viewer writes then.
+pub fn frames_are_sent()
+    ensures { (number : ℕ) (last : Option Framed) (next : Framed) → 1 ≤ number → number < 2 ^ 64
+        → IfSome last IsDrawable → IsDrawable next → IsSent number last next }
+{}
+
+/// Of frames that follow one another, with lines between them, a viewer of the changed rows shows the text.
+pub fn streams_show_their_frames()
+    ensures { (tellings : List Telling) → All IsProper tellings → length tellings < 2 ^ 64
+        → shown (texts_of (tolds_in Delta 0 None tellings))
+        ≡ record { bytes = texts_of (tolds_in Text 0 None tellings); bad = None } }
+{}
+
+/// What lines tell with frames in one form is what a run tells, which doesn't depend on the form.
+pub fn runs_are_one()
+    ensures { (form : Form) (first : Game) (lines : List Numbered) (tolds : List Told)
+        → IsPlayed form first lines tolds
+        → (tellings : List Telling) × (IsRun first lines tellings)
+        × (tolds ≡ tolds_in form first.frames first.last tellings) }
+{}
+
+/// And a run tells it in each form.
+pub fn runs_have_each_form()
+    ensures { (form : Form) (first : Game) (lines : List Numbered) (tellings : List Telling)
+        → IsRun first lines tellings → IsPlayed form first lines (tolds_in form first.frames first.last tellings) }
+{}
+
+/// Of each stream that a run writes from its beginning a viewer shows the text of the same run and finds no bad line,
+/// where all that the lines may tell is proper.
+pub fn streams_show_their_runs()
+    ensures { (manner : Manner) (warnings : List ℕ) (first : Game) (lines : List Numbered) (stream : List ℕ)
+        → IsFirst first → length lines < 2 ^ 64 → AreLines warnings → AreProper first lines
+        → IsWritten (in_form Delta manner) warnings first lines stream
+        → (text : List ℕ) × IsShownAs manner warnings first lines stream text }
+{}
+
+/// And each text that a run writes is shown of a stream that the same run writes.
+pub fn runs_are_shown()
+    ensures { (manner : Manner) (warnings : List ℕ) (first : Game) (lines : List Numbered) (text : List ℕ)
+        → IsFirst first → length lines < 2 ^ 64 → AreLines warnings → AreProper first lines
+        → IsWritten (in_form Text manner) warnings first lines text
+        → (stream : List ℕ) × (IsWritten (in_form Delta manner) warnings first lines stream)
+        × (shown stream ≡ record { bytes = text; bad = None }) }
+{}

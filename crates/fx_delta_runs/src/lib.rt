@@ -1,0 +1,10 @@
+//! What a viewer shows of a run's stream: the law that the changed rows of a run are shown as the text of the same run.
+//! It stands beside the programs, above the definitions of what a run writes and the law of a view and a viewer.
+#![tactic(auto)]
+
+mod laws;
+
+pub use laws::{
+    frames_are_sent, runs_are_one, runs_are_shown, runs_have_each_form, scenes_are_drawable,
+    streams_show_their_frames, streams_show_their_runs,
+};

@@ -4,6 +4,10 @@ pub mod DamageLemmas
 pub mod DrawableLemmas
 pub mod FrameLemmas
 pub mod PointLemmas
+pub mod PrintLemmas
 pub mod RunLemmas
 pub mod StreamLemmas
+pub mod TameLemmas
+pub mod TellingLemmas
 pub mod TextLemmas
+pub mod WorldLemmas

@@ -69,7 +69,7 @@ framed form line before now told pulse s =
         }) s.made.count s.made.drawn.damage
 
 -- no frame
-still : (line : Numbered) (before now : Game) (told : Told) (instruction : Option Instruction)
+pub still : (line : Numbered) (before now : Game) (told : Told) (instruction : Option Instruction)
     (asked : Option (List (List ℕ) × List ℕ)) → IsToldOf instruction asked line before now told
     → (now.frames ≡ before.frames) × (now.last ≡ before.last)
 still line before now told (Some instruction) asked s =

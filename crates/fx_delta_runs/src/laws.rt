@@ -5,6 +5,7 @@ ghost use Rattle.fx_delta.specs.Pictures.{is_size};
 ghost use Rattle.fx_delta.specs.Stream.{shown};
 ghost use Rattle.fx_delta_runs.specs.Frames.{AreLines, IsColor, IsDrawable, IsProper, IsSent, Telling, tolds_in};
 ghost use Rattle.fx_delta_runs.specs.Runs.{AreProper, IsFirst, IsRun, IsShownAs, in_form};
+ghost use Rattle.fx_delta_runs.specs.Tame.{AreDrawable, AreTameLines, IsTameWorld};
 ghost use Rattle.fx_frame_text.specs.declared.forms.Form.{Form};
 ghost use Rattle.fx_frame_text.specs.declared.forms.Form.TheVariants.{Delta, Text};
 ghost use Rattle.fx_picture.specs.Pixels.{shapes_of};
@@ -72,4 +73,11 @@ pub fn runs_are_shown()
         → IsWritten (in_form Text manner) warnings first lines text
         → (stream : List ℕ) × (IsWritten (in_form Delta manner) warnings first lines stream)
         × (shown stream ≡ record { bytes = text; bad = None }) }
+{}
+
+/// All that lines tell is proper where each frame can be drawn, and no text that a line says and no path that is
+/// printed holds a line feed: what they print beside frames is whole lines then, and none is taken for a frame's.
+pub fn tame_lines_are_proper()
+    ensures { (first : Game) (lines : List Numbered) → IsTameWorld first.world → AreTameLines lines
+        → AreDrawable first lines → AreProper first lines }
 {}

@@ -1,3 +1,4 @@
+pub mod BeginLemmas
 pub mod BoxLemmas
 pub mod ColorLemmas
 pub mod DamageLemmas

@@ -43,7 +43,7 @@ abbrev pub Keeps : Result Taken Refusal → Type 0
 Keeps answer = IfOk answer (λ (t : Taken). IsTameWorld t.world)
 
 -- ---- parts of answers
-then_keeps : {A : Type 0} (answer : Result A Refusal) (next : A → Result Taken Refusal) → ((a : A) → Keeps (next a))
+pub then_keeps : {A : Type 0} (answer : Result A Refusal) (next : A → Result Taken Refusal) → ((a : A) → Keeps (next a))
     → Keeps (and_then answer next)
 then_keeps (Ok a) next each = each a
 then_keeps (Err refusal) next each = tt
@@ -53,7 +53,7 @@ then_taken : (answer : Result Taken Refusal) (next : Taken → Result Taken Refu
 then_taken (Ok t) next is each = each t is
 then_taken (Err refusal) next is each = tt
 
-unless_keeps : (so : Bool) (refusal : Refusal) (next : Result Taken Refusal) → Keeps next
+pub unless_keeps : (so : Bool) (refusal : Refusal) (next : Result Taken Refusal) → Keeps next
     → Keeps (unless so refusal next)
 unless_keeps true refusal next is = tt
 unless_keeps false refusal next is = is
@@ -170,7 +170,7 @@ new_keeps slot name path world is =
     (unless_keeps (nodes.has_no_room class world) word.Full _
     (record { written = is.written; actions = is.actions })))
 
-by_tree_keeps : (error : Option TreeError) (graph : Graph) (world : World) → IsTameWorld world
+pub by_tree_keeps : (error : Option TreeError) (graph : Graph) (world : World) → IsTameWorld world
     → Keeps (nodes.by_tree error graph world)
 by_tree_keeps None graph world is = record { written = is.written; actions = is.actions }
 by_tree_keeps (Some error) graph world is = tt
@@ -245,7 +245,7 @@ constrain_keeps path name text world is =
     then_keeps (or_word word.Value (dressing.constraint_edit name entry text)) _ (λ change.
     record { written = is.written; actions = is.actions })))
 
-registered_keeps : (key : NodeKey) (new : Registration) (world : World) → IsTameWorld world
+pub registered_keeps : (key : NodeKey) (new : Registration) (world : World) → IsTameWorld world
     → Keeps (dressing.registered key new world)
 registered_keeps key new world is =
     unless_keeps (is_some (handler_refusal key new world.graph)) word.Full _

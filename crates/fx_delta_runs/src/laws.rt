@@ -14,11 +14,12 @@ ghost use Rattle.fx_picture.specs.declared.entries.Entry.{Entry as Node};
 ghost use Rattle.fx_picture.specs.declared.shapes.Shape.{Shape};
 ghost use Rattle.fx_plain_frames.specs.Games.{Game};
 ghost use Rattle.fx_plain_frames.specs.Playing.{IsPlayed};
-ghost use Rattle.fx_plain_runs.specs.Runs.{IsWritten};
+ghost use Rattle.fx_plain_runs.specs.Runs.{IsBegun, IsWritten};
 ghost use Rattle.fx_plain_runs.specs.declared.manners.Manner.{Manner};
 ghost use Rattle.fx_plain_steps.specs.Told.{Told, texts_of};
 ghost use Rattle.fx_pulse_model.specs.Frames.{Framed, IsFrame};
 ghost use Rattle.fx_pulse_model.specs.Scenes.{IsScene, Scene};
+ghost use Rattle.fx_scene_acts.specs.declared.tasks.Task.{Task};
 ghost use Rattle.fx_script_commands.specs.Requests.{Numbered};
 
 /// The frame of a scene can be drawn where its size is one that a frame can have, and its colours' channels are bytes.
@@ -80,4 +81,10 @@ pub fn runs_are_shown()
 pub fn tame_lines_are_proper()
     ensures { (first : Game) (lines : List Numbered) → IsTameWorld first.world → AreTameLines lines
         → AreDrawable first lines → AreProper first lines }
+{}
+
+/// A game of a scene begins before its first frame, in a world without a listener or an action.
+pub fn begun_games_are_tame()
+    ensures { (window : Option (ℕ × ℕ)) (tasks : List Task) (first : Game) → IsBegun window tasks first
+        → (IsFirst first) × (IsTameWorld first.world) }
 {}

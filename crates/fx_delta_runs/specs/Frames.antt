@@ -27,11 +27,11 @@ pub record IsColor (color : Color) : Type 0 where
 
 -- A frame that can be drawn: it has at least one pixel each way and at most 2,048, its nodes stand in pre-order, no
 -- two of them have one birth number, and the channels of its colours are bytes.
-pub record IsDrawable (frame : Framed) : Type 0 where
-  pub sized : is_size frame.width frame.height ≡ true
-  pub rises : Rises frame.picture
-  pub births : HasDistinctBirths frame.picture
-  pub colors : All (λ (s : Shape). IsColor (color_of s)) (shapes_of frame.picture)
+pub record IsDrawable (drawn : Framed) : Type 0 where
+  pub sized : is_size drawn.width drawn.height ≡ true
+  pub rises : Rises drawn.picture
+  pub births : HasDistinctBirths drawn.picture
+  pub colors : All (λ (s : Shape). IsColor (color_of s)) (shapes_of drawn.picture)
 
 -- what a frame damages of the one before it, if there was one
 abbrev pub damage_behind : Option Framed → Framed → List Rect

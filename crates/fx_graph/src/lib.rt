@@ -293,6 +293,24 @@ impl Graph {
         looking::read_each(alloc, &mut self.lists, names, work)
     }
 
+    /// Reads these properties one after another, without a copy of their values. Where memory is wanting, some names may
+    /// have been read.
+    pub fn settle_all<L: Ledgers>(
+        &mut self,
+        alloc: Global,
+        names: &[Name],
+        work: &mut Work<L>,
+    ) -> Result<(), AllocError>
+        requires { changes.AreKnown self.old.entries names.now }
+        ensures ok { OnOk result (self.new ≡ changes.after_read_all (numbers names.now) self.old) }
+        ensures part { changes.IsSomeRead self.old self.new }
+        ensures cost { work.new.evaluated
+            ≤ work.old.evaluated + evaluations_of self.old.entries (numbers names.now) self.old.unread }
+        ensures others { work.new ≡ record work.old { evaluated = work.new.evaluated } }
+    {
+        looking::settle_each(alloc, &mut self.lists, names, work)
+    }
+
     /// The values of these properties, which stay as unread as they are. What is unread is evaluated each time.
     pub fn look_at<L: Ledgers>(
         &mut self,

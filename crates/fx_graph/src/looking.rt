@@ -10,7 +10,7 @@ ghost use Rattle.fx_graph.specs.Store.{Holds, shown};
 
 use crate::asking::{is_marked, is_unknown};
 use crate::lists::Lists;
-use crate::reading::value_of;
+use crate::reading::{settle, value_of};
 use fx_base::{Ledgers, Name, Value, Work};
 use std::alloc::{AllocError, Global};
 
@@ -54,6 +54,28 @@ pub fn read_each<L: Ledgers>(
         values.push(value)?;
     }
     Ok(values)
+}
+
+/// Reads known names. Their values are kept, and can be lent.
+pub fn settle_each<L: Ledgers>(
+    alloc: Global,
+    lists: &mut Lists,
+    names: &[Name],
+    work: &mut Work<L>,
+) -> Result<(), AllocError>
+    requires holds { Holds lists.old }
+    requires known { (name : ℕ) → Contains (numbers names.now) name → name < length lists.old.entries.items }
+    ensures holds { Holds lists.new }
+    ensures part { IsSomeRead (shown lists.old) (shown lists.new) }
+    ensures ok { OnOk result (shown lists.new ≡ after_read_all (numbers names.now) (shown lists.old)) }
+    ensures cost { work.new.evaluated ≤ work.old.evaluated
+        + evaluations_of lists.old.entries.items (numbers names.now) lists.old.unread.items }
+    ensures others { work.new ≡ record work.old { evaluated = work.new.evaluated } }
+{
+    for name in names {
+        settle(alloc, lists, name.0 as usize, work)?;
+    }
+    Ok(())
 }
 
 /// Reads known names, of which some are unread, and gives their values. The flags stay as they were; the spare ones

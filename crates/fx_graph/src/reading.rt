@@ -168,7 +168,7 @@ fn settle_unread<L: Ledgers>(
 }
 
 /// Reads what the name needs, and the name.
-fn settle<L: Ledgers>(
+pub fn settle<L: Ledgers>(
     alloc: Global,
     lists: &mut Lists,
     name: usize,

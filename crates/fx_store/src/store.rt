@@ -156,8 +156,7 @@ impl Store {
             ≤ work.old.evaluated + evaluations_of self.old.entries (numbers names.now) self.old.unread }
         ensures others { work.new ≡ record work.old { evaluated = work.new.evaluated } }
     {
-        self.graph.read_all(alloc, names, work)?;
-        Ok(())
+        self.graph.settle_all(alloc, names, work)
     }
 
     /// A further owner of listeners.

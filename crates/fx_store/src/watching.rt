@@ -124,6 +124,5 @@ pub fn read_watched<L: Ledgers>(
 {
     let heard = change_listeners(alloc, listeners, owners)?;
     let names = watched_names(alloc, heard.as_slice(), pairs)?;
-    graph.read_all(alloc, names.as_slice(), work)?;
-    Ok(())
+    graph.settle_all(alloc, names.as_slice(), work)
 }

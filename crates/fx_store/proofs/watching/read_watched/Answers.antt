@@ -6,8 +6,8 @@ use Rattle.fx_store.specs.Watching.{watch_list}
 use Rattle.fx_store.proofs.WatchLemmas.{known_names, watch_is}
 use Rattle.fx_store.proofs.watching.read_watched.Goals as goal
 
-pub read_all-requires : goal.read_all-requires
-read_all-requires g c =
+pub settle_all-requires : goal.settle_all-requires
+settle_all-requires g c =
     let pairs = pairs_of c.args.pairs.now in
     let living = living_in c.args.owners.now.living c.args.listeners.now.entries in
     known_names c.args.graph.now.entries c.as_slice-2.result.now (watch_list pairs living)

@@ -127,7 +127,7 @@ planned_of operands = map (λ (o : Operand). property_of o.node o.property.name)
 abbrev pub bound_to : ℕ → ListedProperty → Tree → List Operand → Doing
 bound_to node property t operands =
     doing.Step
-        (planned.Bind (property_of node property.name) (formula_of property.kind t operands) (planned_of operands))
+    (planned.Bind (property_of node property.name) (formula_of property.kind t operands) (planned_of operands))
 
 abbrev pub at_fault : Mistake → Doing
 at_fault mistake = doing.Fault (Flawed mistake)

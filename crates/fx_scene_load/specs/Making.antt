@@ -32,7 +32,7 @@ pub data IsSheetAdded (files : Files) (place : Place) (node : ℕ) (target : Lis
   sheet_refused : (fault : Fault) → length course.files < 63
       → IsSheetIn files (length course.files) target (Err fault)
       → IsSheetAdded files place node target course
-          (with_fault_in (with_file course target) (length course.files) fault)
+      (with_fault_in (with_file course target) (length course.files) fault)
   sheet_read : (sheet : Sheet) → length course.files < 63 → IsSheetIn files (length course.files) target (Ok sheet)
       → IsSheetAdded files place node target course
       (with_read place node sheet (with_file course target))

@@ -33,7 +33,8 @@ pub fn act<L: Ledgers>(
     trace: &mut Trace,
     work: &mut Work<L>,
 ) -> Result<(), AllocError>
-    ensures { OnOk result (IsLine picture.now.entries (line_view line) stage.old (course_of stage.new trace.new)) }
+    ensures line { OnOk result (IsLine picture.now.entries (line_view line) stage.old (course_of stage.new trace.new)) }
+    ensures others { work.new ≡ record work.old { evaluated = work.new.evaluated } }
 {
     let number = number_of(&line);
     trace.clear();
@@ -51,8 +52,9 @@ fn take<L: Ledgers>(
     work: &mut Work<L>,
 ) -> Result<(), AllocError>
     requires { (world : World) → course_of world trace.old ≡ begun world }
-    ensures { OnOk result (IsActed picture.now.entries (line_view line) (line_view line).request stage.old
+    ensures done { OnOk result (IsActed picture.now.entries (line_view line) (line_view line).request stage.old
         (course_of stage.new trace.new)) }
+    ensures others { work.new ≡ record work.old { evaluated = work.new.evaluated } }
 {
     if let Some(instruction) = event_line(&line) {
         return take_event_line(alloc, stage, picture, line.number, instruction, trace, work);
@@ -87,8 +89,9 @@ fn take_event_line<L: Ledgers>(
     work: &mut Work<L>,
 ) -> Result<(), AllocError>
     requires { (world : World) → course_of world trace.old ≡ begun world }
-    ensures { OnOk result (IsStarted number (started picture.now.entries instruction.now stage.old) stage.old
+    ensures done { OnOk result (IsStarted number (started picture.now.entries instruction.now stage.old) stage.old
         (course_of stage.new trace.new)) }
+    ensures others { work.new ≡ record work.old { evaluated = work.new.evaluated } }
 {
     match start(alloc, stage, picture, instruction) {
         Ok(events) => send_all(alloc, stage, events.as_slice(), trace, work),

@@ -19,8 +19,9 @@ pub(crate) fn run_lines<L: Ledgers>(
     trace: &mut Trace,
     work: &mut Work<L>,
 ) -> Result<(), AllocError>
-    ensures { OnOk result (AreRun (map line_view lines.now) (course_of stage.old trace.old)
+    ensures done { OnOk result (AreRun (map line_view lines.now) (course_of stage.old trace.old)
         (course_of stage.new trace.new)) }
+    ensures others { work.new ≡ record work.old { evaluated = work.new.evaluated } }
 {
     for line in lines {
         run_line(alloc, stage, line, trace, work)?;
@@ -35,8 +36,9 @@ fn run_line<L: Ledgers>(
     trace: &mut Trace,
     work: &mut Work<L>,
 ) -> Result<(), AllocError>
-    ensures { (slot : ℕ) × OnOk result (course_of stage.new trace.new
+    ensures done { (slot : ℕ) × OnOk result (course_of stage.new trace.new
         ≡ behind slot (line_view line.now) (course_of stage.old trace.old)) }
+    ensures others { work.new ≡ record work.old { evaluated = work.new.evaluated } }
 {
     take_inner(alloc, stage, line, trace, work)?;
     let consumes = is_consume(&line.command);
@@ -52,7 +54,8 @@ pub(crate) fn call_all<L: Ledgers>(
     trace: &mut Trace,
     work: &mut Work<L>,
 ) -> Result<(), AllocError>
-    ensures { OnOk result (AreCalled names.now (course_of stage.old trace.old) (course_of stage.new trace.new)) }
+    ensures done { OnOk result (AreCalled names.now (course_of stage.old trace.old) (course_of stage.new trace.new)) }
+    ensures others { work.new ≡ record work.old { evaluated = work.new.evaluated } }
 {
     for name in names {
         call(alloc, stage, name, trace, work)?;
@@ -67,8 +70,9 @@ fn call<L: Ledgers>(
     trace: &mut Trace,
     work: &mut Work<L>,
 ) -> Result<(), AllocError>
-    ensures { OnOk result (AreRun (lines_of stage.old name.now) (course_of stage.old trace.old)
+    ensures done { OnOk result (AreRun (lines_of stage.old name.now) (course_of stage.old trace.old)
         (course_of stage.new trace.new)) }
+    ensures others { work.new ≡ record work.old { evaluated = work.new.evaluated } }
 {
     match action_named(stage, name)? {
         Some(action) => run_lines(alloc, stage, action.lines(), trace, work),

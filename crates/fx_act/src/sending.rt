@@ -24,7 +24,8 @@ pub(crate) fn send_all<L: Ledgers>(
     trace: &mut Trace,
     work: &mut Work<L>,
 ) -> Result<(), AllocError>
-    ensures { OnOk result (AreSent events.now (course_of stage.old trace.old) (course_of stage.new trace.new)) }
+    ensures done { OnOk result (AreSent events.now (course_of stage.old trace.old) (course_of stage.new trace.new)) }
+    ensures others { work.new ≡ record work.old { evaluated = work.new.evaluated } }
 {
     for event in events {
         send(alloc, stage, *event, trace, work)?;
@@ -39,8 +40,9 @@ fn send<L: Ledgers>(
     trace: &mut Trace,
     work: &mut Work<L>,
 ) -> Result<(), AllocError>
-    ensures { OnOk result (ArePassed event.on (passes_of event (course_of stage.old trace.old))
+    ensures done { OnOk result (ArePassed event.on (passes_of event (course_of stage.old trace.old))
         (sent_off event (course_of stage.old trace.old)) (course_of stage.new trace.new)) }
+    ensures others { work.new ≡ record work.old { evaluated = work.new.evaluated } }
 {
     let left_out = is_left_out(event, trace);
     trace.consumed = left_out;
@@ -65,9 +67,10 @@ fn go_along<L: Ledgers>(
     trace: &mut Trace,
     work: &mut Work<L>,
 ) -> Result<(), AllocError>
-    ensures { OnOk result (ArePassed event.on
+    ensures done { OnOk result (ArePassed event.on
         (there_and_back (route_of stage.old.graph.tree.nodes event.on event.target))
         (course_of stage.old trace.old) (course_of stage.new trace.new)) }
+    ensures others { work.new ≡ record work.old { evaluated = work.new.evaluated } }
 {
     let mut nodes = route(alloc, stage.graph().tree(), event.on, event.target)?;
     pass_all(
@@ -101,8 +104,9 @@ fn pass_all<L: Ledgers>(
     trace: &mut Trace,
     work: &mut Work<L>,
 ) -> Result<(), AllocError>
-    ensures { OnOk result (ArePassed on (map (λ key. (phase, key)) nodes.now)
+    ensures done { OnOk result (ArePassed on (map (λ key. (phase, key)) nodes.now)
         (course_of stage.old trace.old) (course_of stage.new trace.new)) }
+    ensures others { work.new ≡ record work.old { evaluated = work.new.evaluated } }
 {
     for key in nodes {
         pass_by(alloc, stage, on, phase, *key, trace, work)?;
@@ -120,8 +124,9 @@ fn pass_by<L: Ledgers>(
     trace: &mut Trace,
     work: &mut Work<L>,
 ) -> Result<(), AllocError>
-    ensures { OnOk result (AreCalled (calls_at on (phase, key) (course_of stage.old trace.old))
+    ensures done { OnOk result (AreCalled (calls_at on (phase, key) (course_of stage.old trace.old))
         (course_of stage.old trace.old) (course_of stage.new trace.new)) }
+    ensures others { work.new ≡ record work.old { evaluated = work.new.evaluated } }
 {
     if is_passed_over(stage, key, trace) {
         return Ok(());

@@ -27,7 +27,9 @@ pub fn settle<L: Ledgers>(
     trace: &mut Trace,
     work: &mut Work<L>,
 ) -> Result<(), AllocError>
-    ensures { OnOk result (IsSettledWhole number (course_of stage.old trace.old) (course_of stage.new trace.new)) }
+    ensures settled { OnOk result (IsSettledWhole number (course_of stage.old trace.old)
+        (course_of stage.new trace.new)) }
+    ensures others { work.new ≡ record work.old { evaluated = work.new.evaluated } }
 {
     let mut place = 0;
     for _ran in 0..1000_u32 {

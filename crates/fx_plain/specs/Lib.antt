@@ -1,3 +1,4 @@
 pub mod CommandLine
 pub mod Demos
 pub mod PlainPlayer
+pub mod Works

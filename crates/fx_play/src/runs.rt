@@ -1,8 +1,13 @@
 //! Playing a run over files.
-ghost use Rattle.std.specs.Prelude.{◌≡◌, ◌≤◌, vec_len};
+ghost use Rattle.std.specs.Prelude.{◌≡◌, ◌≤◌, Some, vec_len};
 ghost use Rattle.fx_load.specs.Loads.{loaded_of};
 ghost use Rattle.fx_load_parts.specs.Views.{run_of};
 ghost use Rattle.fx_plain.specs.CommandLine.{Plays};
+ghost use Rattle.fx_plain.specs.Demos.{demo_files, demo_run};
+ghost use Rattle.fx_plain.specs.Works.{IsLoadedWork, IsRunWork};
+ghost use Rattle.fx_plain.specs.declared.answers.Status.TheVariants.{Done};
+ghost use Rattle.fx_plain_work.specs.Works.{counted};
+ghost use Rattle.fx_port.specs.Files.{Files};
 ghost use Rattle.fx_play.specs.Ends.{IsDemoPlayed, IsIdle, IsLoadedPlayed, IsPlayed};
 
 use crate::demos::{DEMO_SCENE, DEMO_SCRIPT, DEMO_SHEET, DemoShelf};
@@ -30,6 +35,9 @@ pub(crate) fn play_demo<O: Sink, L: Ledgers>(
     ensures played { IsDemoPlayed number manner (O.faults out.old) (O.faults out.new) (O.written out.old)
         (O.written out.new) result }
     ensures idle { IsIdle result → work.new ≡ work.old }
+    ensures work { result ≡ Done → IsRunWork demo_run manner (demo_files number)
+        (counted work.old.styled work.old.laid work.old.painted)
+        (counted work.new.styled work.new.laid work.new.painted) }
 {
     let Ok(mut shelf) = DemoShelf::new(alloc, number) else {
         return Status::NoMemory;
@@ -59,6 +67,9 @@ pub(crate) fn play_run<F: Shelf, O: Sink, L: Ledgers>(
     ensures played { IsPlayed (Plays (run_of run.now) manner) (F.held shelf.old) (F.faults shelf.old)
         (F.faults shelf.new) (O.faults out.old) (O.faults out.new) (O.written out.old) (O.written out.new) result }
     ensures idle { IsIdle result → work.new ≡ work.old }
+    ensures work { (files : Files) → F.held shelf.old ≡ Some files → result ≡ Done →
+        IsRunWork (run_of run.now) manner files (counted work.old.styled work.old.laid work.old.painted)
+        (counted work.new.styled work.new.laid work.new.painted) }
 {
     let loaded = match load(alloc, run, shelf) {
         Ok(loaded) => loaded,
@@ -76,8 +87,11 @@ fn play_loaded<O: Sink, L: Ledgers>(
     work: &mut Work<L>,
 ) -> Status
     requires few { vec_len loaded.lines ≤ 100000 }
-    ensures { IsLoadedPlayed manner (loaded_of loaded) (O.faults out.old) (O.faults out.new)
+    ensures played { IsLoadedPlayed manner (loaded_of loaded) (O.faults out.old) (O.faults out.new)
         (O.written out.old) (O.written out.new) result }
+    ensures work { result ≡ Done → IsLoadedWork manner (loaded_of loaded)
+        (counted work.old.styled work.old.laid work.old.painted)
+        (counted work.new.styled work.new.laid work.new.painted) }
 {
     let Loaded {
         tasks,

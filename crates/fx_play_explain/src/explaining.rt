@@ -34,8 +34,9 @@ pub fn explain_line<L: Ledgers>(
     trace: &mut Trace,
     work: &mut Work<L>,
 ) -> Result<(), AllocError>
-    ensures { OnOk result (IsExplainLine number path.now name.now stage.old
+    ensures told { OnOk result (IsExplainLine number path.now name.now stage.old
         (record { text = trace.new.text.items; heard = trace.new.heard.items; world = stage.new })) }
+    ensures others { work.new ≡ record work.old { evaluated = work.new.evaluated } }
 {
     trace.clear();
     match find_attached(stage, path) {
@@ -73,6 +74,7 @@ fn tell<L: Ledgers>(
     requires empty { text.old.items ≡ [] }
     ensures told { OnOk result (IsToldOf (sheets_of stage.old) (style_facts stage.old) key name.now text.new.items) }
     ensures looked { OnOk result (stage.new ≡ looked stage.old) }
+    ensures others { work.new ≡ record work.old { evaluated = work.new.evaluated } }
 {
     facts_fit_together();
     let _root = stage.graph().tree().root();

@@ -2,9 +2,10 @@
 ghost use Rattle.std.specs.Prelude.{◌≡◌, ◌≤◌, ◌<◌, ◌+◌, ◌-◌, ◌^◌, [], IfOk, None, OnOk, is_some, length, true};
 ghost use Rattle.fx_frame_text.specs.declared.forms.Form.{Form as Image};
 ghost use Rattle.fx_plain_frames.specs.Games.{begun};
-ghost use Rattle.fx_plain_frames.specs.Playing.{IsExplained, IsStep, IsTimed, IsTold, IsToldOf, explained_by, time_line};
+ghost use Rattle.fx_plain_frames.specs.Playing.{IsExplained, IsStep, IsTimed, IsTold, IsToldOf, explained_by, is_pulse as is_pulse_request, time_line};
 ghost use Rattle.fx_plain_steps.specs.Told.{lines_told};
-ghost use Rattle.fx_play_frames.specs.Games.{game_of};
+ghost use Rattle.fx_plain_work.specs.Works.{IsLineWork, counted, no_sight};
+ghost use Rattle.fx_play_frames.specs.Games.{game_of, sight_of};
 ghost use Rattle.fx_play_frames.specs.Lines.{is_own};
 ghost use Rattle.fx_play_frames.specs.Takings.{HasFrame, IsSmallTaken, last_behind, told_as};
 ghost use Rattle.fx_script_commands.specs.Requests.{line_view};
@@ -35,7 +36,8 @@ pub struct Game {
 impl Game {
     /// Before the first line.
     pub fn new(alloc: Global, stage: Stage) -> Game
-        ensures { game_of result ≡ begun stage }
+        ensures game { game_of result ≡ begun stage }
+        ensures sight { sight_of result ≡ no_sight }
     {
         Game {
             stage,
@@ -63,6 +65,10 @@ impl Game {
             last_behind taken (game_of self.old).last (game_of self.new) ≡ (game_of self.new).last) }
         ensures small { IfOk result IsSmallTaken }
         ensures frames { OnOk result (self.new.frames ≤ self.old.frames + 1) }
+        ensures work { OnOk result (IsLineWork (is_pulse_request (line_view line).request) (game_of self.old)
+            (game_of self.new) (sight_of self.old) (sight_of self.new)
+            (counted work.old.styled work.old.laid work.old.painted)
+            (counted work.new.styled work.new.laid work.new.painted)) }
     {
         if is_pulse(&line) {
             return self.pulse(alloc, line.number, trace, work);
@@ -85,6 +91,7 @@ impl Game {
             (lines_told trace.new.text.items (length trace.new.heard.items))) }
         ensures frames { self.new.frames ≡ self.old.frames }
         ensures last { self.new.renderer ≡ self.old.renderer }
+        ensures others { work.new ≡ record work.old { evaluated = work.new.evaluated } }
     {
         if is_own(&line) {
             return self.take_own(alloc, &line, trace, work);
@@ -106,6 +113,7 @@ impl Game {
             (lines_told trace.new.text.items (length trace.new.heard.items))) }
         ensures frames { self.new.frames ≡ self.old.frames }
         ensures last { self.new.renderer ≡ self.old.renderer }
+        ensures others { work.new ≡ record work.old { evaluated = work.new.evaluated } }
     {
         match time_line(line) {
             Some(instruction) => self.pass(alloc, number_of(line), instruction, trace, work),
@@ -126,6 +134,7 @@ impl Game {
             (game_of self.old) (game_of self.new) (lines_told trace.new.text.items (length trace.new.heard.items))) }
         ensures frames { self.new.frames ≡ self.old.frames }
         ensures last { self.new.renderer ≡ self.old.renderer }
+        ensures others { work.new ≡ record work.old { evaluated = work.new.evaluated } }
     {
         match explained_by(line) {
             Some((path, name)) => self.explain(alloc, number_of(line), path, name, trace, work),
@@ -146,6 +155,7 @@ impl Game {
             (lines_told trace.new.text.items (length trace.new.heard.items))) }
         ensures frames { self.new.frames ≡ self.old.frames }
         ensures last { self.new.renderer ≡ self.old.renderer }
+        ensures others { work.new ≡ record work.old { evaluated = work.new.evaluated } }
     {
         self.clock
             .take(alloc, &mut self.stage, number, instruction, trace, work)?;
@@ -166,6 +176,7 @@ impl Game {
             (lines_told trace.new.text.items (length trace.new.heard.items))) }
         ensures frames { self.new.frames ≡ self.old.frames }
         ensures last { self.new.renderer ≡ self.old.renderer }
+        ensures others { work.new ≡ record work.old { evaluated = work.new.evaluated } }
     {
         explain_line(alloc, &mut self.stage, number, path, name, trace, work)
     }
@@ -182,6 +193,7 @@ impl Game {
             (lines_told trace.new.text.items (length trace.new.heard.items))) }
         ensures frames { self.new.frames ≡ self.old.frames }
         ensures last { self.new.renderer ≡ self.old.renderer }
+        ensures others { work.new ≡ record work.old { evaluated = work.new.evaluated } }
     {
         if self.renderer.canvas().is_none() {
             let nothing = no_picture(alloc);

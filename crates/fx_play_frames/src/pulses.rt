@@ -4,8 +4,9 @@ ghost use Rattle.fx_frame_text.specs.declared.forms.Form.{Form as Image};
 ghost use Rattle.fx_plain_frames.specs.Playing.{IsShown};
 ghost use Rattle.fx_plain_dispatch.specs.Settling.{IsSettledWhole};
 ghost use Rattle.fx_plain_frames.specs.Pulses.{IsDrawn, course_behind, sizes_of as sizes};
-ghost use Rattle.fx_play_frames.specs.Drawn.{IsDrawnAs, pulsed_as};
-ghost use Rattle.fx_play_frames.specs.Games.{game_of};
+ghost use Rattle.fx_plain_work.specs.Works.{IsPulseWork, counted};
+ghost use Rattle.fx_play_frames.specs.Drawn.{IsDrawWork, IsDrawnAs, pulsed_as};
+ghost use Rattle.fx_play_frames.specs.Games.{game_of, sight_of};
 ghost use Rattle.fx_play_frames.specs.Takings.{HasFrame, IsSmallRect, IsSmallTaken, last_behind, told_as};
 ghost use Rattle.fx_play_steps.specs.Traces.{course_of};
 ghost use Rattle.fx_pulse.specs.Rendering.{last_frame};
@@ -53,6 +54,9 @@ impl Game {
             last_behind taken (game_of self.old).last (game_of self.new) ≡ (game_of self.new).last) }
         ensures small { IfOk result IsSmallTaken }
         ensures count { OnOk result (self.new.frames ≡ self.old.frames + 1) }
+        ensures work { OnOk result (IsPulseWork (game_of self.old) (game_of self.new) (sight_of self.old)
+            (sight_of self.new) (counted work.old.styled work.old.laid work.old.painted)
+            (counted work.new.styled work.new.laid work.new.painted)) }
     {
         let pulsed = drawn(alloc, &mut self.stage, &mut self.renderer, work)?;
         self.frames += 1;
@@ -73,8 +77,9 @@ fn tell<L: Ledgers>(
     trace: &mut Trace,
     work: &mut Work<L>,
 ) -> Result<(), AllocError>
-    ensures { OnOk result (IsSettledWhole number (course_behind stage.old notices.now)
+    ensures settled { OnOk result (IsSettledWhole number (course_behind stage.old notices.now)
         (course_of stage.new trace.new)) }
+    ensures others { work.new ≡ record work.old { evaluated = work.new.evaluated } }
 {
     trace.clear();
     print_told(alloc, stage, notices, trace)?;
@@ -92,6 +97,9 @@ fn drawn<L: Ledgers>(
         IsDrawn stage.old stage.new (last_frame renderer.old) (last_frame renderer.new)
         (pulsed_as renderer.new pulsed)) }
     ensures small { IfOk result (λ pulsed. All IsSmallRect pulsed.frame.damage.items) }
+    ensures work { IfOk result (λ pulsed. IsDrawWork stage.old renderer.old renderer.new pulsed.frame
+        (counted work.old.styled work.old.laid work.old.painted)
+        (counted work.new.styled work.new.laid work.new.painted)) }
 {
     let facts = read_facts(alloc, stage, work)?;
     let frame = draw(alloc, renderer, &facts, work)?;
@@ -118,6 +126,10 @@ fn draw<L: Ledgers>(
         → IfOk result (IsDrawnAs world renderer.old renderer.new) }
     ensures once { OnOk result (AreOnce (sizes facts.now.boxes renderer.new.rects)) }
     ensures small { IfOk result (λ frame. All IsSmallRect frame.damage.items) }
+    ensures work { (world : World) → facts.now ≡ facts_of world
+        → IfOk result (λ frame. IsDrawWork world renderer.old renderer.new frame
+        (counted work.old.styled work.old.laid work.old.painted)
+        (counted work.new.styled work.new.laid work.new.painted)) }
 {
     let scene = scene_in(facts);
     if !is_fit(alloc, scene, facts.window)? {
@@ -158,7 +170,8 @@ fn publish_sizes<L: Ledgers>(
     work: &mut Work<L>,
 ) -> Result<Notices, AllocError>
     requires once { AreOnce (sizes boxes.now rects.now) }
-    ensures { OnOk result (IsPublished window (sizes boxes.now rects.now) stage.old stage.new result) }
+    ensures published { OnOk result (IsPublished window (sizes boxes.now rects.now) stage.old stage.new result) }
+    ensures others { work.new ≡ record work.old { evaluated = work.new.evaluated } }
 {
     let sizes = sizes_of(alloc, boxes, rects)?;
     publish(alloc, stage, window, sizes.as_slice(), work)

@@ -10,7 +10,7 @@ ghost use Rattle.fx_picture.specs.declared.entries.Entry.{Entry as Drawn};
 ghost use Rattle.fx_plain_steps.specs.Told.{AreSmall};
 ghost use Rattle.fx_pulse.specs.Rendering.{last_frame, surface_of};
 ghost use Rattle.fx_pulse_model.specs.Frames.{Framed};
-ghost use Rattle.fx_play_frames.specs.Games.{game_of};
+ghost use Rattle.fx_play_frames.specs.Games.{game_of, sight_of};
 ghost use Rattle.fx_play_frames.specs.Takings.{HasFrame, IsAt, IsSmallRect, IsSmallTaken, frame_totals, image_last, last_behind, told_as, totals_in};
 ghost use Rattle.fx_port.specs.Causes.{HasCause};
 ghost use Rattle.fx_port.specs.Pieces.{Writes};
@@ -38,6 +38,7 @@ pub fn put_told<O: Sink>(
 ) -> Result<(), PutError>
     requires frame { HasFrame (game_of game.old) taken.now }
     ensures same { game_of game.new ≡ game_of game.old }
+    ensures sight { sight_of game.new ≡ sight_of game.old }
     ensures form { writer.new.form ≡ writer.old.form }
     ensures cause { HasCause Failed (O.faults out.old) (O.faults out.new) result }
     ensures writes { (last : Option Framed) → IsAt writer.old last
@@ -64,6 +65,7 @@ impl Game {
     ) -> Result<(), PutError>
         requires some { IsSome (game_of self.old).last }
         ensures same { game_of self.new ≡ game_of self.old }
+        ensures sight { sight_of self.new ≡ sight_of self.old }
         ensures form { writer.new.form ≡ writer.old.form }
         ensures cause { HasCause Failed (O.faults out.old) (O.faults out.new) result }
         ensures writes { (last : Option Image) → Follows writer.old last
@@ -86,6 +88,7 @@ impl Game {
     ) -> Result<(), PutError>
         requires some { IsSome (game_of self.old).last }
         ensures same { game_of self.new ≡ game_of self.old }
+        ensures sight { sight_of self.new ≡ sight_of self.old }
         ensures form { writer.new.form ≡ writer.old.form }
         ensures cause { HasCause Failed (O.faults out.old) (O.faults out.new) result }
         ensures writes { (last : Option Image) → Follows writer.old last

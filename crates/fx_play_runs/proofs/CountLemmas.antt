@@ -14,10 +14,7 @@ use Rattle.fx_port.specs.Pieces.{Writes}
 use Rattle.fx_script_commands.specs.Requests.{Numbered, line_view}
 use Rattle.fx_script_commands.specs.declared.commands.Line.{Line}
 use Rattle.fx_play_runs.specs.Lines.{IsLineCounted}
-
-next_line : (left rest : List Line) (line : Line) → left ≡ rest ++ (line ∷ [])
-    → map line_view (reverse left) ≡ line_view line ∷ map line_view (reverse rest)
-next_line left rest line e = ap (map line_view) (ap reverse e ∙ reverse-append rest (line ∷ []))
+use Rattle.fx_play_runs.proofs.LineLemmas.{next_line, nothing_left}
 
 pub one_counted : (form : Form) {first now next : Game} {all : List Numbered} {totals more sum : Totals}
     (left rest : List Line) (line : Line) → left ≡ rest ++ (line ∷ [])
@@ -37,10 +34,6 @@ all_uncounted form first lines {left} turned =
     let IsFirst : List Line → Type 0 =
     λ rest. IsCounting form first first (map line_view lines) (map line_view rest) no_totals in
     subst IsFirst (sym (ap reverse turned ∙ reverse-reverse lines)) (begins form first (map line_view lines))
-
-nothing_left : (left : List Line) → length left ≡ 0 → left ≡ []
-nothing_left [] h = refl
-nothing_left (line ∷ left) h = absurd (cc)
 
 -- no line is left
 pub none_uncounted : (form : Form) {first now : Game} {all : List Numbered} {totals : Totals} (left : Vec Line Global)

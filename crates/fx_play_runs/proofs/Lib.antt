@@ -1,3 +1,4 @@
 pub mod CountLemmas
 pub mod LineLemmas
 pub mod StagingLemmas
+pub mod WorkLemmas

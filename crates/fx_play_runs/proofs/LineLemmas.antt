@@ -30,7 +30,7 @@ part_told form line before now taken {text} {bytes} {old} {new} (Err error) same
     (subst (λ (t : List ℕ). IsTold form line before now (told_as form before.last now taken t)) (sym same) is) writes.err
 
 -- the next line stands last where the order is turned
-next_line : (left rest : List Line) (line : Line) → left ≡ rest ++ (line ∷ [])
+pub next_line : (left rest : List Line) (line : Line) → left ≡ rest ++ (line ∷ [])
     → map line_view (reverse left) ≡ line_view line ∷ map line_view (reverse rest)
 next_line left rest line e = ap (map line_view) (ap reverse e ∙ reverse-append rest (line ∷ []))
 
@@ -54,7 +54,7 @@ cut_at {manner} {warnings} {first} {now} {all} {old} {mid} {new} left rest line 
     let IsNext : List Numbered → Type 0 = λ lines. IsPlaying manner.form warnings first now all lines old mid in
     stops_in next (line_view line) told h (subst IsNext (next_line left rest line e) so) is part
 
-nothing_left : (left : List Line) → length left ≡ 0 → left ≡ []
+pub nothing_left : (left : List Line) → length left ≡ 0 → left ≡ []
 nothing_left [] h = refl
 nothing_left (line ∷ left) h = absurd (cc)
 

@@ -1,7 +1,9 @@
 //! Lines that are taken and written one by one.
 ghost use Rattle.std.specs.Prelude.{◌≡◌, ◌≤◌, ◌<◌, ◌+◌, ◌-◌, ◌^◌, ℕ, List, None, OnErr, OnOk, Option, false, map, vec_len};
 ghost use Rattle.fx_plain_runs.specs.Runs.{IsPut};
-ghost use Rattle.fx_play_frames.specs.Games.{game_of};
+ghost use Rattle.fx_plain_frames.specs.Playing.{is_pulse};
+ghost use Rattle.fx_plain_work.specs.Works.{IsLineWork, IsWorked, counted};
+ghost use Rattle.fx_play_frames.specs.Games.{game_of, sight_of};
 ghost use Rattle.fx_play_frames.specs.Takings.{IsAt};
 ghost use Rattle.fx_play_runs.specs.Lines.{IsLinePart, IsLineWhole};
 ghost use Rattle.fx_port.specs.Causes.{HasCause};
@@ -35,6 +37,9 @@ pub(crate) fn put_lines<O: Sink, L: Ledgers>(
     ensures cause { HasCause Failed (O.faults out.old) (O.faults out.new) result }
     ensures put { IsPut manner warnings.now (game_of game.old) (map line_view lines.items) (O.written out.old)
         (O.written out.new) result }
+    ensures work { OnOk result (IsWorked manner.form (game_of game.old) (sight_of game.old) (map line_view lines.items)
+        (counted work.old.styled work.old.laid work.old.painted)
+        (counted work.new.styled work.new.laid work.new.painted)) }
 {
     out.put(warnings)?;
     put_each(alloc, manner, game, lines, out, work)
@@ -56,6 +61,9 @@ fn put_each<O: Sink, L: Ledgers>(
     ensures cause { HasCause Failed (O.faults out.old) (O.faults out.new) result }
     ensures put { (warnings : List ℕ) (begun : Option (List ℕ)) → O.written out.old ≡ grown begun warnings →
         IsPut manner warnings (game_of game.old) (map line_view lines.items) begun (O.written out.new) result }
+    ensures work { OnOk result (IsWorked manner.form (game_of game.old) (sight_of game.old) (map line_view lines.items)
+        (counted work.old.styled work.old.laid work.old.painted)
+        (counted work.new.styled work.new.laid work.new.painted)) }
 {
     let mut trace = Trace::new(alloc);
     let mut writer = FrameWriter::new(alloc, manner.form);
@@ -87,6 +95,9 @@ fn put_line<O: Sink, L: Ledgers>(
         (O.written out.new)) }
     ensures behind { OnOk result (IsAt writer.new (game_of game.new).last) }
     ensures frames { OnOk result (game.new.frames ≤ game.old.frames + 1) }
+    ensures work { OnOk result (IsLineWork (is_pulse (line_view line).request) (game_of game.old) (game_of game.new)
+        (sight_of game.old) (sight_of game.new) (counted work.old.styled work.old.laid work.old.painted)
+        (counted work.new.styled work.new.laid work.new.painted)) }
 {
     let taken = game.take(alloc, line, trace, work)?;
     put_told(alloc, writer, game, &taken, trace.text.as_slice(), out)

@@ -2,7 +2,8 @@
 ghost use Rattle.std.specs.Prelude.{◌≡◌, IfOk, None, Some};
 ghost use Rattle.fx_plain_frames.specs.Games.{begun};
 ghost use Rattle.fx_plain_runs.specs.Runs.{in_window};
-ghost use Rattle.fx_play_frames.specs.Games.{game_of};
+ghost use Rattle.fx_plain_work.specs.Works.{no_sight};
+ghost use Rattle.fx_play_frames.specs.Games.{game_of, sight_of};
 ghost use Rattle.fx_play_runs.specs.Staging.{IsStaged};
 
 use fx_base::{Ledgers, Work};
@@ -23,6 +24,8 @@ pub fn staged<L: Ledgers>(
     ensures staged { IsStaged window tasks.items result }
     ensures fresh { IfOk result (λ game. game.frames ≡ 0) }
     ensures unseen { IfOk result (λ game. (game_of game).last ≡ None) }
+    ensures sight { IfOk result (λ game. sight_of game ≡ no_sight) }
+    ensures others { work.new ≡ record work.old { evaluated = work.new.evaluated } }
 {
     let mut stage = Stage::new(alloc);
     raise(alloc, &mut stage, tasks, work)?;
@@ -31,7 +34,8 @@ pub fn staged<L: Ledgers>(
 
 /// The game of a stage in this window, if there is one.
 fn game_in(alloc: Global, window: Option<(u32, u32)>, stage: Stage) -> Game
-    ensures { game_of result ≡ begun (in_window window stage) }
+    ensures game { game_of result ≡ begun (in_window window stage) }
+    ensures sight { sight_of result ≡ no_sight }
 {
     match window {
         Some(window) => windowed_game(alloc, window, stage),
@@ -40,7 +44,8 @@ fn game_in(alloc: Global, window: Option<(u32, u32)>, stage: Stage) -> Game
 }
 
 fn windowed_game(alloc: Global, window: (u32, u32), stage: Stage) -> Game
-    ensures { game_of result ≡ begun (in_window (Some window) stage) }
+    ensures game { game_of result ≡ begun (in_window (Some window) stage) }
+    ensures sight { sight_of result ≡ no_sight }
 {
     let mut stage = stage;
     stage.keep_window(window);

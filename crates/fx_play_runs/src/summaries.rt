@@ -3,7 +3,9 @@ ghost use Rattle.std.specs.Prelude.{◌≡◌, ◌≤◌, ◌<◌, ◌+◌, ◌-
 ghost use Rattle.fx_frame_text.specs.declared.forms.Form.{Form};
 ghost use Rattle.fx_plain_runs.specs.Runs.{AreCounted, IsPut};
 ghost use Rattle.fx_plain_steps.specs.Told.{AreSmall, summary_line};
-ghost use Rattle.fx_play_frames.specs.Games.{game_of};
+ghost use Rattle.fx_plain_frames.specs.Playing.{is_pulse};
+ghost use Rattle.fx_plain_work.specs.Works.{IsLineWork, IsWorked, counted};
+ghost use Rattle.fx_play_frames.specs.Games.{game_of, sight_of};
 ghost use Rattle.fx_play_frames.specs.Takings.{totals_in};
 ghost use Rattle.fx_play_runs.specs.Lines.{IsLineCounted};
 ghost use Rattle.fx_port.specs.Causes.{HasCause};
@@ -33,6 +35,9 @@ pub(crate) fn put_summary<O: Sink, L: Ledgers>(
     ensures cause { HasCause Failed (O.faults out.old) (O.faults out.new) result }
     ensures put { (warnings : List ℕ) → IsPut manner warnings (game_of game.old) (map line_view lines.items)
         (O.written out.old) (O.written out.new) result }
+    ensures work { OnOk result (IsWorked manner.form (game_of game.old) (sight_of game.old) (map line_view lines.items)
+        (counted work.old.styled work.old.laid work.old.painted)
+        (counted work.new.styled work.new.laid work.new.painted)) }
 {
     let totals = count_lines(alloc, game, lines, work)?;
     let text = summary_text(alloc, totals)?;
@@ -61,8 +66,11 @@ fn count_lines<L: Ledgers>(
 ) -> Result<Counts, AllocError>
     requires few { vec_len lines ≤ 100000 }
     requires fresh { game.old.frames ≡ 0 }
-    ensures { IfOk result (λ totals. (form : Form) →
+    ensures counted { IfOk result (λ totals. (form : Form) →
         AreCounted form (game_of game.old) (map line_view lines.items) (totals_in totals)) }
+    ensures work { (form : Form) → OnOk result (IsWorked form (game_of game.old) (sight_of game.old)
+        (map line_view lines.items) (counted work.old.styled work.old.laid work.old.painted)
+        (counted work.new.styled work.new.laid work.new.painted)) }
 {
     let mut trace = Trace::new(alloc);
     let mut totals = Counts::NONE;
@@ -88,6 +96,9 @@ fn count_line<L: Ledgers>(
         IsLineCounted form (line_view line) (game_of game.old) (game_of game.new) (totals_in more)) }
     ensures small { IfOk result (λ more. AreSmall (totals_in more)) }
     ensures frames { OnOk result (game.new.frames ≤ game.old.frames + 1) }
+    ensures work { OnOk result (IsLineWork (is_pulse (line_view line).request) (game_of game.old) (game_of game.new)
+        (sight_of game.old) (sight_of game.new) (counted work.old.styled work.old.laid work.old.painted)
+        (counted work.new.styled work.new.laid work.new.painted)) }
 {
     let taken = game.take(alloc, line, trace, work)?;
     Ok(game.counts(&taken))

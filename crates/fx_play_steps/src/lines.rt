@@ -24,9 +24,10 @@ pub fn take_line<L: Ledgers>(
     trace: &mut Trace,
     work: &mut Work<L>,
 ) -> Result<(), AllocError>
-    ensures { (slot : ℕ) × IsMade
+    ensures made { (slot : ℕ) × IsMade
         (spec.line_step slot (line_view line).number (line_view line).request stage.old)
         (course_of stage.old trace.old) (course_of stage.new trace.new) result }
+    ensures others { work.new ≡ record work.old { evaluated = work.new.evaluated } }
 {
     let Line { number, command } = line;
     take_command(alloc, stage, number, command, trace, work)
@@ -41,8 +42,9 @@ fn take_command<L: Ledgers>(
     trace: &mut Trace,
     work: &mut Work<L>,
 ) -> Result<(), AllocError>
-    ensures { (slot : ℕ) × IsMade (spec.line_step slot number (command_view command) stage.old)
+    ensures made { (slot : ℕ) × IsMade (spec.line_step slot number (command_view command) stage.old)
         (course_of stage.old trace.old) (course_of stage.new trace.new) result }
+    ensures others { work.new ≡ record work.old { evaluated = work.new.evaluated } }
 {
     match command {
         Command::Plain(instruction) => {
@@ -69,9 +71,10 @@ pub fn take_inner<L: Ledgers>(
     trace: &mut Trace,
     work: &mut Work<L>,
 ) -> Result<(), AllocError>
-    ensures { (slot : ℕ) × IsMade
+    ensures made { (slot : ℕ) × IsMade
         (spec.inner_step slot (line_view line.now).number (line_view line.now).request stage.old)
         (course_of stage.old trace.old) (course_of stage.new trace.new) result }
+    ensures others { work.new ≡ record work.old { evaluated = work.new.evaluated } }
 {
     take_inner_command(alloc, stage, line.number, &line.command, trace, work)
 }
@@ -85,8 +88,9 @@ fn take_inner_command<L: Ledgers>(
     trace: &mut Trace,
     work: &mut Work<L>,
 ) -> Result<(), AllocError>
-    ensures { (slot : ℕ) × IsMade (spec.inner_step slot number (command_view command.now) stage.old)
+    ensures made { (slot : ℕ) × IsMade (spec.inner_step slot number (command_view command.now) stage.old)
         (course_of stage.old trace.old) (course_of stage.new trace.new) result }
+    ensures others { work.new ≡ record work.old { evaluated = work.new.evaluated } }
 {
     if is_barred(command) {
         return refuse_barred(alloc, stage, number, command, trace);
@@ -105,8 +109,9 @@ fn take_lent<L: Ledgers>(
     work: &mut Work<L>,
 ) -> Result<(), AllocError>
     requires { spec.is_barred (command_view command.now) ≡ false }
-    ensures { (slot : ℕ) × IsMade (spec.line_step slot number (command_view command.now) stage.old)
+    ensures made { (slot : ℕ) × IsMade (spec.line_step slot number (command_view command.now) stage.old)
         (course_of stage.old trace.old) (course_of stage.new trace.new) result }
+    ensures others { work.new ≡ record work.old { evaluated = work.new.evaluated } }
 {
     match command {
         Command::Plain(instruction) => {
@@ -130,8 +135,9 @@ fn take_instruction<L: Ledgers>(
     trace: &mut Trace,
     work: &mut Work<L>,
 ) -> Result<(), AllocError>
-    ensures { (slot : ℕ) × IsMade (spec.instruction_step slot number instruction.now stage.old)
+    ensures made { (slot : ℕ) × IsMade (spec.instruction_step slot number instruction.now stage.old)
         (course_of stage.old trace.old) (course_of stage.new trace.new) result }
+    ensures others { work.new ≡ record work.old { evaluated = work.new.evaluated } }
 {
     if !is_carried(instruction) {
         return say(saying(instruction), trace);

@@ -48,8 +48,9 @@ impl Clock {
         trace: &mut Trace,
         work: &mut Work<L>,
     ) -> Result<(), AllocError>
-        ensures { HasPassed (spec.time_step number line.now (clock_of self.old) stage.old)
+        ensures passed { HasPassed (spec.time_step number line.now (clock_of self.old) stage.old)
             (passed_as (clock_of self.new) (course_of stage.new trace.new)) result }
+        ensures others { work.new ≡ record work.old { evaluated = work.new.evaluated } }
     {
         trace.clear();
         let answer = self.carry_out(alloc, stage, line, trace, work);
@@ -67,9 +68,10 @@ impl Clock {
         work: &mut Work<L>,
     ) -> Result<(), StageError>
         requires { (world : World) → course_of world trace.old ≡ begun world }
-        ensures { IsTimed (spec.timed line.now (clock_of self.old) stage.old)
+        ensures timed { IsTimed (spec.timed line.now (clock_of self.old) stage.old)
             (passed_as (clock_of self.old) (course_of stage.old trace.old))
             (passed_as (clock_of self.new) (course_of stage.new trace.new)) result }
+        ensures others { work.new ≡ record work.old { evaluated = work.new.evaluated } }
     {
         match line {
             Instruction::Timeline(label, count, back) => self.add(alloc, label, count, *back),
@@ -181,9 +183,10 @@ impl Clock {
         work: &mut Work<L>,
     ) -> Result<(), StageError>
         requires { (world : World) → course_of world trace.old ≡ begun world }
-        ensures { IsTimed (spec.tick time.now (clock_of self.old) stage.old)
+        ensures timed { IsTimed (spec.tick time.now (clock_of self.old) stage.old)
             (passed_as (clock_of self.old) (course_of stage.old trace.old))
             (passed_as (clock_of self.new) (course_of stage.new trace.new)) result }
+        ensures others { work.new ≡ record work.old { evaluated = work.new.evaluated } }
     {
         let Some(ms) = time_of(1, time) else {
             return Err(StageError::Refused(Refusal::Value));

@@ -17,8 +17,9 @@ pub(crate) fn set_all<L: Ledgers>(
     trace: &mut Trace,
     work: &mut Work<L>,
 ) -> Result<(), AllocError>
-    ensures { OnOk result (course_of stage.new trace.new
+    ensures done { OnOk result (course_of stage.new trace.new
         ≡ all_animated sets.items (course_of stage.old trace.old)) }
+    ensures others { work.new ≡ record work.old { evaluated = work.new.evaluated } }
 {
     for set in sets {
         set_one(alloc, stage, set, trace, work)?;
@@ -34,8 +35,9 @@ fn set_one<L: Ledgers>(
     trace: &mut Trace,
     work: &mut Work<L>,
 ) -> Result<(), AllocError>
-    ensures { OnOk result (course_of stage.new trace.new
+    ensures done { OnOk result (course_of stage.new trace.new
         ≡ after_set (course_of stage.old trace.old) set) }
+    ensures others { work.new ≡ record work.old { evaluated = work.new.evaluated } }
 {
     match stage.animate(alloc, set.0, set.1, work) {
         Ok(outcome) => print_told(alloc, stage, &outcome.notices, trace),

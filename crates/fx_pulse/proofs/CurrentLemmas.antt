@@ -8,13 +8,14 @@ use Rattle.std.proofs.lemmas.List.{get_or-replicate, length-replicate}
 use Rattle.fx_canvas.specs.Surfaces.{Surface, is_size}
 use Rattle.fx_damage.specs.Damage.{boxes_at, changed_boxes, damage}
 use Rattle.fx_damage.proofs.BoxLemmas.{same_none}
+use Rattle.fx_layout.specs.Layouts.{IsLayout}
 use Rattle.fx_layout.specs.Updates.{Kept, root_size}
 use Rattle.fx_picture.specs.Entries.{entry_with}
 use Rattle.fx_picture.specs.declared.edges.Bounds.{Bounds}
 use Rattle.fx_picture.specs.declared.entries.Entry.{Entry}
 use Rattle.fx_pulse_kept.specs.Costs.{AreFew}
 use Rattle.fx_pulse_model.specs.Frames.{IsFrame, frame_damage, has_size}
-use Rattle.fx_pulse_model.specs.Scenes.{Scene}
+use Rattle.fx_pulse_model.specs.Scenes.{Scene, looks_of}
 use Rattle.fx_pulse_touched.specs.Touched.{AreTouched}
 use Rattle.fx_pulse.specs.Rendering.{IsCurrent, IsDrawn, Rendering, last_frame, surface_of}
 use Rattle.fx_pulse.proofs.ShowLemmas.{damage_next}
@@ -51,17 +52,21 @@ undamaged r is =
 pub now_current : (r : Rendering) (window : Option (ℕ × ℕ)) (w h : ℕ) → (surface_of r.canvas).width ≡ w
     → (surface_of r.canvas).height ≡ h
     → IfSome r.kept.last (λ (scene : Scene). IsFrame scene window w h r.rects r.picture)
-    → root_size r.kept.layout ≡ (w, h) → IsCurrent (Some window) r
-now_current r window w h wide high frame size = by r.kept.last frame
+    → root_size r.kept.layout ≡ (w, h)
+    → IfSome r.kept.last (λ (scene : Scene). IsLayout scene.boxes (looks_of scene) window r.kept.layout)
+    → IsCurrent (Some window) r
+now_current r window w h wide high frame size placed = by r.kept.last frame placed
   where
     by : (last : Option Scene) → IfSome last (λ (scene : Scene). IsFrame scene window w h r.rects r.picture)
+        → IfSome last (λ (scene : Scene). IsLayout scene.boxes (looks_of scene) window r.kept.layout)
         → IfSome last (λ (scene : Scene). IsDrawn r scene window)
-    by None none = none
-    by (Some scene) is = record {
+    by None none also = none
+    by (Some scene) is there = record {
       frame = subst (λ n. IsFrame scene window n (surface_of r.canvas).height r.rects r.picture) (sym wide)
           (subst (λ n. IsFrame scene window w n r.rects r.picture) (sym high) is);
       size = subst (λ n. root_size r.kept.layout ≡ (n, (surface_of r.canvas).height)) (sym wide)
           (subst (λ n. root_size r.kept.layout ≡ (w, n)) (sym high) size);
+      placed = there;
     }
 
 -- ---- no work

@@ -6,10 +6,11 @@ use Rattle.fx_canvas.specs.Surfaces.{Surface}
 use Rattle.fx_canvas_laws.specs.Frames.{Shows}
 use Rattle.fx_picture.specs.Entries.{HasDistinctBirths, Rises}
 use Rattle.fx_picture.specs.declared.entries.Entry.{Entry}
+use Rattle.fx_layout.specs.Layouts.{IsLayout}
 use Rattle.fx_layout.specs.Updates.{root_size}
 use Rattle.fx_pulse_kept.specs.Keeping.{Keeping}
 use Rattle.fx_pulse_model.specs.Frames.{Framed, IsFrame}
-use Rattle.fx_pulse_model.specs.Scenes.{Scene}
+use Rattle.fx_pulse_model.specs.Scenes.{Scene, looks_of}
 
 -- the canvas, if there was a frame, the last picture, the rectangle of each node of its scene, in order, and what is
 -- kept of the last scene
@@ -38,10 +39,12 @@ pub record IsShown (r : Rendering) : Type 0 where
   pub rises : Rises r.picture
   pub births : HasDistinctBirths r.picture
 
--- the last picture is the frame of a scene in a window, on a canvas as large as the root
+-- the last picture is the frame of a scene in a window, on a canvas as large as the root, and what is kept of the
+-- layout is the scene's
 pub record IsDrawn (r : Rendering) (scene : Scene) (window : Option (ℕ × ℕ)) : Type 0 where
   pub frame : IsFrame scene window (surface_of r.canvas).width (surface_of r.canvas).height r.rects r.picture
   pub size : root_size r.kept.layout ≡ ((surface_of r.canvas).width, (surface_of r.canvas).height)
+  pub placed : IsLayout scene.boxes (looks_of scene) window r.kept.layout
 
 -- in this window the last picture is the frame of the scene that is kept; without one nothing is said
 abbrev pub IsCurrent : Option (Option (ℕ × ℕ)) → Rendering → Type 0

@@ -1,9 +1,10 @@
 //! A frame: the looks and the layout that are kept, brought up to the scene, and its picture.
 ghost use Rattle.std.specs.Prelude.{◌≡◌, ◌≤◌, ◌+◌, ◌*◌, IfOk, OnOk, Some, length};
+ghost use Rattle.fx_layout.specs.Layouts.{IsLayout};
 ghost use Rattle.fx_layout.specs.Updates.{root_size};
 ghost use Rattle.fx_pulse_kept.specs.Costs.{AreFew};
 ghost use Rattle.fx_pulse_model.specs.Frames.{IsFrame};
-ghost use Rattle.fx_pulse_model.specs.Scenes.{IsScene};
+ghost use Rattle.fx_pulse_model.specs.Scenes.{IsScene, looks_of};
 ghost use Rattle.fx_pulse_touched.specs.Sights.{seen};
 ghost use Rattle.fx_pulse_touched.specs.Touched.{IsUntouched};
 
@@ -36,6 +37,8 @@ pub(crate) fn made_of<L: Ledgers>(
         made.picture.entries) }
     ensures size { IfOk result (λ made. root_size kept.new.layout ≡ (made.width, made.height)) }
     ensures last { OnOk result (kept.new.last ≡ Some (seen scene.entry)) }
+    ensures placed { OnOk result (IsLayout (seen scene.entry).boxes (looks_of (seen scene.entry)) window
+        kept.new.layout) }
     ensures evaluated { OnOk result (work.new.evaluated ≡ work.old.evaluated) }
     ensures painted { OnOk result (work.new.painted ≡ work.old.painted) }
     ensures few { OnOk result (AreFew kept.old.last (seen scene.entry) kept.old.layout kept.new.layout

@@ -7,10 +7,12 @@ ghost use Rattle.fx_canvas.specs.Surfaces.{is_size, lies_in, row_at};
 ghost use Rattle.fx_canvas_laws.specs.Frames.{IsRepainted, Shows};
 ghost use Rattle.fx_picture.specs.Entries.{HasDistinctBirths, Rises};
 ghost use Rattle.fx_damage.specs.Damage.{damage as damage_of};
+ghost use Rattle.fx_layout.specs.Layouts.{IsLayout};
 ghost use Rattle.fx_layout.specs.Updates.{root_size};
 ghost use Rattle.fx_pulse_kept.specs.Costs.{AreFew};
+ghost use Rattle.fx_pulse_kept.specs.Keeping.{no_layout};
 ghost use Rattle.fx_pulse_model.specs.Frames.{IsFrame, frame_damage, has_size};
-ghost use Rattle.fx_pulse_model.specs.Scenes.{IsScene};
+ghost use Rattle.fx_pulse_model.specs.Scenes.{IsScene, looks_of};
 ghost use Rattle.fx_pulse_touched.specs.Sights.{seen};
 ghost use Rattle.fx_pulse_touched.specs.Touched.{IsUntouched};
 ghost use Rattle.fx_pulse.specs.Rendering.{IsDrawn, IsShown, last_frame, surface_of};
@@ -75,6 +77,7 @@ impl Renderer {
         ensures picture { result.picture ≡ [] }
         ensures rects { result.rects ≡ [] }
         ensures last { result.kept.last ≡ None }
+        ensures layout { result.kept.layout ≡ no_layout }
     {
         Renderer {
             picture: Picture::new(alloc),
@@ -110,6 +113,8 @@ impl Renderer {
         ensures err { OnErr result (self.new ≡ record self.old { kept = self.new.kept }) }
         ensures last { OnOk result (self.new.kept.last ≡ Some (seen scene.entry)) }
         ensures size { IfOk result (λ frame. root_size self.new.kept.layout ≡ (frame.width, frame.height)) }
+        ensures placed { OnOk result (IsLayout (seen scene.entry).boxes (looks_of (seen scene.entry)) window
+            self.new.kept.layout) }
         ensures evaluated { OnOk result (work.new.evaluated ≡ work.old.evaluated) }
         ensures few { OnOk result (AreFew self.old.kept.last (seen scene.entry) self.old.kept.layout
             self.new.kept.layout work.old.styled work.new.styled work.old.laid work.new.laid) }
@@ -263,6 +268,8 @@ impl Renderer {
         requires drawn { IfSome self.old.kept.last (λ scene.
             IsFrame scene window made.width made.height made.rects.items made.picture.entries) }
         requires root { root_size self.old.kept.layout ≡ (made.width, made.height) }
+        requires placed { IfSome self.old.kept.last (λ scene.
+            IsLayout scene.boxes (looks_of scene) window self.old.kept.layout) }
         ensures frame { IfOk result (λ frame. IsShowing made self.old self.new frame) }
         ensures err { OnErr result (self.new ≡ self.old) }
         ensures work { OnOk result (work.new ≡ record work.old { painted = work.new.painted }) }
@@ -302,6 +309,8 @@ impl Renderer {
         requires drawn { IfSome self.old.kept.last (λ scene.
             IsFrame scene window made.width made.height made.rects.items made.picture.entries) }
         requires root { root_size self.old.kept.layout ≡ (made.width, made.height) }
+        requires placed { IfSome self.old.kept.last (λ scene.
+            IsLayout scene.boxes (looks_of scene) window self.old.kept.layout) }
         ensures frame { IfOk result (λ frame. IsShowing made self.old self.new frame) }
         ensures err { OnErr result (self.new ≡ self.old) }
         ensures work { OnOk result (work.new ≡ record work.old { painted = work.new.painted }) }

@@ -1,5 +1,5 @@
 -- What is kept of the last scene from one frame to the next, and that it is what the scene gives from nothing.
-use Rattle.std.specs.Prelude.{◌≡◌, ℕ, length, slice_get, Option, Some, IfSome}
+use Rattle.std.specs.Prelude.{◌≡◌, ℕ, [], length, slice_get, Option, Some, IfSome}
 use Rattle.std.specs.Option.{option_map}
 use Rattle.fx_kinds.specs.declared.facts.StyleFacts.{StyleFacts}
 use Rattle.fx_style.specs.Kept.{Kept as Styled, entry, entry_in}
@@ -13,6 +13,10 @@ pub record Keeping : Type 0 where
   pub styles : Styled
   pub layout : Laid
   pub last : Option Scene
+
+-- before the first scene
+abbrev pub no_layout : Laid
+no_layout = record { keys = []; children = []; widths = []; heights = []; across = []; down = []; rects = [] }
 
 -- each node has its key and its style from nothing
 pub record AreStyled (scene : Scene) (kept : Styled) : Type 0 where

@@ -4,7 +4,7 @@ ghost use Rattle.fx_layout.specs.Layouts.{IsLayout};
 ghost use Rattle.fx_layout.specs.Updates.{root_size};
 ghost use Rattle.fx_layout_sweeps.specs.Nodes.{parents};
 ghost use Rattle.fx_pulse_kept.specs.Costs.{AreFew, IsBrought};
-ghost use Rattle.fx_pulse_kept.specs.Keeping.{Agrees};
+ghost use Rattle.fx_pulse_kept.specs.Keeping.{Agrees, no_layout};
 ghost use Rattle.fx_pulse_model.specs.Scenes.{IsScene, Scene as SceneValue, looks_of};
 ghost use Rattle.fx_pulse_touched.specs.Marks.{places_of, told};
 ghost use Rattle.fx_pulse_touched.specs.Sights.{seen};
@@ -44,7 +44,8 @@ impl Model for KeptScene {
 impl KeptScene {
     /// Nothing is kept.
     pub fn new(alloc: Global) -> KeptScene
-        ensures { result.last ≡ None }
+        ensures last { result.last ≡ None }
+        ensures layout { result.layout ≡ no_layout }
     {
         KeptScene {
             styles: Styles::new(alloc),

@@ -20,7 +20,8 @@ pub fn build_scene<L: Ledgers>(
     plan: Vec<PlannedStep>,
     work: &mut Work<L>,
 ) -> Result<Vec<NodeKey>, StageError>
-    ensures { IsScene plan.items stage.old stage.new result }
+    ensures scene { IsScene plan.items stage.old stage.new result }
+    ensures others { work.new ≡ record work.old { evaluated = work.new.evaluated } }
 {
     let mut keys = Vec::new(alloc);
     let mut left = plan;
@@ -40,7 +41,9 @@ pub fn take_step<L: Ledgers>(
     step: PlannedStep,
     work: &mut Work<L>,
 ) -> Result<(), StageError>
-    ensures { IsStepTaken step (standing_of stage.old keys.old.items) (standing_of stage.new keys.new.items) result }
+    ensures taken { IsStepTaken step (standing_of stage.old keys.old.items)
+        (standing_of stage.new keys.new.items) result }
+    ensures others { work.new ≡ record work.old { evaluated = work.new.evaluated } }
 {
     let step = resolve(alloc, stage, keys.as_slice(), step)?;
     let made = stage.build(alloc, step, work)?;

@@ -22,7 +22,8 @@ pub fn raise<L: Ledgers>(
     tasks: Vec<Task>,
     work: &mut Work<L>,
 ) -> Result<Vec<NodeKey>, RaiseError>
-    ensures { IsRaised tasks.items stage.old stage.new result }
+    ensures raised { IsRaised tasks.items stage.old stage.new result }
+    ensures others { work.new ≡ record work.old { evaluated = work.new.evaluated } }
 {
     let mut keys = Vec::new(alloc);
     let mut left = tasks;
@@ -41,7 +42,9 @@ fn take_task<L: Ledgers>(
     task: Task,
     work: &mut Work<L>,
 ) -> Result<(), RaiseError>
-    ensures { IsTaskTaken task (standing_of stage.old keys.old.items) (standing_of stage.new keys.new.items) result }
+    ensures taken { IsTaskTaken task (standing_of stage.old keys.old.items)
+        (standing_of stage.new keys.new.items) result }
+    ensures others { work.new ≡ record work.old { evaluated = work.new.evaluated } }
 {
     let Task { place, doing } = task;
     match doing {

@@ -28,7 +28,8 @@ impl Stage {
         parsed: &Parsed,
         work: &mut Work<L>,
     ) -> Result<Outcome, StageError>
-        ensures { IsTaken (spec.bind path.now (expression_view parsed.now) self.old) self.old self.new result }
+        ensures taken { IsTaken (spec.bind path.now (expression_view parsed.now) self.old) self.old self.new result }
+        ensures others { work.new ≡ record work.old { evaluated = work.new.evaluated } }
     {
         if !has_operands(&parsed.expr, parsed.paths.as_slice().len()) {
             return Err(StageError::Refused(Refusal::Syntax));
@@ -46,7 +47,8 @@ impl Stage {
         work: &mut Work<L>,
     ) -> Result<Outcome, StageError>
         requires places { IsTrue (is_within (tree parsed.now.expr) (length parsed.now.paths)) }
-        ensures { IsTaken (spec.bound path.now (expression_view parsed.now) self.old) self.old self.new result }
+        ensures taken { IsTaken (spec.bound path.now (expression_view parsed.now) self.old) self.old self.new result }
+        ensures others { work.new ≡ record work.old { evaluated = work.new.evaluated } }
     {
         let Ok(operands) = self.find_all(alloc, parsed.paths.as_slice()) else {
             return Err(StageError::Memory);

@@ -32,8 +32,9 @@ impl Stage {
         work: &mut Work<L>,
     ) -> Result<Option<NodeKey>, StageError>
         requires fit { spec.IsFitStep step }
-        ensures { (slot : ℕ) × IsBuilt (spec.built slot step self.old) (spec.node_made slot step self.old)
+        ensures built { (slot : ℕ) × IsBuilt (spec.built slot step self.old) (spec.node_made slot step self.old)
             self.old self.new result }
+        ensures others { work.new ≡ record work.old { evaluated = work.new.evaluated } }
     {
         match step {
             BuildStep::Node(class) => self.make(alloc, class),

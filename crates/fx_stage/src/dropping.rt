@@ -29,7 +29,8 @@ impl Stage {
         path: &[Text],
         work: &mut Work<L>,
     ) -> Result<Outcome, StageError>
-        ensures { IsTaken (spec.drop path.now self.old) self.old self.new result }
+        ensures taken { IsTaken (spec.drop path.now self.old) self.old self.new result }
+        ensures others { work.new ≡ record work.old { evaluated = work.new.evaluated } }
     {
         let key = match self.find_node(path) {
             Ok(key) => key,
@@ -60,7 +61,8 @@ impl Stage {
         requires allowed { drop_refusal self.old.graph.tree key ≡ None }
         requires keys { keys.items ≡ subtree self.old.graph.tree.nodes key }
         requires names { names.items ≡ spec.names_of_all self.old.graph.table keys.items }
-        ensures { IsTaken (spec.forgotten key keys.items self.old) self.old self.new result }
+        ensures taken { IsTaken (spec.forgotten key keys.items self.old) self.old self.new result }
+        ensures others { work.new ≡ record work.old { evaluated = work.new.evaluated } }
     {
         let first = names.first().copied();
         let change = Change::Forget(List::from_vec(names));

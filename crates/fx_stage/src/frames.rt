@@ -75,7 +75,8 @@ impl Stage {
         work: &mut Work<L>,
     ) -> Result<Outcome, StageError>
         requires { IsFit (Publish pairs) self.old.store }
-        ensures { IsTaken (spec.changed (Publish pairs) self.old) self.old self.new result }
+        ensures taken { IsTaken (spec.changed (Publish pairs) self.old) self.old self.new result }
+        ensures others { work.new ≡ record work.old { evaluated = work.new.evaluated } }
     {
         self.change_store(alloc, Change::Publish(pairs), work)
     }

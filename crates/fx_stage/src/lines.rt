@@ -1,5 +1,5 @@
 //! Lines of a script, each by what it asks for.
-ghost use Rattle.std.specs.Prelude.{ℕ};
+ghost use Rattle.std.specs.Prelude.{ℕ, ◌≡◌};
 ghost use Rattle.fx_stage_model.specs.Lines as spec;
 ghost use Rattle.fx_stage_model.specs.Taking.{IsTaken};
 
@@ -21,7 +21,8 @@ impl Stage {
         line: &Instruction,
         work: &mut Work<L>,
     ) -> Result<Outcome, StageError>
-        ensures { (slot : ℕ) × IsTaken (spec.instructed slot line.now self.old) self.old self.new result }
+        ensures taken { (slot : ℕ) × IsTaken (spec.instructed slot line.now self.old) self.old self.new result }
+        ensures others { work.new ≡ record work.old { evaluated = work.new.evaluated } }
     {
         match line {
             Instruction::Prop(name, kind, text) => self.declare(alloc, name, kind, text.as_str()),

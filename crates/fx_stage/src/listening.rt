@@ -99,9 +99,10 @@ impl Stage {
         label: Option<&Text>,
         work: &mut Work<L>,
     ) -> Result<Outcome, StageError>
-        ensures { IsTaken
+        ensures taken { IsTaken
             (spec.listen kind.now path.now (option_copied action.entry) (option_copied label.entry) self.old)
             self.old self.new result }
+        ensures others { work.new ≡ record work.old { evaluated = work.new.evaluated } }
     {
         let (name, owner) = match self.find_both(path, label) {
             Ok(found) => found,
@@ -128,9 +129,10 @@ impl Stage {
         label: Option<&Text>,
         work: &mut Work<L>,
     ) -> Result<Outcome, StageError>
-        ensures { IsTaken
+        ensures taken { IsTaken
             (spec.unlisten kind.now path.now (option_copied action.entry) (option_copied label.entry) self.old)
             self.old self.new result }
+        ensures others { work.new ≡ record work.old { evaluated = work.new.evaluated } }
     {
         let (name, owner) = match self.find_both(path, label) {
             Ok(found) => found,
@@ -217,7 +219,8 @@ impl Stage {
         work: &mut Work<L>,
     ) -> Result<Outcome, StageError>
         requires listens { IsListen change }
-        ensures { IsTaken (added change asked runs self.old) self.old self.new result }
+        ensures taken { IsTaken (added change asked runs self.old) self.old self.new result }
+        ensures others { work.new ≡ record work.old { evaluated = work.new.evaluated } }
     {
         let Ok(()) = reserve(&mut self.run, &mut self.written) else {
             return Err(StageError::Memory);

@@ -25,7 +25,8 @@ impl Stage {
     ) -> Result<Outcome, StageError>
         requires keeps { takes_away change ≡ false }
         requires fit { IsFit change self.old.store }
-        ensures { IsTaken (spec.changed change self.old) self.old self.new result }
+        ensures taken { IsTaken (spec.changed change self.old) self.old self.new result }
+        ensures others { work.new ≡ record work.old { evaluated = work.new.evaluated } }
     {
         told(alloc, self.store.apply(alloc, change, work))
     }
@@ -39,7 +40,8 @@ impl Stage {
         text: &str,
         work: &mut Work<L>,
     ) -> Result<Outcome, StageError>
-        ensures { IsTaken (spec.set path.now text.now self.old) self.old self.new result }
+        ensures taken { IsTaken (spec.set path.now text.now self.old) self.old self.new result }
+        ensures others { work.new ≡ record work.old { evaluated = work.new.evaluated } }
     {
         let name = match self.find_property(path) {
             Ok(name) => name,
@@ -64,7 +66,8 @@ impl Stage {
         value: Value,
         work: &mut Work<L>,
     ) -> Result<Outcome, StageError>
-        ensures { IsTaken (spec.changed (Set name value) self.old) self.old self.new result }
+        ensures taken { IsTaken (spec.changed (Set name value) self.old) self.old self.new result }
+        ensures others { work.new ≡ record work.old { evaluated = work.new.evaluated } }
     {
         self.change_store(alloc, Change::Set(name, value), work)
     }
@@ -88,7 +91,8 @@ impl Stage {
         path: &[Text],
         work: &mut Work<L>,
     ) -> Result<Outcome, StageError>
-        ensures { IsTaken (spec.get path.now self.old) self.old self.new result }
+        ensures taken { IsTaken (spec.get path.now self.old) self.old self.new result }
+        ensures others { work.new ≡ record work.old { evaluated = work.new.evaluated } }
     {
         let name = match self.find_property(path) {
             Ok(name) => name,
@@ -105,7 +109,8 @@ impl Stage {
         path: &[Text],
         work: &mut Work<L>,
     ) -> Result<Outcome, StageError>
-        ensures { IsTaken (spec.unbind path.now self.old) self.old self.new result }
+        ensures taken { IsTaken (spec.unbind path.now self.old) self.old self.new result }
+        ensures others { work.new ≡ record work.old { evaluated = work.new.evaluated } }
     {
         match self.find_property(path) {
             Ok(name) => self.change_store(alloc, Change::Unbind(name), work),
@@ -122,7 +127,8 @@ impl Stage {
         other: &[Text],
         work: &mut Work<L>,
     ) -> Result<Outcome, StageError>
-        ensures { IsTaken (spec.pair one.now other.now self.old) self.old self.new result }
+        ensures taken { IsTaken (spec.pair one.now other.now self.old) self.old self.new result }
+        ensures others { work.new ≡ record work.old { evaluated = work.new.evaluated } }
     {
         match self.find_two(one, other) {
             Ok((one, other)) => self.change_store(alloc, Change::Pair(one, other), work),
@@ -139,7 +145,8 @@ impl Stage {
         other: &[Text],
         work: &mut Work<L>,
     ) -> Result<Outcome, StageError>
-        ensures { IsTaken (spec.unpair one.now other.now self.old) self.old self.new result }
+        ensures taken { IsTaken (spec.unpair one.now other.now self.old) self.old self.new result }
+        ensures others { work.new ≡ record work.old { evaluated = work.new.evaluated } }
     {
         match self.find_two(one, other) {
             Ok((one, other)) => self.change_store(alloc, Change::Unpair(one, other), work),

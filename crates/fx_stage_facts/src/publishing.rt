@@ -128,7 +128,8 @@ pub fn publish<L: Ledgers>(
     work: &mut Work<L>,
 ) -> Result<Notices, AllocError>
     requires { spec.AreOnce sizes.now }
-    ensures { spec.IsPublished window sizes.now stage.old stage.new result }
+    ensures published { spec.IsPublished window sizes.now stage.old stage.new result }
+    ensures others { work.new ≡ record work.old { evaluated = work.new.evaluated } }
 {
     stage.laws();
     let pairs = pairs_of(alloc, stage, sizes)?;

@@ -4,11 +4,11 @@ use Rattle.fx_act.proofs.RunLemmas.{on_ok}
 use Rattle.fx_act.proofs.StartLemmas.{carried_fresh, carried_line}
 use Rattle.fx_act.proofs.acting.take.Goals as goal
 
-pub returns : goal.returns
-returns g c =
+pub returns-clause-done : goal.returns-clause-done
+returns-clause-done g c =
     let line = line_view c.args.line in
     let final = course_of c.take_line.new.stage c.take_line.new.trace in
     on_ok c.take_line.result
     (carried_fresh line c.args.stage.now c.take_line.new.stage c.args.trace.now c.take_line.new.trace c.take_line.result c.requires
-    c.take_line.ensures)
+    c.take_line.ensures.made)
     (carried_line c.args.picture.now.entries line line.request c.args.stage.now final c.in_default.ensures)

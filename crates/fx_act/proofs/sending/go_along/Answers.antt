@@ -10,8 +10,8 @@ use Rattle.fx_act.proofs.RunLemmas.{on_ok, passed_both}
 use Rattle.fx_act.proofs.SendLemmas.{refilled}
 use Rattle.fx_act.proofs.sending.go_along.Goals as goal
 
-pub returns : goal.returns
-returns g c =
+pub returns-clause-done : goal.returns-clause-done
+returns-clause-done g c =
     let on = c.args.event.on in
     let route = route_of c.args.stage.now.graph.tree.nodes on c.args.event.target in
     let start = course_of c.args.stage.now c.args.trace.now in
@@ -27,9 +27,9 @@ returns g c =
     c.as_slice-2.ensures
     ∙ refilled items c.reverse.new.self (ap length turned ∙ length-reverse items)
     ∙ turned ∙ ap reverse route_is in
-    on_ok c.pass_all-2.result c.pass_all-2.ensures
+    on_ok c.pass_all-2.result c.pass_all-2.ensures.done
     (λ returned.
     passed_both
     (subst (λ (keys : List NodeKey). ArePassed on (map (λ (key : NodeKey). (phase.Filter, key)) keys) start half) there
-    c.in_ok-pass_all.ensures)
+    c.in_ok-pass_all.ensures.done)
     (subst (λ (keys : List NodeKey). ArePassed on (map (λ (key : NodeKey). (phase.Handler, key)) keys) half now) back returned))

@@ -1,5 +1,5 @@
 -- what passes by the nodes that are left passes by all of them
-use Rattle.std.proofs.Common.{drop, map}
+use Rattle.std.proofs.Common.{◌≡◌, drop, map}
 use Rattle.fx_base.specs.declared.keys.NodeKey.{NodeKey}
 use Rattle.fx_plain_dispatch.specs.Sending.{ArePassed}
 use Rattle.fx_play_steps.specs.Traces.{course_of}
@@ -10,3 +10,4 @@ abbrev pub invariant-loop-key : goal.invariant-loop-key
 invariant-loop-key g l =
     LeadsTo (ArePassed l.fn.on) (map (λ (key : NodeKey). (l.fn.phase, key)) (drop l.key-index l.nodes))
     (course_of l.stage l.trace) (map (λ (key : NodeKey). (l.fn.phase, key)) l.nodes) (course_of l.fn.stage l.fn.trace)
+    × (l.work ≡ record l.fn.work { evaluated = l.work.evaluated })

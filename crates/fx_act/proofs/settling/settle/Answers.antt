@@ -1,4 +1,5 @@
 use Rattle.std.proofs.Common.{◌≡◌, ◌∙◌, ◌-◌, List, ap, arith, sym, subst, drop}
+use Rattle.fx_base.specs.declared.work.Work.{Work}
 use Rattle.fx_plain_dispatch.specs.Running.{AreRun}
 use Rattle.fx_plain_dispatch.specs.Settling.{IsSettled, first_run}
 use Rattle.fx_play_steps.specs.Traces.{course_of}
@@ -9,27 +10,29 @@ use Rattle.std.specs.Option.{option_map}
 use Rattle.fx_act.specs.declared.settling.Run.{Run}
 use Rattle.fx_act.proofs.settling.settle.Goals as goal
 
-pub returns-in-None : goal.returns-in-None
-returns-in-None g c =
+pub returns-in-None-clause-settled : goal.returns-in-None-clause-settled
+returns-in-None-clause-settled g c =
     let found = c.in_ok-run.ensures.found in
     none_left
     (sym (ap (option_map (λ (r : Run). (r.place, r.action))) c.in-None.is)
     ∙ found ∙ ap (λ heard. first_run c.loop-ran.stage c.loop-ran.place (drop c.loop-ran.place heard)) c.as_slice.ensures.value)
-    c.loop-ran.invariant
+    c.loop-ran.invariant.0
 
 pub loop-ran-preserved : goal.loop-ran-preserved
 loop-ran-preserved g c =
-    let found = c.in_ok-run.ensures.found in
-    one_more_ran {left = 1000 - c.loop-ran._ran} _ (c.in-Some.run'.place, c.in-Some.run'.action) (omega (arith, c.loop-ran-test.true))
-    (sym (ap (option_map (λ (r : Run). (r.place, r.action))) c.in-Some.is)
-    ∙ found ∙ ap (λ heard. first_run c.loop-ran.stage c.loop-ran.place (drop c.loop-ran.place heard)) c.as_slice.ensures.value)
-    (subst (λ (lines : List Numbered). AreRun lines (course_of c.loop-ran.stage c.loop-ran.trace)
-    (course_of c.run_lines.new.stage c.run_lines.new.trace)) c.lines.ensures c.in_ok-run_lines-in-Some.ensures)
-    c.loop-ran.invariant
+    let found = c.in_ok-run.ensures.found in (
+      one_more_ran {left = 1000 - c.loop-ran._ran} _ (c.in-Some.run'.place, c.in-Some.run'.action) (omega (arith, c.loop-ran-test.true))
+          (sym (ap (option_map (λ (r : Run). (r.place, r.action))) c.in-Some.is)
+          ∙ found ∙ ap (λ heard. first_run c.loop-ran.stage c.loop-ran.place (drop c.loop-ran.place heard)) c.as_slice.ensures.value)
+          (subst (λ (lines : List Numbered). AreRun lines (course_of c.loop-ran.stage c.loop-ran.trace)
+          (course_of c.run_lines.new.stage c.run_lines.new.trace)) c.lines.ensures c.in_ok-run_lines-in-Some.ensures.done)
+          c.loop-ran.invariant.0,
+      c.in_ok-run_lines-in-Some.ensures.others ∙ ap (λ (w : Work g.row.L.Denot). record w { evaluated = c.run_lines.new.work.evaluated }) c.loop-ran.invariant.1,
+    )
 
-pub returns : goal.returns
-returns g c =
+pub returns-clause-settled : goal.returns-clause-settled
+returns-clause-settled g c =
     on_ok c.end_runs.result c.end_runs.ensures
-    (λ ended. c.loop-ran.invariant _
+    (λ ended. c.loop-ran.invariant.0 _
     (subst (λ n. IsSettled c.args.number n c.loop-ran.place (course_of c.loop-ran.stage c.loop-ran.trace)
     (course_of c.loop-ran.stage c.end_runs.new.trace)) (omega (arith, c.loop-ran-test.false)) ended))

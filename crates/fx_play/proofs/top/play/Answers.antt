@@ -1,6 +1,12 @@
 -- what is said of the plan that the words make
-use Rattle.std.proofs.Common.{ap, ◌∙◌}
-use Rattle.fx_plain.specs.CommandLine.{plan_of}
+use Rattle.std.proofs.Common.{◌≡◌, ap, subst, ◌∙◌}
+use Rattle.fx_base.specs.declared.work.Work.{Work}
+use Rattle.fx_plain.specs.CommandLine.{Plan, plan_of}
+use Rattle.fx_plain.specs.PlainPlayer.{IsOver}
+use Rattle.fx_plain.specs.Works.{IsWorkOf}
+use Rattle.fx_plain.specs.declared.answers.Status.TheVariants.{Done}
+use Rattle.fx_plain_work.specs.Works.{Counted, counted}
+use Rattle.fx_port.specs.Files.{Files}
 use Rattle.fx_play.proofs.RunLemmas.{within_as}
 use Rattle.fx_play.proofs.top.play.Goals as goal
 
@@ -8,3 +14,11 @@ pub returns-in-Ok-clause-within : goal.returns-in-Ok-clause-within
 returns-in-Ok-clause-within g c =
     within_as (g.F.Shelf.held c.args.shelf.now) (c.plan_of.ensures.plan ∙ ap plan_of c.in-Ok.ensures.run)
     c.play_plan.ensures.played.within
+
+pub returns-in-Ok-clause-worked : goal.returns-in-Ok-clause-worked
+returns-in-Ok-clause-worked g c =
+    let count : Work g.row.L.Denot → Counted = λ w. counted w.styled w.laid w.painted in
+    let IsSo : Plan → Type 0 =
+    λ plan. (files : Files) → IsOver (g.F.Shelf.held c.args.shelf.now) plan files → c.play_plan.result ≡ Done
+    → IsWorkOf plan files (count c.args.work.now) (count c.play_plan.new.work) in
+    subst IsSo (c.plan_of.ensures.plan ∙ ap plan_of c.in-Ok.ensures.run) c.play_plan.ensures.worked

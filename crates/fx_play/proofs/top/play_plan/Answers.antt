@@ -1,5 +1,11 @@
 -- a demo, and where no run is asked for
-use Rattle.std.proofs.Common.{subst, sym}
+use Rattle.std.proofs.Common.{◌≡◌, subst, sym}
+use Rattle.fx_base.specs.declared.work.Work.{Work}
+use Rattle.fx_plain.specs.PlainPlayer.{IsOver}
+use Rattle.fx_plain.specs.Works.{IsWorkOf}
+use Rattle.fx_plain.specs.declared.answers.Status.TheVariants.{Done}
+use Rattle.fx_plain_work.specs.Works.{Counted, counted}
+use Rattle.fx_port.specs.Files.{Files}
 use Rattle.fx_play.specs.Ends.{IsPlayed}
 use Rattle.fx_play.specs.Plans.{plan_view}
 use Rattle.fx_play.specs.declared.plans.Plan.{Plan}
@@ -29,3 +35,27 @@ returns-in-ShowsUsage-clause-played g c =
     (usage_shown (shelf.held c.args.shelf.now) (shelf.faults c.args.shelf.now) (shelf.faults c.args.shelf.now)
     (sink.faults c.args.out.now) (sink.faults c.tell_usage.new.out) (sink.written c.args.out.now)
     (sink.written c.tell_usage.new.out) c.tell_usage.result c.tell_usage.ensures)
+
+pub returns-in-Plays-clause-worked : goal.returns-in-Plays-clause-worked
+returns-in-Plays-clause-worked g c =
+    let count : Work g.row.L.Denot → Counted = λ w. counted w.styled w.laid w.painted in
+    let IsSo : Plan → Type 0 =
+    λ plan. (files : Files) → IsOver (g.F.Shelf.held c.args.shelf.now) (plan_view plan) files → c.play_run.result ≡ Done
+    → IsWorkOf (plan_view plan) files (count c.args.work.now) (count c.play_run.new.work) in
+    subst IsSo (sym c.in-Plays.is) c.play_run.ensures.work
+
+pub returns-in-PlaysDemo-clause-worked : goal.returns-in-PlaysDemo-clause-worked
+returns-in-PlaysDemo-clause-worked g c =
+    let count : Work g.row.L.Denot → Counted = λ w. counted w.styled w.laid w.painted in
+    let IsSo : Plan → Type 0 =
+    λ plan. (files : Files) → IsOver (g.F.Shelf.held c.args.shelf.now) (plan_view plan) files → c.play_demo.result ≡ Done
+    → IsWorkOf (plan_view plan) files (count c.args.work.now) (count c.play_demo.new.work) in
+    subst IsSo (sym c.in-PlaysDemo.is) (λ files over done. c.play_demo.ensures.work done)
+
+pub returns-in-ShowsUsage-clause-worked : goal.returns-in-ShowsUsage-clause-worked
+returns-in-ShowsUsage-clause-worked g c =
+    let count : Work g.row.L.Denot → Counted = λ w. counted w.styled w.laid w.painted in
+    let IsSo : Plan → Type 0 =
+    λ plan. (files : Files) → IsOver (g.F.Shelf.held c.args.shelf.now) (plan_view plan) files → c.tell_usage.result ≡ Done
+    → IsWorkOf (plan_view plan) files (count c.args.work.now) (count c.args.work.now) in
+    subst IsSo (sym c.in-ShowsUsage.is) (λ files over done. tt)

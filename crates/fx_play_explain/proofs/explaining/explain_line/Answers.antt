@@ -13,8 +13,8 @@ tell-requires g c = record {
   empty = ap (λ (course : Course). course.text) (c.clear.ensures c.args.stage.now);
 }
 
-pub returns-in-Ok : goal.returns-in-Ok
-returns-in-Ok g c =
+pub returns-in-Ok-clause-told : goal.returns-in-Ok-clause-told
+returns-in-Ok-clause-told g c =
     let world = c.args.stage.now in
     let text = c.tell.new.text.items in
     let none = ap (λ (course : Course). course.heard) (c.clear.ensures world) in
@@ -23,8 +23,8 @@ returns-in-Ok g c =
     (record { text = text; heard = c.clear.new.self.heard.items; world = c.tell.new.stage }) c.in-Ok.ensures.found told
     (step_printing text text c.clear.new.self.heard.items c.tell.new.stage (looked world) refl none read))
 
-pub returns-in-Err : goal.returns-in-Err
-returns-in-Err g c =
+pub returns-in-Err-clause-told : goal.returns-in-Err-clause-told
+returns-in-Err-clause-told g c =
     let world = c.args.stage.now in
     let text = c.print_refusal.new.out.items in
     let line = refused_line c.args.number (word_of c.in-Err.word) in

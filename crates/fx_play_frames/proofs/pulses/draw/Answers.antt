@@ -3,9 +3,11 @@ use Rattle.std.proofs.Common.{List, refl, subst, sym}
 use Rattle.std.specs.Prelude.{IsTrue}
 use Rattle.fx_kinds.specs.declared.facts.BoxFacts.{BoxFacts}
 use Rattle.fx_plain_frames.specs.Pulses.{sizes_of}
+use Rattle.fx_plain_work.specs.Works.{counted}
 use Rattle.fx_stage_facts.specs.Publishing.{AreOnce}
 use Rattle.fx_play_frames.proofs.DrawnLemmas.{drawn_as}
 use Rattle.fx_play_frames.proofs.SizeLemmas.{sized_once}
+use Rattle.fx_play_frames.proofs.WorkLemmas.{work_as}
 use Rattle.fx_play_frames.proofs.pulses.draw.Goals as goal
 
 pub returns-clause-drawn : goal.returns-clause-drawn
@@ -17,3 +19,11 @@ pub returns-clause-once : goal.returns-clause-once
 returns-clause-once g c =
     subst (λ (boxes : List BoxFacts). AreOnce (sizes_of boxes c.pulse.new.self.rects)) c.scene_in-scene.ensures.boxes
     (sized_once _ c.pulse.new.self.rects (c.in_ok-is_fit.ensures.scene (subst IsTrue (sym c.if-not-branch.false) refl)))
+
+pub returns-clause-work : goal.returns-clause-work
+returns-clause-work g c = λ world are.
+    work_as world c.args.facts.now _ c.args.renderer.now c.pulse.new.self c.in_ok-frame.frame
+    (counted c.args.work.now.styled c.args.work.now.laid c.args.work.now.painted)
+    (counted c.pulse.new.work.styled c.pulse.new.work.laid c.pulse.new.work.painted) are
+    (c.scene_in-scene.ensures.scene world are) c.in_ok-frame.ensures.last c.in_ok-frame.ensures.placed
+    c.in_ok-frame.ensures.few c.in_ok-frame.ensures.painted

@@ -1,4 +1,8 @@
 -- the world's scene was drawn, and its sizes were published
+use Rattle.std.proofs.Common.{ap, subst, sym}
+use Rattle.fx_base.specs.declared.work.Work.{Work}
+use Rattle.fx_plain_work.specs.Works.{Counted, counted}
+use Rattle.fx_play_frames.specs.Drawn.{IsDrawWork}
 use Rattle.fx_play_frames.proofs.DrawnLemmas.{drawn_whole}
 use Rattle.fx_play_frames.proofs.pulses.drawn.Goals as goal
 
@@ -6,5 +10,15 @@ pub returns-clause-drawn : goal.returns-clause-drawn
 returns-clause-drawn g c =
     drawn_whole c.args.stage.now c.read_facts.new.stage c.publish_sizes.new.stage c.in_ok-facts.facts c.args.renderer.now
     c.draw.new.renderer (record { frame = c.in_ok-frame.frame; notices = c.in_ok-notices.notices }) c.as_slice.result.now c.rects.result.now c.in_ok-facts.ensures.facts
-    c.in_ok-facts.ensures.ok (c.in_ok-frame.ensures.drawn c.args.stage.now c.in_ok-facts.ensures.facts) c.as_slice.ensures c.rects.ensures c.in_ok-notices.ensures.0
-    c.in_ok-notices.ensures.1
+    c.in_ok-facts.ensures.ok (c.in_ok-frame.ensures.drawn c.args.stage.now c.in_ok-facts.ensures.facts) c.as_slice.ensures c.rects.ensures c.in_ok-notices.ensures.published.0
+    c.in_ok-notices.ensures.published.1
+
+pub returns-clause-work : goal.returns-clause-work
+returns-clause-work g c =
+    let count : Work g.row.L.Denot → Counted = λ w. counted w.styled w.laid w.painted in
+    let made = c.in_ok-frame.frame in
+    subst (λ (n : Counted). IsDrawWork c.args.stage.now c.args.renderer.now c.draw.new.renderer made
+    (count c.args.work.now) n) (sym (ap count c.in_ok-notices.ensures.others))
+    (subst (λ (n : Counted). IsDrawWork c.args.stage.now c.args.renderer.now c.draw.new.renderer made n
+    (count c.draw.new.work)) (ap count c.in_ok-facts.ensures.others)
+    (c.in_ok-frame.ensures.work c.args.stage.now c.in_ok-facts.ensures.facts))

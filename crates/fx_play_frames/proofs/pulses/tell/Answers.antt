@@ -5,9 +5,9 @@ use Rattle.fx_play_steps.specs.Traces.{course_of}
 use Rattle.fx_play_frames.proofs.LineLemmas.{on_ok, told_fresh}
 use Rattle.fx_play_frames.proofs.pulses.tell.Goals as goal
 
-pub returns : goal.returns
-returns g c =
+pub returns-clause-settled : goal.returns-clause-settled
+returns-clause-settled g c =
     let told = c.in_ok-print_told.ensures in
-    on_ok c.settle.result c.settle.ensures
+    on_ok c.settle.result c.settle.ensures.settled
     (subst (λ (here : Course). IsSettledWhole c.args.number here (course_of c.settle.new.stage c.settle.new.trace))
     (told_fresh c.args.stage.now c.clear.new.self c.print_told.new.trace c.args.notices.now c.clear.ensures told.text told.heard told.rest))

@@ -2,10 +2,12 @@
 use Rattle.std.proofs.Common.{◌≡◌, ◌∙◌, Option, ap, arith, length, subst, sym}
 use Rattle.std.proofs.lemmas.List.{length-reverse}
 use Rattle.fx_plain_runs.proofs.PlayingLemmas.{put_at_err, put_at_ok}
-use Rattle.fx_play_frames.specs.Games.{game_of}
+use Rattle.fx_plain_work.specs.Works.{counted}
+use Rattle.fx_play_frames.specs.Games.{game_of, sight_of}
 use Rattle.fx_play_frames.specs.Takings.{IsAt}
 use Rattle.fx_pulse_model.specs.Frames.{Framed}
 use Rattle.fx_play_runs.proofs.LineLemmas.{all_left, cut_at, none_left, one_less, one_more}
+use Rattle.fx_play_runs.proofs.WorkLemmas.{all_done, all_to_do, one_done}
 use Rattle.fx_play_runs.proofs.lines.put_each.Goals as goal
 
 pub loop-line-init : goal.loop-line-init
@@ -20,6 +22,8 @@ loop-line-init g c =
       few = omega (arith, c.requires.few, c.requires.fresh, long);
       form = c.new-writer.ensures.form;
       behind = subst (λ (o : Option Framed). IsAt c.new-writer.result o) (sym c.requires.unseen) c.new-writer.ensures.first;
+      working = all_to_do c.args.manner.form (game_of c.args.game.now) (sight_of c.args.game.now) c.args.lines.items
+          (counted c.args.work.now.styled c.args.work.now.laid c.args.work.now.painted) turned;
     }
 
 pub loop-line-preserved : goal.loop-line-preserved
@@ -34,6 +38,10 @@ loop-line-preserved g c =
       few = omega (arith, c.loop-line.invariant.few, c.in_ok-put_line.ensures.frames, shorter);
       form = c.in_ok-put_line.ensures.form ∙ c.loop-line.invariant.form;
       behind = c.in_ok-put_line.ensures.behind;
+      working =
+          let whole = rw c.loop-line.invariant.form at c.in_ok-put_line.ensures.done in
+          one_done c.loop-line.left.items c.pop.new.self.items c.in-Some.line whole.told c.in-Some.ensures.items
+          c.loop-line.invariant.working whole.is c.in_ok-put_line.ensures.work;
     }
 
 pub returns-in_err-put_line-clause-put : goal.returns-in_err-put_line-clause-put
@@ -49,3 +57,6 @@ returns-clause-put g c =
     λ warnings begun told.
     put_at_ok (none_left c.loop-line.left c.in_default.ensures.cases.0 c.requires.long
     (c.loop-line.invariant.playing warnings begun told))
+
+pub returns-clause-work : goal.returns-clause-work
+returns-clause-work g c = all_done c.loop-line.left c.in_default.ensures.cases.0 c.loop-line.invariant.working

@@ -2,7 +2,9 @@
 use Rattle.std.proofs.Common.{◌≡◌, ◌≤◌, ◌+◌, ℕ, List, Option, length, map, vec_len}
 use Rattle.std.specs.Prelude.{reverse}
 use Rattle.fx_plain_runs.proofs.PlayingLemmas.{IsPlaying}
-use Rattle.fx_play_frames.specs.Games.{game_of}
+use Rattle.fx_plain_work.specs.Works.{counted}
+use Rattle.fx_plain_work.proofs.WorkLemmas.{IsWorking}
+use Rattle.fx_play_frames.specs.Games.{game_of, sight_of}
 use Rattle.fx_play_frames.specs.Takings.{IsAt}
 use Rattle.fx_port.specs.Pieces.{grown}
 use Rattle.fx_script_commands.specs.Requests.{line_view}
@@ -19,6 +21,9 @@ invariant-loop-line g l =
       few : l.game.frames + length l.left.items ≤ 100000;
       form : l.writer.form ≡ l.fn.manner.form;
       behind : IsAt l.writer (game_of l.game).last;
+      working : IsWorking l.fn.manner.form (game_of l.fn.game) (sight_of l.fn.game) (map line_view l.fn.lines.items)
+          (counted l.fn.work.styled l.fn.work.laid l.fn.work.painted) (game_of l.game) (sight_of l.game)
+          (map line_view (reverse l.left.items)) (counted l.work.styled l.work.laid l.work.painted);
     }
 
 abbrev pub decreases-loop-line : goal.decreases-loop-line

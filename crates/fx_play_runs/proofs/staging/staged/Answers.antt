@@ -7,10 +7,10 @@ use Rattle.fx_play_runs.proofs.staging.staged.Goals as goal
 pub returns-in_err-raise-clause-staged : goal.returns-in_err-raise-clause-staged
 returns-in_err-raise-clause-staged g c =
     not_raised c.args.window c.args.tasks.items c.new-stage.result c.raise.new.stage c.in_err-raise.field-0.0
-    c.from_residual.result c.new-stage.ensures c.in_err-raise.ensures c.from_residual.ensures.1
+    c.from_residual.result c.new-stage.ensures c.in_err-raise.ensures.raised c.from_residual.ensures.1
 
 pub returns-clause-staged : goal.returns-clause-staged
 returns-clause-staged g c =
     raised c.args.window c.args.tasks.items c.new-stage.result
     (standing_of c.raise.new.stage c.in_ok-raise.field-0.items) (game_of c.game_in.result) c.new-stage.ensures
-    c.in_ok-raise.ensures c.game_in.ensures
+    c.in_ok-raise.ensures.raised c.game_in.ensures.game

@@ -2,9 +2,11 @@
 use Rattle.std.proofs.Common.{◌≡◌, ◌∙◌, ap, arith, length}
 use Rattle.std.proofs.lemmas.List.{length-reverse}
 use Rattle.fx_frame_text.specs.declared.forms.Form.TheVariants.{Text}
-use Rattle.fx_play_frames.specs.Games.{game_of}
+use Rattle.fx_plain_work.specs.Works.{counted}
+use Rattle.fx_play_frames.specs.Games.{game_of, sight_of}
 use Rattle.fx_play_runs.proofs.CountLemmas.{adds_up, all_uncounted, none_uncounted, one_counted}
 use Rattle.fx_play_runs.proofs.LineLemmas.{one_less}
+use Rattle.fx_play_runs.proofs.WorkLemmas.{all_done, all_to_do, one_done}
 use Rattle.fx_play_runs.proofs.summaries.count_lines.Goals as goal
 
 pub loop-line-init : goal.loop-line-init
@@ -15,6 +17,8 @@ loop-line-init g c =
     record {
       counting = λ form. all_uncounted form (game_of c.args.game.now) c.args.lines.items turned;
       few = omega (arith, c.requires.few, c.requires.fresh, long);
+      working = λ form. all_to_do form (game_of c.args.game.now) (sight_of c.args.game.now) c.args.lines.items
+          (counted c.args.work.now.styled c.args.work.now.laid c.args.work.now.painted) turned;
     }
 
 pub with-totals-requires-clause-frames : goal.with-totals-requires-clause-frames
@@ -42,8 +46,16 @@ loop-line-preserved g c =
           (c.loop-line.invariant.counting form) (c.in_ok-more.ensures.counted form) c.in_ok-more.ensures.small
           c.with-totals.ensures;
       few = omega (arith, c.loop-line.invariant.few, c.in_ok-more.ensures.frames, shorter);
+      working = λ form.
+          let whole = c.in_ok-more.ensures.counted form in
+          one_done c.loop-line.left.items c.pop.new.self.items c.in-Some.line whole.told c.in-Some.ensures.items
+          (c.loop-line.invariant.working form) whole.is c.in_ok-more.ensures.work;
     }
 
-pub returns : goal.returns
-returns g c =
+pub returns-clause-counted : goal.returns-clause-counted
+returns-clause-counted g c =
     λ form. none_uncounted form c.loop-line.left c.in_default.ensures.cases.0 (c.loop-line.invariant.counting form)
+
+pub returns-clause-work : goal.returns-clause-work
+returns-clause-work g c =
+    λ form. all_done c.loop-line.left c.in_default.ensures.cases.0 (c.loop-line.invariant.working form)

@@ -6,8 +6,8 @@ use Rattle.fx_play_steps.specs.Traces.{course_of}
 use Rattle.fx_play_steps.proofs.StepLemmas.{step_other}
 use Rattle.fx_play_steps.proofs.lines.take_instruction.Goals as goal
 
-pub returns-then-not-is_carried : goal.returns-then-not-is_carried
-returns-then-not-is_carried g c =
+pub returns-then-not-is_carried-clause-made : goal.returns-then-not-is_carried-clause-made
+returns-then-not-is_carried-clause-made g c =
     let world = c.args.stage.now in
     let same = ap (λ text. said_by text world) c.saying.ensures in
     let step = step_other 0 c.args.number c.args.instruction.now world (sym c.is_carried.ensures ∙ c.if-not-is_carried.true) in (

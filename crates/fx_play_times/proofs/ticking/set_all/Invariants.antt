@@ -6,4 +6,5 @@ use Rattle.fx_play_times.proofs.ticking.set_all.Given as goal
 
 abbrev pub invariant-loop-set : goal.invariant-loop-set
 invariant-loop-set g l =
-    course_of l.stage l.trace ≡ all_animated l.yielded (course_of l.fn.stage l.fn.trace)
+    (course_of l.stage l.trace ≡ all_animated l.yielded (course_of l.fn.stage l.fn.trace))
+    × (l.work ≡ record l.fn.work { evaluated = l.work.evaluated })

@@ -7,10 +7,10 @@ use Rattle.fx_scene_raise.specs.Raising.{IsTaskTaken}
 use Rattle.fx_scene_raise.proofs.StepLemmas.{step_taken}
 use Rattle.fx_scene_raise.proofs.raising.take_task.Goals as goal
 
-pub returns-in-Step : goal.returns-in-Step
-returns-in-Step g c =
+pub returns-in-Step-clause-taken : goal.returns-in-Step-clause-taken
+returns-in-Step-clause-taken g c =
     let before = standing_of c.args.stage.now c.args.keys.now.items in
     let now = standing_of c.take_step.new.stage c.take_step.new.keys.items in
     let IsTaken : Doing → Type 0 = λ d. IsTaskTaken (task_of c.args.task.place d) before now c.told.result in
     subst IsTaken (sym c.in-Step.is)
-    (step_taken c.args.task.place c.in-Step.step before now c.take_step.result c.told.result c.take_step.ensures c.told.ensures)
+    (step_taken c.args.task.place c.in-Step.step before now c.take_step.result c.told.result c.take_step.ensures.taken c.told.ensures)

@@ -14,17 +14,17 @@ publish-requires g c =
     (sym (c.from_vec.ensures ∙ c.in_ok-pairs.ensures))
     (publish_fits c.args.stage.now c.laws.ensures c.args.sizes.now c.requires)
 
-pub returns-in-Ok : goal.returns-in-Ok
-returns-in-Ok g c =
+pub returns-in-Ok-clause-published : goal.returns-in-Ok-clause-published
+returns-in-Ok-clause-published g c =
     published_ok c.args.stage.now c.publish.new.self c.keep_window.new.self c.args.window c.args.sizes.now c.publish.result
     c.in-Ok.outcome c.laws.ensures
     (subst (λ (pairs : List (Name × Value)). IsTaken (changed (Publish pairs) c.args.stage.now) c.args.stage.now c.publish.new.self c.publish.result)
-    (c.from_vec.ensures ∙ c.in_ok-pairs.ensures) c.publish.ensures)
+    (c.from_vec.ensures ∙ c.in_ok-pairs.ensures) c.publish.ensures.taken)
     c.in-Ok.is c.keep_window.ensures
 
-pub returns-in-Err : goal.returns-in-Err
-returns-in-Err g c =
+pub returns-in-Err-clause-published : goal.returns-in-Err-clause-published
+returns-in-Err-clause-published g c =
     published_err c.args.stage.now c.publish.new.self c.args.sizes.now c.publish.result c.in-Err.field-0 c.laws.ensures
     (subst (λ (pairs : List (Name × Value)). IsTaken (changed (Publish pairs) c.args.stage.now) c.args.stage.now c.publish.new.self c.publish.result)
-    (c.from_vec.ensures ∙ c.in_ok-pairs.ensures) c.publish.ensures)
+    (c.from_vec.ensures ∙ c.in_ok-pairs.ensures) c.publish.ensures.taken)
     c.in-Err.is

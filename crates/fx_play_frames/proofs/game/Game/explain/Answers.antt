@@ -5,7 +5,7 @@ use Rattle.fx_play_frames.proofs.game.Game.explain.Goals as goal
 
 pub returns-clause-explained : goal.returns-clause-explained
 returns-clause-explained g c =
-    on_ok c.explain_line.result c.explain_line.ensures
+    on_ok c.explain_line.result c.explain_line.ensures.told
     (λ explained. record {
       step = record {
         text = c.explain_line.new.trace.text.items;

@@ -12,8 +12,8 @@ pub returns-clause-timed : goal.returns-clause-timed
 returns-clause-timed g c =
     let before = c.args.self.now in
     let course = course_of c.settle.new.stage c.settle.new.trace in
-    let same = c.in_ok-take.ensures in
-    on_ok c.settle.result c.settle.ensures
+    let same = c.in_ok-take.ensures.passed in
+    on_ok c.settle.result c.settle.ensures.settled
     (λ settled. record {
       course = course;
       settled = subst (λ (first : Course). IsSettledWhole c.args.number first course) (ap (λ (p : Passed). p.course) same) settled;

@@ -1,13 +1,18 @@
-use Rattle.std.proofs.Common.{◌≡◌, ◌∙◌, ◌+◌, ◌++◌, Option, ap, arith, length, refl, vec_len}
+use Rattle.std.proofs.Common.{◌≡◌, ◌∙◌, ◌+◌, ◌++◌, Option, ap, arith, length, refl, subst, sym, vec_len}
 use Rattle.std.specs.Option.{option_map}
+use Rattle.fx_base.specs.declared.work.Work.{Work}
 use Rattle.fx_frame_text.specs.Frames.{frame_text}
+use Rattle.fx_plain_frames.specs.Games.{Game}
 use Rattle.fx_plain_frames.specs.Pulses.{image_in}
+use Rattle.fx_plain_work.specs.Works.{Counted, IsPulseWork, counted}
 use Rattle.fx_play_times.specs.Shown.{clock_of}
 use Rattle.fx_play_steps.specs.Traces.{course_of}
 use Rattle.fx_pulse.specs.Rendering.{last_frame}
 use Rattle.fx_pulse_model.specs.Frames.{Framed}
 use Rattle.fx_play_frames.specs.Drawn.{pulsed_as}
+use Rattle.fx_play_frames.specs.Games.{game_of, sight_of}
 use Rattle.fx_play_frames.specs.Takings.{frame_totals, image_last}
+use Rattle.fx_play_frames.proofs.WorkLemmas.{pulse_work}
 use Rattle.fx_play_frames.proofs.game.Game.pulse.Goals as goal
 
 pub returns-clause-shown : goal.returns-clause-shown
@@ -29,7 +34,7 @@ returns-clause-shown g c = λ form.
       };
       made = record { drawn = drawn; count = refl };
       course = course;
-      settled = c.in_ok-tell.ensures;
+      settled = c.in_ok-tell.ensures.settled;
       after = refl;
       told_so =
           ap (λ n. record {
@@ -43,3 +48,19 @@ returns-clause-shown g c = λ form.
             totals = frame_totals last (record { damage = made.frame.damage; notices = length c.tell.new.trace.heard.items });
           }) drawn.last_one;
     }
+
+pub returns-clause-work : goal.returns-clause-work
+returns-clause-work g c =
+    let count : Work g.row.L.Denot → Counted = λ w. counted w.styled w.laid w.painted in
+    let before = game_of c.args.self.now in
+    let now : Game = record {
+      world = c.tell.new.stage;
+      clock = clock_of c.args.self.now.clock;
+      frames = c.args.self.now.frames + 1;
+      last = last_frame c.drawn.new.renderer;
+    } in
+    subst (λ (n : Counted). IsPulseWork before now (sight_of c.args.self.now)
+    (record { scene = c.drawn.new.renderer.kept.last; layout = c.drawn.new.renderer.kept.layout })
+    (count c.args.work.now) n) (sym (ap count c.in_ok-tell.ensures.others))
+    (pulse_work before now c.drawn.new.stage c.args.self.now.renderer c.drawn.new.renderer c.in_ok-pulsed.pulsed
+    (count c.args.work.now) (count c.drawn.new.work) refl refl c.in_ok-pulsed.ensures.drawn c.in_ok-pulsed.ensures.work)

@@ -13,7 +13,7 @@ returns-then-is_none-clause-step g c =
     let same = c.no_picture-nothing.ensures
     ∙ before_frames c.canvas.result s.renderer.canvas s.renderer.picture c.canvas.ensures
     (c.is_none.ensures ∙ ap not c.if-is_none.true) in
-    on_ok c.act.result c.act.ensures
+    on_ok c.act.result c.act.ensures.line
     (λ taken. record {
       course = course;
       taken = subst (λ (entries : List Entry). IsLine entries (line_view c.args.line) s.stage course) same taken;
@@ -28,7 +28,7 @@ returns-clause-step g c =
     let same = c.picture.ensures
     ∙ behind_frames c.canvas.result s.renderer.canvas s.renderer.picture c.canvas.ensures
     (c.is_none.ensures ∙ ap not c.if-is_none.false) in
-    on_ok c.act-2.result c.act-2.ensures
+    on_ok c.act-2.result c.act-2.ensures.line
     (λ taken. record {
       course = course;
       taken = subst (λ (entries : List Entry). IsLine entries (line_view c.args.line) s.stage course) same taken;

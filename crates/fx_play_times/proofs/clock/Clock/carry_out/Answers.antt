@@ -10,9 +10,9 @@ use Rattle.fx_play_times.specs.Shown.{clock_of}
 use Rattle.fx_play_times.proofs.TimeLemmas.{other_line, still_so}
 use Rattle.fx_play_times.proofs.clock.Clock.carry_out.Goals as goal
 
-pub returns-in-Timeline : goal.returns-in-Timeline
+pub returns-in-Timeline-clause-timed : goal.returns-in-Timeline-clause-timed
 unfolding spec.timed
-returns-in-Timeline g c =
+returns-in-Timeline-clause-timed g c =
     let world = c.args.stage.now in
     let course = course_of world c.args.trace.now in
     let clock = clock_of c.args.self.now in
@@ -21,9 +21,9 @@ returns-in-Timeline g c =
     (still_so world course (spec.added c.in-Timeline.label c.in-Timeline.count c.in-Timeline.back clock) clock
     (clock_of c.add.new.self) c.add.result (c.requires world) c.add.ensures)
 
-pub returns-in-Keyframe : goal.returns-in-Keyframe
+pub returns-in-Keyframe-clause-timed : goal.returns-in-Keyframe-clause-timed
 unfolding spec.timed
-returns-in-Keyframe g c =
+returns-in-Keyframe-clause-timed g c =
     let world = c.args.stage.now in
     let course = course_of world c.args.trace.now in
     let clock = clock_of c.args.self.now in
@@ -33,9 +33,9 @@ returns-in-Keyframe g c =
     (clock_of c.key.new.self) c.key.result (c.requires world)
     (rw (c.as_slice.ensures, c.as_str.ensures) at c.key.ensures))
 
-pub returns-in-Play : goal.returns-in-Play
+pub returns-in-Play-clause-timed : goal.returns-in-Play-clause-timed
 unfolding spec.timed
-returns-in-Play g c =
+returns-in-Play-clause-timed g c =
     let world = c.args.stage.now in
     let course = course_of world c.args.trace.now in
     let clock = clock_of c.args.self.now in
@@ -44,9 +44,9 @@ returns-in-Play g c =
     (still_so world course (spec.played c.in-Play.label clock) clock
     (clock_of c.play.new.self) c.play.result (c.requires world) c.play.ensures)
 
-pub returns-in-Stop : goal.returns-in-Stop
+pub returns-in-Stop-clause-timed : goal.returns-in-Stop-clause-timed
 unfolding spec.timed
-returns-in-Stop g c =
+returns-in-Stop-clause-timed g c =
     let world = c.args.stage.now in
     let course = course_of world c.args.trace.now in
     let clock = clock_of c.args.self.now in
@@ -55,8 +55,8 @@ returns-in-Stop g c =
     (still_so world course (spec.halted c.in-Stop.label clock) clock
     (clock_of c.stop.new.self) c.stop.result (c.requires world) c.stop.ensures)
 
-pub returns-in_default : goal.returns-in_default
-returns-in_default g c =
+pub returns-in_default-clause-timed : goal.returns-in_default-clause-timed
+returns-in_default-clause-timed g c =
     let world = c.args.stage.now in
     let course = course_of world c.args.trace.now in
     let clock = clock_of c.args.self.now in

@@ -8,12 +8,12 @@ use Rattle.fx_play_times.specs.Shown.{clock_of}
 use Rattle.fx_play_times.proofs.TimeLemmas.{tick_so}
 use Rattle.fx_play_times.proofs.clock.Clock.tick.Goals as goal
 
-pub returns-in-Ok-set_all : goal.returns-in-Ok-set_all
-returns-in-Ok-set_all g c =
+pub returns-in-Ok-set_all-clause-timed : goal.returns-in-Ok-set_all-clause-timed
+returns-in-Ok-set_all-clause-timed g c =
     let world = c.args.stage.now in
     let clock = clock_of c.args.self.now in
     let fresh = course_of world c.args.trace.now in
     let fits : SFits w64 c.from.result = search rules in
     tick_so c.args.time.now clock _ world (passed_as clock fresh) fresh (course_of c.set_all.new.stage c.set_all.new.trace)
     (unsigned_abs (to_z w64 (of_z w64 c.from.result))) c.in-Some.ms c.in-Ok.sets.items (sym c.time_of.ensures.time ∙ c.in-Some.is)
-    (ap unsigned_abs (to_z-of_z w64 c.from.result fits ∙ c.from.ensures)) refl c.in-Ok.ensures.ok c.in-Ok.ensures.sets c.in-Ok-set_all.ensures (c.requires world)
+    (ap unsigned_abs (to_z-of_z w64 c.from.result fits ∙ c.from.ensures)) refl c.in-Ok.ensures.ok c.in-Ok.ensures.sets c.in-Ok-set_all.ensures.done (c.requires world)

@@ -1,8 +1,9 @@
 use Rattle.std.proofs.Common.{refl, sym, ap, subst, ◌∙◌, ◌≡◌, true, Some}
 use Rattle.std.specs.Prelude.{IfSome}
+use Rattle.fx_layout.specs.Layouts.{IsLayout}
 use Rattle.fx_layout.specs.Updates.{root_size}
 use Rattle.fx_pulse_model.specs.Frames.{IsFrame, frame_damage, has_size}
-use Rattle.fx_pulse_model.specs.Scenes.{Scene}
+use Rattle.fx_pulse_model.specs.Scenes.{Scene, looks_of}
 use Rattle.fx_pulse.specs.Rendering.{Rendering, last_frame, surface_of}
 use Rattle.fx_pulse.proofs.CurrentLemmas.{now_current}
 use Rattle.fx_pulse.proofs.ShowLemmas.{damage_next, high, lies, shown_next, wide}
@@ -58,7 +59,9 @@ invariant_of-self g c =
           IsFrame scene c.args.window made.width made.height made.rects.items made.picture.entries))
           (sym c.self.view_is) c.requires.drawn)
           (subst (λ (v : Rendering). root_size v.kept.layout ≡ (made.width, made.height)) (sym c.self.view_is)
-          c.requires.root),
+          c.requires.root)
+          (subst (λ (v : Rendering). IfSome v.kept.last (λ (scene : Scene).
+          IsLayout scene.boxes (looks_of scene) c.args.window v.kept.layout)) (sym c.self.view_is) c.requires.placed),
     )
 
 pub returns-clause-frame : goal.returns-clause-frame

@@ -51,8 +51,8 @@ invariant_of-self-2 g c =
           c.self.invariant.numbered);
     }
 
-pub returns : goal.returns
-returns g c =
+pub returns-clause-taken : goal.returns-clause-taken
+returns-clause-taken g c =
     let s = c.self.inside in
     let now = c.apply-answer.new.self in
     let change = c.args.change in

@@ -16,8 +16,8 @@ change_store-requires-clause-fit g c =
     ap (λ (t : Tree). is_within t (length c.from_vec.result)) (c.new.ensures ∙ c.in-Ok-copy.ensures)
     ∙ ap (is_within (tree c.args.parsed.now.expr)) (ap length c.from_vec.ensures ∙ many) ∙ c.requires.places
 
-pub returns-in-Err : goal.returns-in-Err
-returns-in-Err g c =
+pub returns-in-Err-clause-taken : goal.returns-in-Err-clause-taken
+returns-in-Err-clause-taken g c =
     let found =
     c.in-Ok.ensures ∙ ap (λ (ps : List (List (List ℕ))). all (map (find c.args.self.now) ps)) c.as_slice.ensures in
     bind_refused c.args.self.now c.args.path.now (expression_view c.args.parsed.now) c.find_property.result c.in-Ok.operands

@@ -24,8 +24,8 @@ invariant_of-self g c =
           c.self.invariant.numbered;
     }
 
-pub returns : goal.returns
-returns g c =
+pub returns-clause-taken : goal.returns-clause-taken
+returns-clause-taken g c =
     let s = c.self.inside in
     let now = c.apply.new.self in
     let w : World = seen s.store s.graph s.free.entries s.labels.entries s.actions.entries s.run.items s.written.entries s.pointer s.button s.window in

@@ -10,8 +10,8 @@ use Rattle.fx_stage.proofs.DeclaringLemmas.{memory_first}
 use Rattle.fx_stage.proofs.DroppingLemmas.{subtree_failed}
 use Rattle.fx_stage.proofs.stage.Stage.drop_node.Goals as goal
 
-pub returns-in-Err-subtree : goal.returns-in-Err-subtree
-returns-in-Err-subtree g c =
+pub returns-in-Err-subtree-clause-taken : goal.returns-in-Err-subtree-clause-taken
+returns-in-Err-subtree-clause-taken g c =
     let world = c.args.self.now in
     let path = c.args.path.now in
     let answer =

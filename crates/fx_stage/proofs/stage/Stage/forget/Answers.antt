@@ -38,8 +38,8 @@ invariant_of-self g c =
           (given_settled _ s.store now (settled_by _ s.store now gone found.1.is_made)) c.self.invariant.numbered;
     }
 
-pub returns : goal.returns
-returns g c =
+pub returns-clause-taken : goal.returns-clause-taken
+returns-clause-taken g c =
     let s = c.self.inside in
     let now = c.apply-answer.new.self in
     let key = c.args.key in

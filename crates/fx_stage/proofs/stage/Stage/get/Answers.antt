@@ -12,8 +12,8 @@ use Rattle.fx_stage.proofs.FoundLemmas.{found_known}
 use Rattle.fx_stage.proofs.ReadingLemmas.{get_taken, listeners_kept}
 use Rattle.fx_stage.proofs.stage.Stage.get.Goals as goal
 
-pub returns : goal.returns
-returns g c =
+pub returns-clause-taken : goal.returns-clause-taken
+returns-clause-taken g c =
     let s = c.self.inside in
     let now = c.read.new.self in
     let path = c.args.path.now in

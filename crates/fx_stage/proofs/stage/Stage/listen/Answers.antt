@@ -6,8 +6,8 @@ use Rattle.fx_stage_model.specs.Taking.{IsTaken}
 use Rattle.fx_stage.proofs.ListenLemmas.{listen_is}
 use Rattle.fx_stage.proofs.stage.Stage.listen.Goals as goal
 
-pub returns : goal.returns
-returns g c =
+pub returns-clause-taken : goal.returns-clause-taken
+returns-clause-taken g c =
     let now = c.args.self.now in
     subst (λ (r : Result Taken Refusal). IsTaken r now c.add_listener.new.self c.add_listener.result)
     (sym
@@ -15,4 +15,4 @@ returns g c =
     c.kind_named.result c.tag_of.result c.in-Ok-copy_names.asked c.in-Ok-new_action.runs
     (sym c.find_both.ensures ∙ c.in-Ok.is) c.kind_named.ensures c.tag_of.ensures c.in-Ok-copy_names.ensures
     c.in-Ok-new_action.ensures))
-    c.add_listener.ensures
+    c.add_listener.ensures.taken

@@ -11,8 +11,8 @@ use Rattle.fx_stage.proofs.FoundLemmas.{found_known}
 use Rattle.fx_stage.proofs.ValueLemmas.{set_none, set_some}
 use Rattle.fx_stage.proofs.stage.Stage.set.Goals as goal
 
-pub returns-in-Ok-None : goal.returns-in-Ok-None
-returns-in-Ok-None g c =
+pub returns-in-Ok-None-clause-taken : goal.returns-in-Ok-None-clause-taken
+returns-in-Ok-None-clause-taken g c =
     let s = c.self.inside in
     let w : World = seen s.store s.graph s.free.entries s.labels.entries s.actions.entries s.run.items s.written.entries s.pointer s.button s.window in
     let path = c.args.path.now in
@@ -25,8 +25,8 @@ returns-in-Ok-None g c =
     set_none path c.args.text.now c.args.self.now name here free
     (sym c.in-Ok-None.field-0-is ∙ c.in-Ok-None.ensures ∙ ap (λ (k : Kind). value_at k c.args.text.now) (c.kind_of.ensures known))
 
-pub returns : goal.returns
-returns g c =
+pub returns-clause-taken : goal.returns-clause-taken
+returns-clause-taken g c =
     let s = c.self.inside in
     let w : World = seen s.store s.graph s.free.entries s.labels.entries s.actions.entries s.run.items s.written.entries s.pointer s.button s.window in
     let path = c.args.path.now in
@@ -38,4 +38,4 @@ returns g c =
     (found_known w c.self.invariant.sound name path (ap (λ (x : World). find x path) c.self.view_is ∙ here)) in
     set_some path c.args.text.now c.args.self.now name here free c.in-Ok-Some.value c.change_store.new.self c.change_store.result
     (sym c.in-Ok-Some.field-0-is ∙ c.in-Ok-Some.ensures ∙ ap (λ (k : Kind). value_at k c.args.text.now) (c.kind_of.ensures known))
-    c.change_store.ensures
+    c.change_store.ensures.taken

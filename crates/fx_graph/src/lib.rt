@@ -293,8 +293,8 @@ impl Graph {
         looking::read_each(alloc, &mut self.lists, names, work)
     }
 
-    /// Reads these properties one after another, without a copy of their values. Where memory is wanting, some names may
-    /// have been read.
+    /// Reads these properties one after another, without a copy of their values. Where memory is wanting, some names
+    /// may have been read.
     pub fn settle_all<L: Ledgers>(
         &mut self,
         alloc: Global,

@@ -16,7 +16,7 @@ use Rattle.fx_layout_sweeps.proofs.Asking.{lists_behind}
 use Rattle.fx_layout_sweeps.proofs.Respreads.{fitted_all, worked_then}
 use Rattle.fx_layout_sweeps.proofs.Turns.{map_same}
 use Rattle.fx_layout.specs.Keeping.{AreAdded}
-use Rattle.fx_layout.specs.Updates.{AreDifferent, Kept, from_corner, is_listed, lengths_in, old_place, old_places, rect_at, root_length, shifted, window_height, window_width}
+use Rattle.fx_layout.specs.Updates.{AreDifferent, AreTold, Kept, from_corner, is_listed, lengths_in, old_place, old_places, rect_at, root_length, shifted, window_height, window_width}
 use Rattle.fx_layout.proofs.Agree.{map_all, own_place}
 use Rattle.fx_layout.proofs.Sames.{measured_as, placed_alike}
 use Rattle.fx_layout.proofs.Updating.{AreLaid}
@@ -182,3 +182,15 @@ still_of old nodes looks window listed new first second third laid p within free
       λ i d few. sym (stay Down nodes looks new.children second new.widths new.heights old.down new.down laid.down p within
           low i d few),
     )
+
+-- marks by the same places tell which rectangles are other ones
+pub told_again : (old : Kept) (nodes : List BoxFacts) (new : Kept) (marks : List Bool) → old.keys ≡ keys nodes
+    → AreDifferent (keys nodes) → length old.rects ≡ length nodes → length marks ≡ length nodes
+    → ((p : ℕ) → p < length nodes → flag_in marks p ≡ false → rect_at new.rects p ≡ rect_at old.rects p)
+    → AreTold old nodes new marks
+told_again old nodes new marks named differ long each still =
+    record {
+      each = each;
+      there = λ p within free. omega (arith, within, long, stands old.keys nodes named differ p within);
+      still = λ p within free. still p within free ∙ ap (rect_at old.rects) (sym (stands old.keys nodes named differ p within));
+    }

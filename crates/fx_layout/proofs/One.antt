@@ -54,12 +54,12 @@ sizes_high rule.Stack node children w one other e f = e ∙ sym f
 sizes_high rule.Anchor node children w one other e f = e ∙ sym f
 sizes_high rule.Grid node children w one other e f = e ∙ sym f
 
-one_wide : (node : NodeBox) (children : List ChildSize) (one other : Extent) → IsWide node children one
+pub one_wide : (node : NodeBox) (children : List ChildSize) (one other : Extent) → IsWide node children one
     → IsWide node children other → one ≡ other
 one_wide node children one other e f =
     e.3 ∙ (sizes_wide node.rule node.facts children e.1 f.1 e.0 f.0 e.2 f.2 ∙ sym f.3)
 
-one_high : (node : NodeBox) (children : List ChildSize) (w : ℕ) (one other : Extent) → IsHigh node children w one
+pub one_high : (node : NodeBox) (children : List ChildSize) (w : ℕ) (one other : Extent) → IsHigh node children w one
     → IsHigh node children w other → one ≡ other
 one_high node children w one other e f =
     e.2 ∙ (ap down_half (sizes_high node.rule node.facts children w e.0 f.0 e.1 f.1) ∙ sym f.2)

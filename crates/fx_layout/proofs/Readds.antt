@@ -1,5 +1,5 @@
 -- Rectangles that are added up again, from the root.
-use Rattle.std.proofs.Common.{refl, sym, subst, ap, ◌∙◌, ◌≡◌, ◌≢◌, ◌⊎◌, ◌==◌, ◌&&◌, ◌||◌, ◌+ℤ◌, ℕ, ℤ, zero, suc, ◌+◌, ◌<◌, ◌≤◌, Bool, true, false, not, All, AllPairs, List, Option, None, length, slice_index_or, slice_set, inl, inr, arith}
+use Rattle.std.proofs.Common.{refl, sym, subst, ap, ◌∙◌, ◌≡◌, ◌≢◌, ◌⊎◌, ◌==◌, ◌&&◌, ◌||◌, ℕ, ℤ, zero, suc, ◌+◌, ◌<◌, ◌≤◌, Bool, true, false, not, All, AllPairs, List, Option, None, length, slice_index_or, slice_set, inl, inr, arith}
 use Rattle.std.proofs.lemmas.Bool.{cases_lt, eqb-true, eqb-false, true≢false}
 use Rattle.std.proofs.lemmas.List.{get_or_default, get_or-map, get_or-set_same, get_or-set_other, length-map, length-set}
 use Rattle.std.proofs.Math.Numerals.{lt_of_le_of_ne}
@@ -8,14 +8,14 @@ use Rattle.fx_kinds.specs.declared.facts.BoxFacts.{BoxFacts}
 use Rattle.fx_look.specs.declared.looks.Look.{Look}
 use Rattle.fx_panes_parts.specs.declared.axes.Extent.{Extent}
 use Rattle.fx_panes_parts.specs.declared.axes.Span.{Span}
-use Rattle.fx_panes_parts.specs.Lengths.{pixels}
 use Rattle.fx_layout_sweeps.specs.Marks.{AreUnmarked, flag_in}
+use Rattle.fx_layout_sweeps.specs.Sweeps.{old_at}
 use Rattle.fx_layout_sweeps.specs.Nodes.{AreNodes, children_lists, keys, no_node, node_at, parent_at, parents, places_at, span_at}
 use Rattle.fx_layout_sweeps.proofs.Asking.{child_in, lists_long}
 use Rattle.fx_layout_sweeps.proofs.Below.{IsChild}
 use Rattle.fx_layout_sweeps.proofs.Spreads.{AreKnown}
-use Rattle.fx_layout.specs.Keeping.{AreAdded, AreSwept, BeginAlike, IsWhole, kept_of}
-use Rattle.fx_layout.specs.Updates.{AreDifferent, AreRects, Kept, around, corner, reached, rect_at, shifted}
+use Rattle.fx_layout.specs.Keeping.{AreAdded, AreAlike, AreSwept, IsWhole, kept_of}
+use Rattle.fx_layout.specs.Updates.{AreDifferent, AreRects, Kept, around, corner, rect_at, shifted}
 use Rattle.fx_layout.proofs.One.{of_its_parent}
 
 or_parts : (a b : Bool) → (a || b) ≡ false → (a ≡ false) × (b ≡ false)
@@ -26,46 +26,39 @@ not_false : (b : Bool) → not b ≡ false → b ≡ true
 not_false true e = refl
 not_false false e = absurd (true≢false e)
 
--- in rectangles that begin at one place all stands alike
-shifted_alike : (one other : Rect) (across down : Span) → BeginAlike one other
-    → shifted one across down ≡ shifted other across down
-shifted_alike one other across down alike = ap (λ x. at x one.y) alike.0 ∙ ap (λ y. at other.x y) alike.1
+-- rectangles with the same four numbers are one
+pub alike_same : (one other : Rect) → AreAlike one other → one ≡ other
+alike_same one other alike =
+    ap (λ x. at x one.y one.w one.h) alike.0
+    ∙ (ap (λ y. at other.x y one.w one.h) alike.1
+    ∙ (ap (λ w. at other.x other.y w one.h) alike.2 ∙ ap (λ h. at other.x other.y other.w h) alike.3))
   where
-    at : ℤ → ℤ → Rect
-    at x y = record {
-      x = reached (x +ℤ across.start);
-      y = reached (y +ℤ down.start);
-      w = pixels across.length;
-      h = pixels down.length;
-    }
-
-same_begin : (one other : Rect) → one ≡ other → BeginAlike one other
-same_begin one other e = (ap (λ (r : Rect). r.x) e, ap (λ (r : Rect). r.y) e)
+    at : ℤ → ℤ → ℤ → ℤ → Rect
+    at x y w h = record { x = x; y = y; w = w; h = h }
 
 -- what is marked once a rectangle is put
 pub put_marks : (rects : List Rect) (flags after : List Bool) (place q : ℕ) (rect : Rect) (alike : Bool)
-    → (alike ≡ true → BeginAlike rect (rect_at rects place)) → place < length rects
+    → (alike ≡ true → AreAlike rect (rect_at rects place)) → place < length rects
     → flag_in after q ≡ (flag_in flags q || ((place == q) && not alike)) → flag_in after q ≡ false
-    → (flag_in flags q ≡ false) × BeginAlike (rect_at (slice_set rects place rect) q) (rect_at rects q)
-put_marks rects flags after place q rect alike begins within is free = by (place == q) refl
+    → (flag_in flags q ≡ false) × (rect_at (slice_set rects place rect) q ≡ rect_at rects q)
+put_marks rects flags after place q rect alike numbers within is free = by (place == q) refl
   where
     by : (b : Bool) → (place == q) ≡ b
-        → (flag_in flags q ≡ false) × BeginAlike (rect_at (slice_set rects place rect) q) (rect_at rects q)
+        → (flag_in flags q ≡ false) × (rect_at (slice_set rects place rect) q ≡ rect_at rects q)
     by true same =
         let both : (flag_in flags q || not alike) ≡ false =
         sym (is ∙ ap (λ b. flag_in flags q || (b && not alike)) same) ∙ free in
         let parts = or_parts (flag_in flags q) (not alike) both in (
           parts.0,
-          subst (λ m. BeginAlike (rect_at (slice_set rects place rect) m) (rect_at rects m)) (eqb-true place q same)
-              (subst (λ (r : Rect). BeginAlike r (rect_at rects place)) (sym (get_or-set_same rects place rect corner within))
-              (begins (not_false alike parts.1))),
+          subst (λ m. rect_at (slice_set rects place rect) m ≡ rect_at rects m) (eqb-true place q same)
+              (get_or-set_same rects place rect corner within
+              ∙ alike_same rect (rect_at rects place) (numbers (not_false alike parts.1))),
         )
     by false differ =
         let both : (flag_in flags q || false) ≡ false =
         sym (is ∙ ap (λ b. flag_in flags q || (b && not alike)) differ) ∙ free in (
           (or_parts (flag_in flags q) false both).0,
-          same_begin (rect_at (slice_set rects place rect) q) (rect_at rects q)
-              (get_or-set_other rects place q rect corner (λ same. eqb-false place q differ (sym same))),
+          get_or-set_other rects place q rect corner (λ same. eqb-false place q differ (sym same)),
         )
 
 -- the children that stand at the first places are put into a rectangle
@@ -78,7 +71,7 @@ pub record IsAddedTo (places : List ℕ) (outer : Rect) (across down : List Span
   pub others : (q : ℕ) → ((i d : ℕ) → i < k → i < length places → slice_index_or places i d ≢ q)
       → rect_at now q ≡ rect_at old q
   pub marks : (q : ℕ) → q < length before → flag_in flags q ≡ false
-      → (flag_in before q ≡ false) × BeginAlike (rect_at now q) (rect_at old q)
+      → (flag_in before q ≡ false) × (rect_at now q ≡ rect_at old q)
 
 pub added_start : (places : List ℕ) (outer : Rect) (across down : List Span) (before : List Bool) (old : List Rect)
     → IsAddedTo places outer across down before old before old 0
@@ -88,7 +81,7 @@ added_start places outer across down before old =
       each_flag = refl;
       added = λ i d early within. absurd (omega (arith, early));
       others = λ q apart. refl;
-      marks = λ q few free. (free, (refl, refl));
+      marks = λ q few free. (free, refl);
     }
 
 pub added_more : (places : List ℕ) (outer : Rect) (across down : List Span) (before : List Bool) (old : List Rect)
@@ -97,7 +90,7 @@ pub added_more : (places : List ℕ) (outer : Rect) (across down : List Span) (b
     → rect ≡ shifted outer (span_at across (slice_index_or places k d)) (span_at down (slice_index_or places k d))
     → length after ≡ length flags
     → ((q : ℕ) → q < length flags → flag_in after q ≡ false → (flag_in flags q ≡ false)
-    × BeginAlike (rect_at (slice_set now (slice_index_or places k d) rect) q) (rect_at now q))
+    × (rect_at (slice_set now (slice_index_or places k d) rect) q ≡ rect_at now q))
     → IsAddedTo places outer across down before old after (slice_set now (slice_index_or places k d) rect) (k + 1)
 added_more places outer across down before old flags after now k d rect inside apart within so_far is long marks =
     record {
@@ -109,7 +102,7 @@ added_more places outer across down before old flags after now k d rect inside a
           ∙ so_far.others q (λ i e early few. free i e (omega (arith, early)) few);
       marks = λ q few free.
           let one = marks q (omega (arith, few, so_far.each_flag)) free in
-          let other = so_far.marks q few one.0 in (other.0, (one.1.0 ∙ other.1.0, one.1.1 ∙ other.1.1));
+          let other = so_far.marks q few one.0 in (other.0, one.1 ∙ other.1);
     }
   where
     at : ℕ
@@ -130,14 +123,16 @@ added_more places outer across down before old flags after now k d rect inside a
         (λ same. apart i k e less within (same ∙ get_or_default places k d e within))
         ∙ so_far.added i e less few
 
--- the adding up has come to a place: all stands right in the nodes before it, and in those that aren't marked
-pub record IsReadded (nodes : List BoxFacts) (children : List (List ℕ)) (across down : List Span) (flags : List Bool)
-    (rects : List Rect) (p : ℕ) : Type 0 where
+-- the adding up has come to a place: all stands right in the nodes before it, and in those that aren't marked, which have
+-- their old rectangles
+pub record IsReadded (nodes : List BoxFacts) (children : List (List ℕ)) (across down : List Span) (old : List Rect)
+    (flags : List Bool) (rects : List Rect) (p : ℕ) : Type 0 where
   pub each : length rects ≡ length nodes
   pub each_flag : length flags ≡ length nodes
   pub root : rect_at rects 0 ≡ shifted corner (span_at across 0) (span_at down 0)
   pub added : (q : ℕ) → q < length nodes → (q < p) ⊎ (flag_in flags q ≡ false)
       → AreAdded children across down rects (rect_at rects q) q
+  pub still : (q : ℕ) → q < length nodes → flag_in flags q ≡ false → rect_at rects q ≡ rect_at old q
 
 pub readded_start : (nodes : List BoxFacts) (children : List (List ℕ)) (across down : List Span)
     (before flags : List Bool) (old : List Rect) (root : Rect) → AreKnown children (length nodes)
@@ -145,14 +140,15 @@ pub readded_start : (nodes : List BoxFacts) (children : List (List ℕ)) (across
     → root ≡ shifted corner (span_at across 0) (span_at down 0)
     → ((q : ℕ) → q < length nodes → flag_in before q ≡ false → AreAdded children across down old (rect_at old q) q)
     → ((q : ℕ) → q < length before → flag_in flags q ≡ false
-    → (flag_in before q ≡ false) × BeginAlike (rect_at (slice_set old 0 root) q) (rect_at old q))
-    → IsReadded nodes children across down flags (slice_set old 0 root) 0
+    → (flag_in before q ≡ false) × (rect_at (slice_set old 0 root) q ≡ rect_at old q))
+    → IsReadded nodes children across down old flags (slice_set old 0 root) 0
 readded_start nodes children across down before flags old root known each each_before each_flag some is kept marks =
     record {
       each = length-set old 0 root ∙ each;
       each_flag = each_flag ∙ each_before;
       root = get_or-set_same old 0 root corner (omega (arith, some, each)) ∙ is;
       added = λ q few which. added_at q few which;
+      still = λ q few free. (marks q (omega (arith, few, each_before)) free).1;
     }
   where
     added_at : (q : ℕ) → q < length nodes → (q < 0) ⊎ (flag_in flags q ≡ false)
@@ -164,17 +160,18 @@ readded_start nodes children across down before flags old root known each each_b
         let one = marks q (omega (arith, few, each_before)) free in
         get_or-set_other old 0 j root corner (λ same. omega (arith, known.behind q few i d inside, same))
         ∙ (kept q few one.0 i d inside
-        ∙ sym (shifted_alike (rect_at (slice_set old 0 root) q) (rect_at old q) (span_at across j) (span_at down j) one.1))
+        ∙ sym (ap (λ (r : Rect). shifted r (span_at across j) (span_at down j)) one.1))
 
-pub readded_idle : (nodes : List BoxFacts) (children : List (List ℕ)) (across down : List Span) (flags : List Bool)
-    (rects : List Rect) (p m : ℕ) → AreUnmarked flags p m → IsReadded nodes children across down flags rects p
-    → IsReadded nodes children across down flags rects m
-readded_idle nodes children across down flags rects p m idle readded =
+pub readded_idle : (nodes : List BoxFacts) (children : List (List ℕ)) (across down : List Span) (old : List Rect)
+    (flags : List Bool) (rects : List Rect) (p m : ℕ) → AreUnmarked flags p m
+    → IsReadded nodes children across down old flags rects p → IsReadded nodes children across down old flags rects m
+readded_idle nodes children across down old flags rects p m idle readded =
     record {
       each = readded.each;
       each_flag = readded.each_flag;
       root = readded.root;
       added = λ q few which. readded.added q few (sooner q which);
+      still = readded.still;
     }
   where
     sooner : (q : ℕ) → (q < m) ⊎ (flag_in flags q ≡ false) → (q < p) ⊎ (flag_in flags q ≡ false)
@@ -193,53 +190,55 @@ pub record IsPutInto (nodes : List BoxFacts) (children : List (List ℕ)) (acros
   pub added : All (λ j. rect_at after j ≡ shifted (rect_at rects p) (span_at across j) (span_at down j)) (places_at children p)
   pub others : (q : ℕ) → All (λ j. j ≢ q) (places_at children p) → rect_at after q ≡ rect_at rects q
   pub marks : (q : ℕ) → q < length flags → flag_in after_flags q ≡ false
-      → (flag_in flags q ≡ false) × BeginAlike (rect_at after q) (rect_at rects q)
+      → (flag_in flags q ≡ false) × (rect_at after q ≡ rect_at rects q)
 
-pub readded_more : (nodes : List BoxFacts) (children : List (List ℕ)) (across down : List Span)
+pub readded_more : (nodes : List BoxFacts) (children : List (List ℕ)) (across down : List Span) (old : List Rect)
     (flags after_flags : List Bool) (rects after : List Rect) (p : ℕ) → AreKnown children (length nodes)
-    → IsReadded nodes children across down flags rects p
+    → IsReadded nodes children across down old flags rects p
     → IsPutInto nodes children across down flags after_flags rects after p
-    → IsReadded nodes children across down after_flags after (p + 1)
-readded_more nodes children across down flags after_flags rects after p known readded turn =
+    → IsReadded nodes children across down old after_flags after (p + 1)
+readded_more nodes children across down old flags after_flags rects after p known readded turn =
     record {
       each = turn.each ∙ readded.each;
       each_flag = turn.each_flag ∙ readded.each_flag;
-      root = still 0 (omega arith) ∙ readded.root;
+      root = stays 0 (omega arith) ∙ readded.root;
       added = λ q few which. added_at q few which (p == q) refl;
+      still = λ q few free.
+          let one = turn.marks q (omega (arith, few, readded.each_flag)) free in one.1 ∙ readded.still q few one.0;
     }
   where
     -- what stands up to the place stays
-    still : (q : ℕ) → q ≤ p → rect_at after q ≡ rect_at rects q
-    still q before =
+    stays : (q : ℕ) → q ≤ p → rect_at after q ≡ rect_at rects q
+    stays q before =
         turn.others q (λ k d few same. omega (arith, known.behind p turn.within k d few, same, before))
 
-    -- a node before the place, or one that isn't marked, begins where it began
-    begins : (q : ℕ) → q < length nodes → p ≢ q → (q < p + 1) ⊎ (flag_in after_flags q ≡ false)
-        → ((q < p) ⊎ (flag_in flags q ≡ false)) × BeginAlike (rect_at after q) (rect_at rects q)
-    begins q few differ (inl early) =
+    -- a node before the place, or one that isn't marked, has the rectangle that it had
+    keeps : (q : ℕ) → q < length nodes → p ≢ q → (q < p + 1) ⊎ (flag_in after_flags q ≡ false)
+        → ((q < p) ⊎ (flag_in flags q ≡ false)) × (rect_at after q ≡ rect_at rects q)
+    keeps q few differ (inl early) =
         let less : q < p = lt_of_le_of_ne (omega (arith, early)) (λ same. differ (sym same)) in
-        (inl less, same_begin (rect_at after q) (rect_at rects q) (still q (omega (arith, less))))
-    begins q few differ (inr free) =
+        (inl less, stays q (omega (arith, less)))
+    keeps q few differ (inr free) =
         let one = turn.marks q (omega (arith, few, readded.each_flag)) free in (inr one.0, one.1)
 
     added_at : (q : ℕ) → q < length nodes → (q < p + 1) ⊎ (flag_in after_flags q ≡ false) → (b : Bool) → (p == q) ≡ b
         → AreAdded children across down after (rect_at after q) q
     added_at q few which true same =
         subst (λ k. AreAdded children across down after (rect_at after k) k) (eqb-true p q same)
-        (subst (λ (r : Rect). AreAdded children across down after r p) (sym (still p (omega arith))) turn.added)
+        (subst (λ (r : Rect). AreAdded children across down after r p) (sym (stays p (omega arith))) turn.added)
     added_at q few which false differ =
         λ i d inside.
         let j = slice_index_or (places_at children q) i d in
         let apart : p ≢ q = eqb-false p q differ in
-        let now = begins q few apart which in
+        let now = keeps q few apart which in
         turn.others j (λ k e there same. known.apart p q turn.within few apart k i e d there inside same)
         ∙ (readded.added q few now.0 i d inside
-        ∙ sym (shifted_alike (rect_at after q) (rect_at rects q) (span_at across j) (span_at down j) now.1))
+        ∙ sym (ap (λ (r : Rect). shifted r (span_at across j) (span_at down j)) now.1))
 
-pub readded_all : (nodes : List BoxFacts) (children : List (List ℕ)) (across down : List Span) (flags : List Bool)
-    (rects : List Rect) (p : ℕ) → AreNodes nodes → children ≡ children_lists (parents nodes) → length nodes ≤ p
-    → IsReadded nodes children across down flags rects p → AreRects nodes across down rects
-readded_all nodes children across down flags rects p are hung done readded =
+pub readded_all : (nodes : List BoxFacts) (children : List (List ℕ)) (across down : List Span) (old : List Rect)
+    (flags : List Bool) (rects : List Rect) (p : ℕ) → AreNodes nodes → children ≡ children_lists (parents nodes)
+    → length nodes ≤ p → IsReadded nodes children across down old flags rects p → AreRects nodes across down rects
+readded_all nodes children across down old flags rects p are hung done readded =
     record {
       each = readded.each;
       placed = λ q within. placed_at q within;
@@ -296,3 +295,29 @@ whole_of old nodes looks window listed widths heights across down marks rects ar
   where
     long : length nodes ≡ length (children_lists (parents nodes))
     long = sym (lists_long nodes (children_lists (parents nodes)) refl)
+
+-- one more node is marked where its rectangle is another than before
+pub changed_more : (olds : List ℕ) (before rects : List Rect) (marks : List Bool) (k d : ℕ) (same : Bool)
+    → k < length olds → length marks ≡ length olds → (same ≡ true → slice_index_or olds k d < length before)
+    → (same ≡ true → AreAlike (rect_at rects k) (rect_at before (slice_index_or olds k d)))
+    → ((p : ℕ) → p < k → flag_in marks p ≡ false
+    → (old_at olds p < length before) × (rect_at rects p ≡ rect_at before (old_at olds p)))
+    → (p : ℕ) → p < k + 1 → flag_in (slice_set marks k (not same)) p ≡ false
+    → (old_at olds p < length before) × (rect_at rects p ≡ rect_at before (old_at olds p))
+changed_more olds before rects marks k d same within each there alike so_far p early free = by (p == k) refl
+  where
+    by : (b : Bool) → (p == k) ≡ b
+        → (old_at olds p < length before) × (rect_at rects p ≡ rect_at before (old_at olds p))
+    by true here =
+        let at : p ≡ k = eqb-true p k here in
+        let unmarked : not same ≡ false =
+        sym (get_or-set_same marks k (not same) false (omega (arith, within, each)))
+        ∙ (ap (flag_in (slice_set marks k (not same))) (sym at) ∙ free) in
+        let is = not_false same unmarked in
+        let stood : slice_index_or olds k d ≡ old_at olds k = get_or_default olds k d 0 within in
+        subst (λ q. (old_at olds q < length before) × (rect_at rects q ≡ rect_at before (old_at olds q))) (sym at)
+        (subst (λ o. (o < length before) × (rect_at rects k ≡ rect_at before o)) stood
+        (there is, alike_same (rect_at rects k) (rect_at before (slice_index_or olds k d)) (alike is)))
+    by false other =
+        so_far p (lt_of_le_of_ne (omega (arith, early)) (eqb-false p k other))
+        (sym (get_or-set_other marks k p (not same) false (eqb-false p k other)) ∙ free)

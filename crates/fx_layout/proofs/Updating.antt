@@ -1,14 +1,15 @@
 -- Lengths and places along both axes make an update, and what it costs.
-use Rattle.std.proofs.Common.{refl, sym, subst, ap, ◌∙◌, ◌≡◌, ℕ, ◌+◌, ◌<◌, ◌≤◌, Bool, true, false, ◌||◌, not, nat_eq, List, [], Option, length, arith}
+use Rattle.std.proofs.Common.{refl, sym, subst, ap, ◌∙◌, ◌≡◌, ℕ, ◌+◌, ◌*◌, ◌<◌, ◌≤◌, Bool, true, false, ◌||◌, not, nat_eq, List, [], Option, length, arith}
 use Rattle.std.proofs.lemmas.Bool.{true≢false}
+use Rattle.std.proofs.lemmas.List.{length-map}
 use Rattle.fx_kinds.specs.declared.facts.BoxFacts.{BoxFacts}
 use Rattle.fx_look.specs.declared.looks.Look.{Look}
 use Rattle.fx_panes_parts.specs.declared.axes.Axis.TheVariants.{Across, Down}
 use Rattle.fx_layout_sweeps.specs.Nodes.{children_lists, extent_at, keys, parents, span_at}
 use Rattle.fx_layout_sweeps.specs.Marks.{flag_in}
-use Rattle.fx_layout_sweeps.specs.Sweeps.{AreMeasured, ArePlaced, is_worked, kept_in, last_in, tally}
+use Rattle.fx_layout_sweeps.specs.Sweeps.{AreMeasured, ArePlaced, is_worked, kept_in, last_in, old_at, tally}
 use Rattle.fx_layout_sweeps.proofs.Tallies.{tally_same}
-use Rattle.fx_layout.specs.Updates.{AreRects, IsUpdate, Kept, from_corner, is_listed, is_resized, is_wide_anew, laid_bound, lengths_in, old_places, resized, root_length, window_height, window_width}
+use Rattle.fx_layout.specs.Updates.{AreRects, AreTold, IsUpdate, Kept, from_corner, is_listed, is_resized, is_wide_anew, laid_bound, laid_count, lengths_in, old_place, old_places, rect_at, resized, root_length, window_height, window_width}
 use Rattle.fx_layout.proofs.Counts.{few_listed, tally_or}
 use Rattle.fx_layout.proofs.Sames.{measured_as, placed_as}
 
@@ -77,38 +78,77 @@ or_left true b c e = refl
 or_left false true c e = refl
 or_left false false c e = absurd (true≢false (sym e))
 
-or_three : (a b c : Bool) → ((a || b) || c) ≡ true → (a || (b || c)) ≡ true
-or_three true b c e = refl
-or_three false b c e = e
+or_three : (a b c : Bool) → ((a || b) || c) ≡ (a || (b || c))
+or_three true b c = refl
+or_three false b c = refl
 
--- each of the listed and of the resized nodes is worked on by few of the sweeps
-pub cost_is : (old : Kept) (olds : List ℕ) (nodes : List BoxFacts) (looks : List Look) (window : Option (ℕ × ℕ))
+-- how many calls of panes the sweeps make
+pub count_is : (old : Kept) (olds : List ℕ) (nodes : List BoxFacts) (looks : List Look) (window : Option (ℕ × ℕ))
     (listed : List ℕ) (new : Kept) (first second third : List Bool) → olds ≡ old_places old.keys nodes
     → AreLaid old olds nodes looks window listed new first second third
-    → (tally (flag_in first) (length nodes) + tally (flag_in second) (length nodes))
-    + (tally (flag_in second) (length nodes) + tally (flag_in third) (length nodes))
-    ≤ laid_bound (length listed) (resized old nodes new)
-cost_is old olds nodes looks window listed new first second third found are =
+    → tally (flag_in first) (length nodes) + 2 * tally (flag_in second) (length nodes)
+    + tally (flag_in third) (length nodes)
+    ≡ laid_count old nodes listed new
+count_is old olds nodes looks window listed new first second third found are =
     subst (λ o. AreLaid old o nodes looks window listed new first second third
-    → (tally (flag_in first) (length nodes) + tally (flag_in second) (length nodes))
-    + (tally (flag_in second) (length nodes) + tally (flag_in third) (length nodes))
-    ≤ laid_bound (length listed) (resized old nodes new)) (sym found) bounded are
+    → tally (flag_in first) (length nodes) + 2 * tally (flag_in second) (length nodes)
+    + tally (flag_in third) (length nodes)
+    ≡ laid_count old nodes listed new) (sym found) counted are
   where
-    bounded : AreLaid old (old_places old.keys nodes) nodes looks window listed new first second third
-        → (tally (flag_in first) (length nodes) + tally (flag_in second) (length nodes))
-        + (tally (flag_in second) (length nodes) + tally (flag_in third) (length nodes))
-        ≤ laid_bound (length listed) (resized old nodes new)
-    bounded laid =
+    counted : AreLaid old (old_places old.keys nodes) nodes looks window listed new first second third
+        → tally (flag_in first) (length nodes) + 2 * tally (flag_in second) (length nodes)
+        + tally (flag_in third) (length nodes)
+        ≡ laid_count old nodes listed new
+    counted laid =
         let n = length nodes in
         let where_old = old_places old.keys nodes in
         let wide = λ (p : ℕ). not (nat_eq (span_at new.across p).length (last_in where_old old.across p).length) in
         let high = λ (p : ℕ). not (nat_eq (span_at new.down p).length (last_in where_old old.down p).length) in
-        let chosen = tally_same (flag_in first) (is_listed listed) n laid.marked in
-        let few = few_listed listed n in
         let busy = wide_anew old where_old nodes looks window listed new first second third laid in
-        let wider = tally_or (flag_in second) (is_listed listed) (is_resized old nodes new) n
-        (λ p within e. or_left (is_listed listed p) (wide p) (high p) (sym (busy p within) ∙ e)) in
-        let higher = tally_or (flag_in third) (is_listed listed) (is_resized old nodes new) n
-        (λ p within e. or_three (is_listed listed p) (wide p) (high p)
-        (sym (laid.done p within ∙ ap (λ b. b || high p) (busy p within)) ∙ e)) in
-        omega (arith, chosen, few, wider, higher)
+        let one = tally_same (flag_in first) (is_listed listed) n laid.marked in
+        let two = tally_same (flag_in second) (is_wide_anew listed where_old old.across new.across) n busy in
+        let three = tally_same (flag_in third) (λ p. is_listed listed p || is_resized old nodes new p) n
+        (λ p within. laid.done p within
+        ∙ (ap (λ b. b || high p) (busy p within) ∙ or_three (is_listed listed p) (wide p) (high p))) in
+        omega (arith, one, two, three)
+
+-- each of the listed and of the resized nodes is worked on by few of the sweeps
+pub count_most : (old : Kept) (nodes : List BoxFacts) (listed : List ℕ) (new : Kept)
+    → laid_count old nodes listed new ≤ laid_bound (length listed) (resized old nodes new)
+count_most old nodes listed new =
+    let n = length nodes in
+    let where_old = old_places old.keys nodes in
+    let wide = λ (p : ℕ). not (nat_eq (span_at new.across p).length (last_in where_old old.across p).length) in
+    let high = λ (p : ℕ). not (nat_eq (span_at new.down p).length (last_in where_old old.down p).length) in
+    let few = few_listed listed n in
+    let wider = tally_or (is_wide_anew listed where_old old.across new.across) (is_listed listed)
+    (is_resized old nodes new) n (λ p within e. or_left (is_listed listed p) (wide p) (high p) e) in
+    let higher = tally_or (λ p. is_listed listed p || is_resized old nodes new p) (is_listed listed)
+    (is_resized old nodes new) n (λ p within e. e) in
+    omega (arith, few, wider, higher)
+
+-- marks by the place where each node stood tell which rectangles are other ones
+pub told_moved : (old : Kept) (olds : List ℕ) (nodes : List BoxFacts) (new : Kept) (marks : List Bool)
+    → olds ≡ old_places old.keys nodes → length marks ≡ length olds
+    → ((p : ℕ) → p < length olds → flag_in marks p ≡ false
+    → (old_at olds p < length old.rects) × (rect_at new.rects p ≡ rect_at old.rects (old_at olds p)))
+    → AreTold old nodes new marks
+told_moved old olds nodes new marks found each still =
+    subst (λ (o : List ℕ). length marks ≡ length o
+    → ((p : ℕ) → p < length o → flag_in marks p ≡ false
+    → (old_at o p < length old.rects) × (rect_at new.rects p ≡ rect_at old.rects (old_at o p)))
+    → AreTold old nodes new marks) (sym found) told each still
+  where
+    told : length marks ≡ length (old_places old.keys nodes)
+        → ((p : ℕ) → p < length (old_places old.keys nodes) → flag_in marks p ≡ false
+        → (old_at (old_places old.keys nodes) p < length old.rects)
+        × (rect_at new.rects p ≡ rect_at old.rects (old_at (old_places old.keys nodes) p)))
+        → AreTold old nodes new marks
+    told many same =
+        let long : length (old_places old.keys nodes) ≡ length nodes =
+        length-map nodes (λ (node : BoxFacts). old_place old.keys node.key) in
+        record {
+          each = many ∙ long;
+          there = λ p within free. (same p (omega (arith, within, long)) free).0;
+          still = λ p within free. (same p (omega (arith, within, long)) free).1;
+        }

@@ -39,9 +39,9 @@ kept_of nodes widths heights across down rects = record {
   rects = rects;
 }
 
--- two rectangles begin at one place
-abbrev pub BeginAlike : Rect → Rect → Type 0
-BeginAlike one other = (one.x ≡ other.x) × (one.y ≡ other.y)
+-- two rectangles have the same four numbers
+abbrev pub AreAlike : Rect → Rect → Type 0
+AreAlike one other = (one.x ≡ other.x) × (one.y ≡ other.y) × (one.w ≡ other.w) × (one.h ≡ other.h)
 
 -- What the sweeps of an update made of the nodes of the last one: it is an update with any rectangles that are added up
 -- of it, of each node that isn't marked the lengths and the places of the children are those that were kept, and its

@@ -1,6 +1,6 @@
 -- What an update of the layout of a scene makes of what is kept.
 -- Cited by `Layouts` and by what paints a scene.
-use Rattle.std.specs.Prelude.{◌≡◌, ◌≢◌, ℕ, ℤ, pos, negsuc, ◌+◌, ◌*◌, ◌<◌, ◌+ℤ◌, Bool, ◌&&◌, ◌||◌, not, ◌==◌, nat_eq, List, [], AllPairs, length, map, max, min, slice_index_or, Option, Some, None}
+use Rattle.std.specs.Prelude.{◌≡◌, ◌≢◌, ℕ, ℤ, pos, negsuc, ◌+◌, ◌*◌, ◌<◌, ◌+ℤ◌, Bool, false, ◌&&◌, ◌||◌, not, ◌==◌, nat_eq, List, [], AllPairs, length, map, max, min, slice_index_or, Option, Some, None}
 use Rattle.std.specs.List.{list_any, position_or_len}
 use Rattle.std.specs.Option.{option_map}
 use Rattle.fx_base.specs.declared.geometry.Rect.{Rect}
@@ -12,6 +12,7 @@ use Rattle.fx_panes_parts.specs.declared.axes.Axis.TheVariants.{Across, Down}
 use Rattle.fx_panes_parts.specs.declared.axes.Extent.{Extent}
 use Rattle.fx_panes_parts.specs.declared.axes.Span.{Span}
 use Rattle.fx_panes_parts.specs.Lengths.{pixels}
+use Rattle.fx_layout_sweeps.specs.Marks.{flag_in}
 use Rattle.fx_layout_sweeps.specs.Nodes.{children_lists, extent_at, keys, node_at, parents, span_at}
 use Rattle.fx_layout_sweeps.specs.Sweeps.{AreMeasured, ArePlaced, is_worked, kept_in, last_in, old_at, tally}
 
@@ -149,3 +150,19 @@ resized old nodes new = tally (is_resized old nodes new) (length nodes)
 -- how many calls of panes an update may need, of so many listed and so many resized nodes
 abbrev pub laid_bound : ℕ → ℕ → ℕ
 laid_bound listed resized = 4 * listed + 3 * resized
+
+-- How many calls of panes an update makes, one for each node that a sweep works on: the first sweep works on the listed
+-- nodes, the next two also on those whose width is another than the last, and the last one on the listed and resized.
+abbrev pub laid_count : Kept → List BoxFacts → List ℕ → Kept → ℕ
+laid_count old nodes listed new =
+    tally (is_listed listed) (length nodes)
+    + 2 * tally (is_wide_anew listed (old_places old.keys nodes) old.across new.across) (length nodes)
+    + tally (λ p. is_listed listed p || is_resized old nodes new p) (length nodes)
+
+-- Nodes are marked so that each one without a mark had its rectangle before the update too.
+pub record AreTold (old : Kept) (nodes : List BoxFacts) (new : Kept) (marks : List Bool) : Type 0 where
+  pub each : length marks ≡ length nodes
+  pub there : (p : ℕ) → p < length nodes → flag_in marks p ≡ false
+      → old_at (old_places old.keys nodes) p < length old.rects
+  pub still : (p : ℕ) → p < length nodes → flag_in marks p ≡ false
+      → rect_at new.rects p ≡ rect_at old.rects (old_at (old_places old.keys nodes) p)

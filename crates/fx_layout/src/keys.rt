@@ -1,7 +1,8 @@
 //! Where the nodes of an update stood in the one before it, and which of them are listed.
 ghost use Rattle.std.specs.Prelude.{ℕ, ◌≡◌, ◌<◌, ◌≤◌, ◌==◌, ◌||◌, true, IfOk, length, slice_index_or};
-ghost use Rattle.fx_layout_sweeps.specs.Nodes.{keys};
+ghost use Rattle.fx_layout_sweeps.specs.Nodes.{AreNodes, keys};
 ghost use Rattle.fx_layout_sweeps.specs.Marks.{flag_in};
+ghost use Rattle.fx_layout_sweeps.specs.Sweeps.{tally};
 ghost use Rattle.fx_layout.specs.Updates.{AreDifferent, is_key, is_listed, old_place, old_places};
 
 use fx_base::NodeKey;
@@ -85,4 +86,20 @@ pub(crate) fn marks_of(alloc: Global, listed: &[usize], count: usize) -> Result<
         marks.mark_if(*place, true);
     }
     Ok(marks)
+}
+
+/// How many nodes are marked.
+pub(crate) fn count_marked(marks: &Marks, nodes: &[BoxFacts]) -> usize
+    requires nodes { AreNodes nodes.now }
+    requires marks { length marks.now ≡ length nodes.now }
+    ensures count { result ≡ tally (flag_in marks.now) (length nodes.now) }
+    ensures few { result ≤ 4096 }
+{
+    let mut count = 0;
+    let mut from = 0;
+    while let Some(place) = marks.first_from(from) {
+        count += 1;
+        from = place + 1;
+    }
+    count
 }

@@ -1,14 +1,14 @@
 //! The layout of a scene, kept from one update to the next.
-ghost use Rattle.std.specs.Prelude.{ℕ, ◌≡◌, ◌≤◌, ◌<◌, ◌+◌, [], IfOk, OnErr, OnOk, length};
+ghost use Rattle.std.specs.Prelude.{ℕ, ◌≡◌, ◌≤◌, ◌<◌, ◌+◌, ◌*◌, [], IfOk, OnErr, OnOk, length};
 ghost use Rattle.fx_layout_sweeps.specs.Nodes.{AreNodes, children_lists, extent_at, keys, parents};
 ghost use Rattle.fx_panes_parts.specs.declared.axes.Axis.TheVariants.{Across, Down};
 ghost use Rattle.fx_layout.specs.Keeping.{AreSwept, IsWhole, kept_of};
-ghost use Rattle.fx_layout.specs.Updates.{AreDifferent, IsUpdate, laid_bound, resized, root_length, root_size, window_height, window_width};
+ghost use Rattle.fx_layout.specs.Updates.{AreDifferent, AreTold, IsUpdate, laid_bound, laid_count, resized, root_length, root_size, window_height, window_width};
 
 use crate::along::{Along, Moved, Scene, Sweep, lay_again, lay_moved};
-use crate::keys::{keys_of, marks_of, old_places};
+use crate::keys::{count_marked, keys_of, marks_of, old_places};
 use crate::lengths::{root_length, window_height, window_width};
-use crate::rects::{Halves, add_again, rects_of};
+use crate::rects::{Halves, add_again, changed_of, rects_of};
 use crate::spare::{Spare, catch_up, copied_spare};
 use crate::trees::{Tree, fresh_tree, tree_in};
 use fx_base::{Ledgers, NodeKey, Rect, Work};
@@ -66,12 +66,23 @@ impl Model for Layouts {
         × (s.down.spans.items ≡ l.down.spans.items)) };
 }
 
-/// What the sweeps of an update make, and marks of the nodes whose children they placed anew.
+/// What an update tells: the size of the root, marks of the nodes whose rectangle may be another than before, and how
+/// many calls of panes it took.
+#[derive(Drop)]
+pub struct Updated {
+    pub size: (u32, u32),
+    pub changed: Marks,
+    pub laid: usize,
+}
+
+/// What the sweeps of an update make, marks of the nodes whose children they placed anew, and how many calls of panes
+/// they took.
 #[derive(Drop)]
 struct Swept {
     across: Along,
     down: Along,
     marks: Marks,
+    laid: usize,
 }
 
 /// What an update makes anew, beside the keys and the tree.
@@ -80,6 +91,14 @@ struct Laid {
     across: Along,
     down: Along,
     rects: Vec<Rect>,
+}
+
+/// What an update makes anew and what it tells, beside the size of the root.
+#[derive(Drop)]
+struct Told {
+    made: Laid,
+    changed: Marks,
+    laid: usize,
 }
 
 /// What an update is given.
@@ -150,6 +169,35 @@ impl Layouts {
         ensures others { OnOk result (work.new ≡ record work.old { laid = work.new.laid }) }
         ensures cost { OnOk result (work.new.laid
             ≤ work.old.laid + laid_bound (length remeasure.now) (resized self.old nodes.now self.new)) }
+        ensures count { OnOk result (work.new.laid
+            ≡ work.old.laid + laid_count self.old nodes.now remeasure.now self.new) }
+    {
+        let told = self.update_telling(alloc, nodes, looks, window, remeasure, work)?;
+        Ok(told.size)
+    }
+
+    /// Does what `update` does, and tells also which rectangles may be other ones than before, and how many calls of
+    /// panes it took. A node is known by its key; one that wasn't there before is marked.
+    pub fn update_telling<L: Ledgers>(
+        &mut self,
+        alloc: Global,
+        nodes: &[BoxFacts],
+        looks: &[Look],
+        window: Option<(u32, u32)>,
+        remeasure: &[usize],
+        work: &mut Work<L>,
+    ) -> Result<Updated, AllocError>
+        requires some { 0 < length nodes.now }
+        requires nodes { AreNodes nodes.now }
+        requires keys { AreDifferent (keys nodes.now) }
+        requires looks { length looks.now ≡ length nodes.now }
+        ensures update { OnOk result (IsUpdate self.old nodes.now looks.now window remeasure.now self.new) }
+        ensures size { IfOk result (λ told. told.size ≡ root_size self.new) }
+        ensures changed { IfOk result (λ told. AreTold self.old nodes.now self.new told.changed) }
+        ensures laid { IfOk result (λ told. told.laid ≡ laid_count self.old nodes.now remeasure.now self.new) }
+        ensures err { OnErr result (self.new ≡ self.old) }
+        ensures others { OnOk result (work.new ≡ record work.old { laid = work.new.laid }) }
+        ensures cost { IfOk result (λ told. work.new.laid ≡ work.old.laid + told.laid) }
     {
         let input = Input {
             nodes,
@@ -170,7 +218,7 @@ impl Layouts {
         alloc: Global,
         input: Input<'_>,
         work: &mut Work<L>,
-    ) -> Result<(u32, u32), AllocError>
+    ) -> Result<Updated, AllocError>
         requires some { 0 < length input.nodes.now }
         requires nodes { AreNodes input.nodes.now }
         requires keys { AreDifferent (keys input.nodes.now) }
@@ -179,11 +227,13 @@ impl Layouts {
         requires same_children { self.old.children ≡ children_lists (parents input.nodes.now) }
         ensures update { OnOk result (IsUpdate self.old input.entry.nodes.now input.entry.looks.now input.entry.window
             input.entry.remeasure.now self.new) }
-        ensures size { IfOk result (λ size. size ≡ root_size self.new) }
+        ensures size { IfOk result (λ told. told.size ≡ root_size self.new) }
+        ensures changed { IfOk result (λ told. AreTold self.old input.entry.nodes.now self.new told.changed) }
+        ensures laid { IfOk result (λ told. told.laid
+            ≡ laid_count self.old input.entry.nodes.now input.entry.remeasure.now self.new) }
         ensures err { OnErr result (self.new ≡ self.old) }
         ensures others { OnOk result (work.new ≡ record work.old { laid = work.new.laid }) }
-        ensures cost { OnOk result (work.new.laid ≤ work.old.laid
-            + laid_bound (length input.entry.remeasure.now) (resized self.old input.entry.nodes.now self.new)) }
+        ensures cost { IfOk result (λ told. work.new.laid ≡ work.old.laid + told.laid) }
     {
         let spare = self.take_spare(alloc)?;
         let swept = self.swept_again(alloc, input, spare, work)?;
@@ -192,6 +242,7 @@ impl Layouts {
             across,
             down,
             mut marks,
+            laid,
         } = swept;
         let scene = Scene {
             nodes: input.nodes,
@@ -206,7 +257,11 @@ impl Layouts {
         catch_up(scene, &marks, &down, &mut self.down);
         add_again(scene, halves, &mut marks, &mut self.rects);
         self.spare = Some(Spare { across, down });
-        Ok(size)
+        Ok(Updated {
+            size,
+            changed: marks,
+            laid,
+        })
     }
 
     /// An update over other nodes, or in another order.
@@ -215,26 +270,37 @@ impl Layouts {
         alloc: Global,
         input: Input<'_>,
         work: &mut Work<L>,
-    ) -> Result<(u32, u32), AllocError>
+    ) -> Result<Updated, AllocError>
         requires some { 0 < length input.nodes.now }
         requires nodes { AreNodes input.nodes.now }
         requires keys { AreDifferent (keys input.nodes.now) }
         requires looks { length input.looks.now ≡ length input.nodes.now }
         ensures update { OnOk result (IsUpdate self.old input.entry.nodes.now input.entry.looks.now input.entry.window
             input.entry.remeasure.now self.new) }
-        ensures size { IfOk result (λ size. size ≡ root_size self.new) }
+        ensures size { IfOk result (λ told. told.size ≡ root_size self.new) }
+        ensures changed { IfOk result (λ told. AreTold self.old input.entry.nodes.now self.new told.changed) }
+        ensures laid { IfOk result (λ told. told.laid
+            ≡ laid_count self.old input.entry.nodes.now input.entry.remeasure.now self.new) }
         ensures err { OnErr result (self.new ≡ self.old) }
         ensures others { OnOk result (work.new ≡ record work.old { laid = work.new.laid }) }
-        ensures cost { OnOk result (work.new.laid ≤ work.old.laid
-            + laid_bound (length input.entry.remeasure.now) (resized self.old input.entry.nodes.now self.new)) }
+        ensures cost { IfOk result (λ told. work.new.laid ≡ work.old.laid + told.laid) }
     {
         let fresh = fresh_tree(alloc, &self.tree, input.nodes)?;
         let keys = keys_of(alloc, input.nodes)?;
-        let laid = self.laid_moved(alloc, input, tree_in(&fresh, &self.tree), work)?;
-        let size = size_of(input.window, &laid.across, &laid.down);
+        let told = self.laid_moved(alloc, input, tree_in(&fresh, &self.tree), work)?;
+        let Told {
+            made,
+            changed,
+            laid,
+        } = told;
+        let size = size_of(input.window, &made.across, &made.down);
         let Layouts { tree, .. } = mem::replace(self, Layouts::new(alloc));
-        *self = laid.over(keys, fresh.unwrap_or(tree));
-        Ok(size)
+        *self = made.over(keys, fresh.unwrap_or(tree));
+        Ok(Updated {
+            size,
+            changed,
+            laid,
+        })
     }
 
     /// What the sweeps across start from.
@@ -311,10 +377,10 @@ impl Layouts {
             input.entry.window input.entry.remeasure.now made.across.lengths.items made.down.lengths.items
             made.across.spans.items made.down.spans.items made.marks) }
         ensures others { OnOk result (work.new ≡ record work.old { laid = work.new.laid }) }
-        ensures cost { IfOk result (λ made. work.new.laid ≤ work.old.laid
-            + laid_bound (length input.entry.remeasure.now) (resized self.now input.entry.nodes.now
-            (kept_of input.entry.nodes.now made.across.lengths.items made.down.lengths.items
-            made.across.spans.items made.down.spans.items []))) }
+        ensures laid { IfOk result (λ made. made.laid ≡ laid_count self.now input.entry.nodes.now
+            input.entry.remeasure.now (kept_of input.entry.nodes.now made.across.lengths.items
+            made.down.lengths.items made.across.spans.items made.down.spans.items [])) }
+        ensures cost { IfOk result (λ made. work.new.laid ≡ work.old.laid + made.laid) }
     {
         let scene = Scene {
             nodes: input.nodes,
@@ -322,14 +388,18 @@ impl Layouts {
             children: self.tree.children(),
         };
         let mut marks = marks_of(alloc, input.remeasure, input.nodes.len())?;
+        let first = count_marked(&marks, input.nodes);
         let wide = self.sweep_across(input.window);
         let across = lay_again(alloc, scene, wide, spare.across, &mut marks, work)?;
+        let second = count_marked(&marks, input.nodes);
         let high = self.sweep_down(input.window, &across);
         let down = lay_again(alloc, scene, high, spare.down, &mut marks, work)?;
+        let third = count_marked(&marks, input.nodes);
         Ok(Swept {
             across,
             down,
             marks,
+            laid: calls(first, second, third),
         })
     }
 
@@ -340,22 +410,28 @@ impl Layouts {
         input: Input<'_>,
         tree: &Tree,
         work: &mut Work<L>,
-    ) -> Result<Laid, AllocError>
+    ) -> Result<Told, AllocError>
         requires some { 0 < length input.nodes.now }
         requires nodes { AreNodes input.nodes.now }
         requires keys { AreDifferent (keys input.nodes.now) }
         requires looks { length input.looks.now ≡ length input.nodes.now }
         requires tree { tree.now ≡ parents input.nodes.now }
-        ensures update { IfOk result (λ made. IsUpdate self.now input.entry.nodes.now input.entry.looks.now
-            input.entry.window input.entry.remeasure.now (kept_of input.entry.nodes.now made.across.lengths.items
-            made.down.lengths.items made.across.spans.items made.down.spans.items made.rects.items)) }
-        ensures whole { IfOk result (λ made. IsWhole (kept_of input.entry.nodes.now made.across.lengths.items
-            made.down.lengths.items made.across.spans.items made.down.spans.items made.rects.items)) }
+        ensures update { IfOk result (λ told. IsUpdate self.now input.entry.nodes.now input.entry.looks.now
+            input.entry.window input.entry.remeasure.now (kept_of input.entry.nodes.now
+            told.made.across.lengths.items told.made.down.lengths.items told.made.across.spans.items
+            told.made.down.spans.items told.made.rects.items)) }
+        ensures whole { IfOk result (λ told. IsWhole (kept_of input.entry.nodes.now
+            told.made.across.lengths.items told.made.down.lengths.items told.made.across.spans.items
+            told.made.down.spans.items told.made.rects.items)) }
+        ensures changed { IfOk result (λ told. AreTold self.now input.entry.nodes.now (kept_of
+            input.entry.nodes.now told.made.across.lengths.items told.made.down.lengths.items
+            told.made.across.spans.items told.made.down.spans.items told.made.rects.items) told.changed) }
+        ensures laid { IfOk result (λ told. told.laid ≡ laid_count self.now input.entry.nodes.now
+            input.entry.remeasure.now (kept_of input.entry.nodes.now told.made.across.lengths.items
+            told.made.down.lengths.items told.made.across.spans.items told.made.down.spans.items
+            told.made.rects.items)) }
         ensures others { OnOk result (work.new ≡ record work.old { laid = work.new.laid }) }
-        ensures cost { IfOk result (λ made. work.new.laid ≤ work.old.laid
-            + laid_bound (length input.entry.remeasure.now) (resized self.now input.entry.nodes.now
-            (kept_of input.entry.nodes.now made.across.lengths.items made.down.lengths.items
-            made.across.spans.items made.down.spans.items made.rects.items))) }
+        ensures cost { IfOk result (λ told. work.new.laid ≡ work.old.laid + told.laid) }
     {
         let nodes = input.nodes;
         let olds = old_places(alloc, self.keys.as_slice(), nodes)?;
@@ -369,15 +445,29 @@ impl Layouts {
             old_children: self.tree.children(),
         };
         let mut marks = marks_of(alloc, input.remeasure, nodes.len())?;
+        let first = count_marked(&marks, nodes);
         let wide = self.sweep_across(input.window);
         let across = lay_moved(alloc, moved, wide, &mut marks, work)?;
+        let second = count_marked(&marks, nodes);
         let high = self.sweep_down(input.window, &across);
         let down = lay_moved(alloc, moved, high, &mut marks, work)?;
+        let third = count_marked(&marks, nodes);
         let rects = rects_of(alloc, nodes, across.spans.as_slice(), down.spans.as_slice())?;
-        Ok(Laid {
+        let changed = changed_of(
+            alloc,
+            olds.as_slice(),
+            self.rects.as_slice(),
+            rects.as_slice(),
+        )?;
+        let made = Laid {
             across,
             down,
             rects,
+        };
+        Ok(Told {
+            made,
+            changed,
+            laid: calls(first, second, third),
         })
     }
 }
@@ -429,4 +519,15 @@ fn size_of(window: Option<(u32, u32)>, across: &Along, down: &Along) -> (u32, u3
         ),
         root_length(window_height(window), extent_at(down.lengths.as_slice(), 0)),
     )
+}
+
+/// How many calls of panes the four sweeps make, of how many nodes the first works on, each of the next two, and the
+/// last.
+fn calls(first: usize, second: usize, third: usize) -> usize
+    requires first { first ≤ 4096 }
+    requires second { second ≤ 4096 }
+    requires third { third ≤ 4096 }
+    ensures { result ≡ first + 2 * second + third }
+{
+    first + 2 * second + third
 }

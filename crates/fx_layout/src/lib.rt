@@ -14,5 +14,5 @@ mod spare;
 mod trees;
 
 pub use laws::{anew_is_layout, one_layout, updates_agree};
-pub use layouts::Layouts;
+pub use layouts::{Layouts, Updated};
 pub use nodes::{are_nodes, can_be_laid};

@@ -2,7 +2,8 @@
 ghost use Rattle.std.specs.Prelude.{ℕ, ◌≡◌, ◌≢◌, ◌≤ℤ◌, ◌+ℤ◌, ◌<◌, negsuc, pos, ◌^◌, All, AllPairs, IfOk, false, length, slice_set, true};
 ghost use Rattle.fx_layout_sweeps.specs.Marks.{flag_in};
 ghost use Rattle.fx_layout_sweeps.specs.Nodes.{AreNodes, children_lists, node_at, parents, span_at};
-ghost use Rattle.fx_layout.specs.Keeping.{AreAdded, BeginAlike};
+ghost use Rattle.fx_layout_sweeps.specs.Sweeps.{old_at};
+ghost use Rattle.fx_layout.specs.Keeping.{AreAdded, AreAlike};
 ghost use Rattle.fx_layout.specs.Updates.{AreRects, around, reached, rect_at, shifted};
 
 use crate::along::Scene;
@@ -44,7 +45,8 @@ pub(crate) fn rects_of(
     Ok(rects)
 }
 
-/// Adds up again where the nodes stand: the children of those that are marked, and of those that begin elsewhere then.
+/// Adds up again where the nodes stand: the children of those that are marked, and of those that have another rectangle
+/// then, which are marked too.
 pub(crate) fn add_again(
     scene: Scene<'_>,
     halves: Halves<'_>,
@@ -59,7 +61,10 @@ pub(crate) fn add_again(
     requires kept { (p : ℕ) → p < length scene.nodes.now → flag_in marks.old p ≡ false
         → AreAdded scene.children.now halves.across.now halves.down.now rects.old.items
         (rect_at rects.old.items p) p }
-    ensures { AreRects scene.entry.nodes.now halves.entry.across.now halves.entry.down.now rects.new.items }
+    ensures rects { AreRects scene.entry.nodes.now halves.entry.across.now halves.entry.down.now rects.new.items }
+    ensures each_mark { length marks.new ≡ length scene.entry.nodes.now }
+    ensures still { (p : ℕ) → p < length scene.entry.nodes.now → flag_in marks.new p ≡ false
+        → rect_at rects.new.items p ≡ rect_at rects.old.items p }
 {
     let root = shifted(CORNER, span_at(halves.across, 0), span_at(halves.down, 0));
     put_rect(0, root, marks, rects);
@@ -72,7 +77,7 @@ pub(crate) fn add_again(
     }
 }
 
-/// Puts the children that stand at these places into a rectangle, and marks those that begin elsewhere then.
+/// Puts the children that stand at these places into a rectangle, and marks those that have another one then.
 fn add_children(
     outer: Rect,
     places: &[usize],
@@ -90,7 +95,7 @@ fn add_children(
         → rect_at rects.new.items q ≡ rect_at rects.old.items q }
     ensures each_mark { length marks.new ≡ length marks.old }
     ensures marks { (q : ℕ) → q < length marks.old → flag_in marks.new q ≡ false
-        → (flag_in marks.old q ≡ false) × BeginAlike (rect_at rects.new.items q) (rect_at rects.old.items q) }
+        → (flag_in marks.old q ≡ false) × (rect_at rects.new.items q ≡ rect_at rects.old.items q) }
 {
     for k in 0..places.len() {
         let place = places[k];
@@ -103,24 +108,52 @@ fn add_children(
     }
 }
 
-/// Puts a rectangle at a place, and marks the place if it begins elsewhere then.
+/// Puts a rectangle at a place, and marks the place if it was another one.
 fn put_rect(place: usize, rect: Rect, marks: &mut Marks, rects: &mut Vec<Rect>)
     requires within { place < length rects.old.items }
     requires marks { length marks.old ≡ length rects.old.items }
     ensures rects { rects.new.items ≡ slice_set rects.old.items place rect }
     ensures each_mark { length marks.new ≡ length marks.old }
     ensures marks { (q : ℕ) → q < length marks.old → flag_in marks.new q ≡ false
-        → (flag_in marks.old q ≡ false) × BeginAlike (rect_at rects.new.items q) (rect_at rects.old.items q) }
+        → (flag_in marks.old q ≡ false) × (rect_at rects.new.items q ≡ rect_at rects.old.items q) }
 {
-    let moves = !begin_alike(rect, rect_at(rects.as_slice(), place));
+    let moves = !are_alike(rect, rect_at(rects.as_slice(), place));
     marks.mark_if(place, moves);
     rects[place] = rect;
 }
 
-fn begin_alike(one: Rect, other: Rect) -> bool
-    ensures { result ≡ true → BeginAlike one other }
+/// Have these rectangles the same four numbers?
+fn are_alike(one: Rect, other: Rect) -> bool
+    ensures { result ≡ true → AreAlike one other }
 {
-    one.x == other.x && one.y == other.y
+    one.x == other.x && one.y == other.y && one.w == other.w && one.h == other.h
+}
+
+/// Marks of the nodes that have another rectangle than before, or had none, by the place where each stood.
+pub(crate) fn changed_of(
+    alloc: Global,
+    olds: &[usize],
+    before: &[Rect],
+    rects: &[Rect],
+) -> Result<Marks, AllocError>
+    ensures each { IfOk result (λ marks. length marks ≡ length olds.now) }
+    ensures still { IfOk result (λ marks. (p : ℕ) → p < length olds.now → flag_in marks p ≡ false
+        → (old_at olds.now p < length before.now) × (rect_at rects.now p ≡ rect_at before.now (old_at olds.now p))) }
+{
+    let mut marks = Marks::new(alloc, olds.len())?;
+    for place in 0..olds.len() {
+        let changes = !stood(before, olds[place], rect_at(rects, place));
+        marks.put(place, changes);
+    }
+    Ok(marks)
+}
+
+/// Was this the rectangle at a place?
+fn stood(before: &[Rect], place: usize, rect: Rect) -> bool
+    ensures there { result ≡ true → place < length before.now }
+    ensures alike { result ≡ true → AreAlike rect (rect_at before.now place) }
+{
+    place < before.len() && are_alike(rect, rect_at(before, place))
 }
 
 pub(crate) fn parent_at(nodes: &[BoxFacts], place: usize) -> Option<usize>

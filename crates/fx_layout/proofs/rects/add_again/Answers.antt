@@ -25,7 +25,8 @@ loop-at-preserved c =
     let across = c.args.halves.across.now in
     let down = c.args.halves.down.now in
     let known = are_known scene.nodes.now scene.children.now c.requires.nodes c.requires.children in
-    let here = readded_idle scene.nodes.now scene.children.now across down flags rects c.loop-at.from at found.3
+    let old = c.args.rects.now.items in
+    let here = readded_idle scene.nodes.now scene.children.now across down old flags rects c.loop-at.from at found.3
     c.loop-at.invariant.0 in
     let within : at < length scene.nodes.now = omega (arith, found.1, here.each_flag) in
     let put : IsPutInto scene.nodes.now scene.children.now across down flags c.add_children.new.marks rects
@@ -38,20 +39,28 @@ loop-at-preserved c =
       others = rw (c.children_in-places.ensures.value) at c.add_children.ensures.others;
       marks = c.add_children.ensures.marks;
     } in (
-      readded_more scene.nodes.now scene.children.now across down flags c.add_children.new.marks rects
+      readded_more scene.nodes.now scene.children.now across down old flags c.add_children.new.marks rects
           c.add_children.new.rects.items at known here put,
       omega (arith, within),
     )
 
-pub returns : goal.returns
-returns c =
+pub returns-clause-rects : goal.returns-clause-rects
+returns-clause-rects c =
     let scene = c.args.scene in
     let across = c.args.halves.across.now in
     let down = c.args.halves.down.now in
+    let old = c.args.rects.now.items in
     let flags = c.loop-at.marks in
     let rects = c.loop-at.rects.items in
-    let all = readded_idle scene.nodes.now scene.children.now across down flags rects c.loop-at.from (length scene.nodes.now)
+    let all = readded_idle scene.nodes.now scene.children.now across down old flags rects c.loop-at.from
+    (length scene.nodes.now)
     (λ q late within. c.in_default.ensures q late (omega (arith, within, c.loop-at.invariant.0.each_flag)))
     c.loop-at.invariant.0 in
-    readded_all scene.nodes.now scene.children.now across down flags rects (length scene.nodes.now) c.requires.nodes
+    readded_all scene.nodes.now scene.children.now across down old flags rects (length scene.nodes.now) c.requires.nodes
     c.requires.children (omega arith) all
+
+pub returns-clause-each_mark : goal.returns-clause-each_mark
+returns-clause-each_mark c = c.loop-at.invariant.0.each_flag
+
+pub returns-clause-still : goal.returns-clause-still
+returns-clause-still c = c.loop-at.invariant.0.still

@@ -4,7 +4,7 @@ use Rattle.fx_layout_sweeps.proofs.Asking.{lists_long}
 use Rattle.fx_layout.specs.Keeping.{kept_of}
 use Rattle.fx_layout.specs.Updates.{Kept, old_places}
 use Rattle.fx_layout.proofs.Readds.{added_in}
-use Rattle.fx_layout.proofs.Updating.{AreLaid, cost_is, update_is}
+use Rattle.fx_layout.proofs.Updating.{AreLaid, count_is, told_moved, update_is}
 use Rattle.fx_layout.proofs.layouts.Layouts.laid_moved.Goals as goal
 
 pub returns-clause-update : goal.returns-clause-update
@@ -84,8 +84,24 @@ returns-clause-whole g c =
           (omega (arith, within, long));
     }
 
-pub returns-clause-cost : goal.returns-clause-cost
-returns-clause-cost g c =
+pub returns-clause-changed : goal.returns-clause-changed
+returns-clause-changed g c =
+    let old = c.args.self.now in
+    let nodes = c.args.input.nodes.now in
+    let named : c.self.inside.keys.items ≡ old.keys = ap (λ (k : Kept). k.keys) c.self.view_is in
+    let stood : c.self.inside.rects.items ≡ old.rects = ap (λ (k : Kept). k.rects) c.self.view_is in
+    let found : c.in_ok-olds.olds.items ≡ old_places old.keys nodes =
+    rw (c.as_slice.ensures.value, named) at c.in_ok-olds.ensures in
+    told_moved old c.in_ok-olds.olds.items nodes
+    (kept_of nodes c.in_ok-across.across.lengths.items c.in_ok-down.down.lengths.items
+    c.in_ok-across.across.spans.items c.in_ok-down.down.spans.items c.in_ok-rects.rects.items)
+    c.in_ok-changed.changed found
+    (rw (c.as_slice-5.ensures.value) at c.in_ok-changed.ensures.each)
+    (rw (c.as_slice-5.ensures.value, c.as_slice-6.ensures.value, c.as_slice-7.ensures.value, stood)
+    at c.in_ok-changed.ensures.still)
+
+pub returns-clause-laid : goal.returns-clause-laid
+returns-clause-laid g c =
     let old = c.args.self.now in
     let nodes = c.args.input.nodes.now in
     let looks = c.args.input.looks.now in
@@ -142,7 +158,21 @@ returns-clause-cost g c =
       ) at c.in_ok-down.ensures.placed;
       done = rw (c.sweep_down-high.ensures.old_spans, c.as_slice-2.ensures.value) at c.in_ok-down.ensures.marks;
     } in
-    let most = cost_is old olds nodes looks window listed new first second third found laid in
+    let counted = count_is old olds nodes looks window listed new first second third found laid in
+    c.calls.ensures
+    ∙ (rw (c.count_marked-first.ensures.count, c.count_marked-second.ensures.count, c.count_marked-third.ensures.count)
+    counted)
+
+pub returns-clause-cost : goal.returns-clause-cost
+returns-clause-cost g c =
     let one = ap (λ w. w.laid) c.in_ok-across.ensures.work in
     let two = ap (λ w. w.laid) c.in_ok-down.ensures.work in
-    omega (arith, most, one, two)
+    omega (
+      arith,
+      one,
+      two,
+      c.calls.ensures,
+      c.count_marked-first.ensures.count,
+      c.count_marked-second.ensures.count,
+      c.count_marked-third.ensures.count,
+    )

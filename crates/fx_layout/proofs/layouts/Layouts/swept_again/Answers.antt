@@ -5,7 +5,7 @@ use Rattle.fx_layout_sweeps.proofs.Asking.{lists_long}
 use Rattle.fx_layout.specs.Keeping.{IsWhole, kept_of}
 use Rattle.fx_layout.specs.Updates.{Kept, old_places}
 use Rattle.fx_layout.proofs.Again.{AreLaidAgain, laid_as_moved, quiet, stands, still_of}
-use Rattle.fx_layout.proofs.Updating.{AreLaid, cost_is, update_is}
+use Rattle.fx_layout.proofs.Updating.{AreLaid, count_is, update_is}
 use Rattle.fx_layout.proofs.layouts.Layouts.swept_again.Goals as goal
 
 pub lay_again-requires-clause-lengths : goal.lay_again-requires-clause-lengths
@@ -116,8 +116,8 @@ returns-clause-swept g c =
       still_down = λ p within free. (still p within free).3;
     }
 
-pub returns-clause-cost : goal.returns-clause-cost
-returns-clause-cost g c =
+pub returns-clause-laid : goal.returns-clause-laid
+returns-clause-laid g c =
     let old = c.args.self.now in
     let nodes = c.args.input.nodes.now in
     let looks = c.args.input.looks.now in
@@ -168,8 +168,22 @@ returns-clause-cost g c =
     let moved : AreLaid old (old_places old.keys nodes) nodes looks window listed (new []) first second third =
     laid_as_moved old (old_places old.keys nodes) nodes looks window listed (new []) first second third
     (stands old.keys nodes c.requires.same_keys c.requires.keys) (sym c.requires.same_children) (laid []) in
-    let most =
-    cost_is old (old_places old.keys nodes) nodes looks window listed (new []) first second third refl moved in
+    let counted =
+    count_is old (old_places old.keys nodes) nodes looks window listed (new []) first second third refl moved in
+    c.calls.ensures
+    ∙ (rw (c.count_marked-first.ensures.count, c.count_marked-second.ensures.count, c.count_marked-third.ensures.count)
+    counted)
+
+pub returns-clause-cost : goal.returns-clause-cost
+returns-clause-cost g c =
     let one = ap (λ w. w.laid) c.in_ok-across.ensures.work in
     let two = ap (λ w. w.laid) c.in_ok-down.ensures.work in
-    omega (arith, most, one, two)
+    omega (
+      arith,
+      one,
+      two,
+      c.calls.ensures,
+      c.count_marked-first.ensures.count,
+      c.count_marked-second.ensures.count,
+      c.count_marked-third.ensures.count,
+    )

@@ -1,13 +1,18 @@
-use Rattle.std.proofs.Common.{ap, refl, sym, ◌∙◌}
-use Rattle.fx_layout_sweeps.specs.Nodes.{children_lists}
-use Rattle.fx_layout.specs.Updates.{Kept}
+use Rattle.std.proofs.Common.{ap, ◌∙◌, ◌+◌, arith}
+use Rattle.fx_layout.proofs.Updating.{count_most}
 use Rattle.fx_layout.proofs.layouts.Layouts.update.Goals as goal
 
-pub update_again-requires-clause-same_keys : goal.update_again-requires-clause-same_keys
-update_again-requires-clause-same_keys g c =
-    let named = rw (c.as_slice.ensures.value) at c.if-is_over.ensures.keys refl in
-    sym (ap (λ (k : Kept). k.keys) c.self.view_is) ∙ named
+pub returns-clause-cost : goal.returns-clause-cost
+returns-clause-cost g c =
+    let told = c.in_ok-told.ensures in
+    omega (
+      arith,
+      told.cost,
+      told.laid,
+      count_most c.args.self.now c.args.nodes.now c.args.remeasure.now c.update_telling.new.self,
+    )
 
-pub update_again-requires-clause-same_children : goal.update_again-requires-clause-same_children
-update_again-requires-clause-same_children g c =
-    sym (ap (λ (k : Kept). k.children) c.self.view_is) ∙ ap children_lists (c.if-is_over.ensures.tree refl)
+pub returns-clause-count : goal.returns-clause-count
+returns-clause-count g c =
+    let told = c.in_ok-told.ensures in
+    told.cost ∙ ap (λ n. c.args.work.now.laid + n) told.laid

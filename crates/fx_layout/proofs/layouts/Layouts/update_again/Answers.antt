@@ -3,6 +3,7 @@ use Rattle.fx_layout_sweeps.specs.Nodes.{children_lists, keys, parents}
 use Rattle.fx_layout_sweeps.proofs.Asking.{lists_long}
 use Rattle.fx_layout.specs.Keeping.{IsWhole}
 use Rattle.fx_layout.specs.Updates.{Kept}
+use Rattle.fx_layout.proofs.Again.{told_again}
 use Rattle.fx_layout.proofs.Readds.{whole_of}
 use Rattle.fx_layout.proofs.layouts.Layouts.update_again.Goals as goal
 
@@ -82,7 +83,7 @@ invariant_of-self g c =
     let named : c.self.inside.keys.items ≡ keys nodes = ap (λ (k : Kept). k.keys) is ∙ c.requires.same_keys in
     let hung : children_lists c.self.inside.tree ≡ children_lists (parents nodes) =
     ap (λ (k : Kept). k.children) is ∙ c.requires.same_children in
-    let rects = rw (c.as_slice.ensures.value, c.as_slice-2.ensures.value) at c.add_again.ensures in
+    let rects = rw (c.as_slice.ensures.value, c.as_slice-2.ensures.value) at c.add_again.ensures.rects in
     let swept = rw (c.take_spare.ensures.kept) at c.in_ok-swept.ensures.swept in (
       rw (
         named,
@@ -108,7 +109,7 @@ returns-clause-update g c =
     let named : c.self.inside.keys.items ≡ keys nodes = ap (λ (k : Kept). k.keys) is ∙ c.requires.same_keys in
     let hung : children_lists c.self.inside.tree ≡ children_lists (parents nodes) =
     ap (λ (k : Kept). k.children) is ∙ c.requires.same_children in
-    let rects = rw (c.as_slice.ensures.value, c.as_slice-2.ensures.value) at c.add_again.ensures in
+    let rects = rw (c.as_slice.ensures.value, c.as_slice-2.ensures.value) at c.add_again.ensures.rects in
     let swept = rw (c.take_spare.ensures.kept) at c.in_ok-swept.ensures.swept in
     rw (
       named,
@@ -119,7 +120,18 @@ returns-clause-update g c =
       c.catch_up-2.ensures.spans,
     ) (swept.update _ rects)
 
-pub returns-clause-cost : goal.returns-clause-cost
-returns-clause-cost g c =
+pub returns-clause-laid : goal.returns-clause-laid
+returns-clause-laid g c =
     rw (c.catch_up.ensures.spans, c.catch_up-2.ensures.spans)
-    (rw (c.take_spare.ensures.kept) at c.in_ok-swept.ensures.cost)
+    (rw (c.take_spare.ensures.kept) at c.in_ok-swept.ensures.laid)
+
+pub returns-clause-changed : goal.returns-clause-changed
+returns-clause-changed g c =
+    let old = c.args.self.now in
+    let nodes = c.args.input.nodes.now in
+    let is = c.self.view_is ∙ c.take_spare.ensures.kept in
+    let whole : IsWhole old = subst IsWhole is c.self.invariant.0 in
+    let long : length old.children ≡ length nodes = lists_long nodes old.children c.requires.same_children in
+    let stood : c.self.inside.rects.items ≡ old.rects = ap (λ (k : Kept). k.rects) is in
+    told_again old nodes _ _ c.requires.same_keys c.requires.keys (whole.rects ∙ long) c.add_again.ensures.each_mark
+    (rw (stood) at c.add_again.ensures.still)

@@ -1,4 +1,4 @@
-//! What is printed of an update: the size of the root, and the rectangle of each node.
+//! What is printed of an update: the size of the root, how many calls of panes it took, and the rectangle of each node.
 use crate::updates::Update;
 use anyhow::bail;
 use fx_base::{Ledgers, Rect, Work};
@@ -21,8 +21,8 @@ pub fn answer<L: Ledgers>(
         *layouts = Layouts::new(alloc);
     }
     let listed = update.listed.as_slice();
-    let size = layouts.update(alloc, nodes, looks, update.window, listed, work)?;
-    let mut text = format!(in alloc; "{}x{}", size.0, size.1)?;
+    let told = layouts.update_telling(alloc, nodes, looks, update.window, listed, work)?;
+    let mut text = format!(in alloc; "{}x{} laid {}", told.size.0, told.size.1, told.laid)?;
     push_rects(alloc, layouts.rects(), &mut text)?;
     Ok(text)
 }

@@ -1,6 +1,6 @@
-//! Lays out stored trees of nodes, each again and again with nodes that changed, and prints the size of the root and
-//! all rectangles. Its input and output are a test of the layout of whole scenes: the output was computed by another
-//! program.
+//! Lays out stored trees of nodes, each again and again with nodes that changed, and prints the size of the root, how
+//! many calls of panes that took, and all rectangles. Its input and output are a test of the layout of whole scenes:
+//! the output was computed by another program.
 //!
 //! A line is an update: `new` where nothing is kept yet or else `again`, the window or `-`, the places that are
 //! measured anew, and behind bars the nodes, as in `new 10x4 0,1|HBox 0.1 - s1|Region 1.2 0 b4`. reading.rt has what is

@@ -4,7 +4,7 @@ use Rattle.std.specs.List.{range_with_len, sum_by}
 use Rattle.std.proofs.lemmas.Bool.Decides.{nat_tests}
 use Rattle.std.proofs.lemmas.List.Sums.{sum_by_push}
 use Rattle.fx_base.specs.Pixel.{blended}
-use Rattle.fx_canvas.specs.Painting.{IsDrawn, laid_above, points_above}
+use Rattle.fx_canvas.specs.Painting.{HasBytes, IsDrawn, laid_above, points_above}
 use Rattle.fx_canvas.specs.Surfaces.{Line, row_at}
 use Rattle.fx_canvas.specs.declared.blocks.Block.{Block}
 use Rattle.fx_canvas.proofs.DrawingLemmas.{drawn-none, drawn-then, drawn_row, in_row}
@@ -54,19 +54,32 @@ block_none block s rows p =
     let zero' : block.top - block.top ≡ 0 = omega arith in
     let f : ℕ → ℕ = λ k. count_in (λ x. holds s x k) block.left block.right in
     let d = drawn-none (laid_above block block.top s) (is_in block.top block.bottom) rows p none in
-    record { sizes = d.sizes; pixels = d.pixels; kept = d.kept; counted = d.counted ∙ ap (λ k. p + sum_by f (range_with_len block.top k)) (sym zero') }
+    record {
+      sizes = d.sizes;
+      pixels = d.pixels;
+      kept = d.kept;
+      counted = d.counted ∙ ap (λ k. p + sum_by f (range_with_len block.top k)) (sym zero');
+      bytes = d.bytes;
+    }
 
-pub block_step : (block : Block) (s : Shape) (y : ℕ) (old mid : List Line) (row : Line) (p q r : ℕ) → block.top ≤ y → y < block.bottom → y < length mid
+pub block_step : (block : Block) (s : Shape) (y : ℕ) (old mid : List Line) (row : Line) (p q r : ℕ)
+    → block.top ≤ y → y < block.bottom → y < length mid → HasBytes (color_of s)
     → IsDrawn (laid_above block y s) (is_in block.top block.bottom) (points_above block y s) old mid p q
     → IsLaid (plain_pen (columns_of block) (color_of s)) (λ x. holds s x y) (row_at mid y).pixels row.pixels q r
     → IsDrawn (laid_above block (y + 1) s) (is_in block.top block.bottom) (points_above block (y + 1) s) old (set mid y row) p r
-block_step block s at old mid row p q r low high within drawn laid =
+block_step block s at old mid row p q r low high within small drawn laid =
     let more = drawn-then (laid_above block at s) (in_row at (holds s) (plain_pen (columns_of block) (color_of s))) (laid_above block (at + 1) s)
     (is_in block.top block.bottom) (λ y. y == at) (is_in block.top block.bottom)
     (points_above block at s) (count_in (λ x. holds s x at) block.left block.right) old mid (set mid at row) p q r
     change (λ y e. (e, out_of block.top block.bottom at y low high e)) drawn
-    (drawn_row mid at row (holds s) (plain_pen (columns_of block) (color_of s)) q r within laid) in
-    record { sizes = more.sizes; pixels = more.pixels; kept = more.kept; counted = more.counted ∙ ap (λ k. p + k) (points_more block at s low) }
+    (drawn_row mid at row (holds s) (plain_pen (columns_of block) (color_of s)) q r within small laid) in
+    record {
+      sizes = more.sizes;
+      pixels = more.pixels;
+      kept = more.kept;
+      counted = more.counted ∙ ap (λ k. p + k) (points_more block at s low);
+      bytes = more.bytes;
+    }
   where
     change : (x y c : ℕ) → in_row at (holds s) (plain_pen (columns_of block) (color_of s)) x y (laid_above block at s x y c) ≡ laid_above block (at + 1) s x y c
     change x y c =

@@ -1,12 +1,13 @@
 -- Drawings one after another, and one row of a block more.
-use Rattle.std.proofs.Common.{◌≡◌, ◌<◌, ◌≤◌, ◌+◌, ◌-◌, ◌==◌, ◌&&◌, ◌||◌, ℕ, suc, Bool, true, false, cond, List, length, get_or, set, refl, sym, ap, ◌∙◌, inl, inr, arith, leb, subst}
+use Rattle.std.proofs.Common.{◌≡◌, ◌<◌, ◌≤◌, ◌+◌, ◌-◌, ◌^◌, ◌==◌, ◌&&◌, ◌||◌, ℕ, suc, Bool, true, false, cond, List, length, get_or, set, refl, sym, ap, ◌∙◌, inl, inr, arith, leb, subst}
 use Rattle.std.proofs.lemmas.Bool.{cases_eq}
 use Rattle.std.proofs.lemmas.Bool.Decides.{nat_tests, Decides-eqb}
 use Rattle.std.proofs.lemmas.List.{get_or-set_same, get_or-set_other}
 use Rattle.std.proofs.Math.ListN.{length-set}
 use Rattle.fx_base.specs.Pixel.{blended}
-use Rattle.fx_canvas.specs.Painting.{HaveOneSize, IsDrawn}
-use Rattle.fx_canvas.specs.Surfaces.{Line, no_line, pixel_at, row_at}
+use Rattle.fx_canvas.specs.Painting.{HasBytes, HaveOneSize, IsDrawn}
+use Rattle.fx_canvas.specs.Surfaces.{AreBytes, Line, no_line, pixel_at, row_at}
+use Rattle.fx_canvas.proofs.ByteLemmas.{laid_small}
 use Rattle.fx_pens.specs.Dots.{IsLaid, count_in, is_in}
 use Rattle.fx_pens.specs.declared.spans.Pen.{Pen}
 
@@ -28,6 +29,7 @@ drawn-then f g h s t u m n old mid new p q r change touched a b = record {
   pixels = λ x y l. b.pixels x y (rw (a.sizes.across y) l) ∙ (ap (g x y) (a.pixels x y l) ∙ change x y (pixel_at old x y));
   kept = λ y e. (let none = touched y e in b.kept y none.1 ∙ a.kept y none.0);
   counted = b.counted ∙ (ap (λ k. k + n) a.counted ∙ plus_assoc p m n);
+  bytes = λ small. b.bytes (a.bytes small);
 }
 
 -- the same drawing in other words
@@ -39,6 +41,7 @@ drawn-same f g s t m n old new p q change touched count a = record {
   pixels = λ x y l. a.pixels x y l ∙ change x y (pixel_at old x y);
   kept = λ y e. a.kept y (touched y e);
   counted = a.counted ∙ ap (λ k. p + k) count;
+  bytes = a.bytes;
 }
 
 -- nothing is drawn
@@ -48,20 +51,23 @@ drawn-none f t rows p h = record {
   pixels = λ x y l. sym (h x y (pixel_at rows x y));
   kept = λ y e. refl;
   counted = omega arith;
+  bytes = λ small. small;
 }
 
 -- ---- one row
 abbrev pub in_row : ℕ → (ℕ → ℕ → Bool) → Pen → Change
 in_row at dots pen x y under = cond ((y == at) && (is_in pen.left pen.right x && dots x y)) (blended pen.color under) under
 
-pub drawn_row : (rows : List Line) (at : ℕ) (row : Line) (dots : ℕ → ℕ → Bool) (pen : Pen) (p q : ℕ) → at < length rows
+pub drawn_row : (rows : List Line) (at : ℕ) (row : Line) (dots : ℕ → ℕ → Bool) (pen : Pen) (p q : ℕ)
+    → at < length rows → HasBytes pen.color
     → IsLaid pen (λ x. dots x at) (row_at rows at).pixels row.pixels p q
     → IsDrawn (in_row at dots pen) (λ y. y == at) (count_in (λ x. dots x at) pen.left pen.right) rows (set rows at row) p q
-drawn_row rows at row dots pen p q within laid = record {
+drawn_row rows at row dots pen p q within small laid = record {
   sizes = record { down = length-set rows at row; across = across };
   pixels = pixels;
   kept = kept;
   counted = laid.count;
+  bytes = bytes;
 }
   where
     here : row_at (set rows at row) at ≡ row
@@ -87,3 +93,11 @@ drawn_row rows at row dots pen p q within laid = record {
 
     kept : (y : ℕ) → (y == at) ≡ false → row_at (set rows at row) y ≡ row_at rows y
     kept y e = other y (λ same. (let t : (y == at) ≡ true = (Decides-eqb y at).1 same in cc))
+
+    bytes : AreBytes rows → AreBytes (set rows at row)
+    bytes old x y = elim (cases_eq y at) [
+      | inl e ↦ (let P : ℕ → Type 0 = λ k. pixel_at (set rows at row) x k < 2 ^ 24 in
+          subst P (sym e) (subst (λ (l : Line). get_or l.pixels x 0 < 2 ^ 24) (sym here)
+          (laid_small pen (λ k. dots k at) (row_at rows at).pixels row.pixels p q small laid (λ k. old k at) x)))
+      | inr n ↦ subst (λ (l : Line). get_or l.pixels x 0 < 2 ^ 24) (sym (other y n)) (old x y)
+    ]

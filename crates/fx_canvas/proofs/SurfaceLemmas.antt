@@ -1,5 +1,5 @@
 -- Rows of one length, new and changed.
-use Rattle.std.proofs.Common.{◌≡◌, ◌<◌, ◌≤◌, ◌+◌, ◌&&◌, ◌+ℤ◌, ◌≤ℤ◌, ℕ, ℤ, pos, suc, zero, Bool, true, false, List, [], ◌∷◌, length, get_or, set, replicate, refl, sym, ap, subst, ◌∙◌, inl, inr, arith}
+use Rattle.std.proofs.Common.{◌≡◌, ◌<◌, ◌≤◌, ◌+◌, ◌^◌, ◌&&◌, ◌+ℤ◌, ◌≤ℤ◌, ℕ, ℤ, pos, suc, zero, Bool, true, false, List, [], ◌∷◌, length, get_or, set, replicate, refl, sym, ap, subst, ◌∙◌, inl, inr, arith}
 use Rattle.std.specs.Prelude.{All, int_le}
 use Rattle.std.specs.List.{list_all}
 use Rattle.std.proofs.lemmas.Bool.{cases_eq}
@@ -9,7 +9,7 @@ use Rattle.std.proofs.lemmas.List.Elements.{All-nil, All-cons}
 use Rattle.fx_base.specs.Pixel.{white}
 use Rattle.fx_base.specs.declared.geometry.Rect.{Rect}
 use Rattle.fx_canvas.specs.Painting.{FitsIn, HaveOneSize}
-use Rattle.fx_canvas.specs.Surfaces.{IsSurface, Line, Surface, lies_in, no_line, pixel_at, row_at, white_line}
+use Rattle.fx_canvas.specs.Surfaces.{AreBytes, IsSurface, Line, Surface, lies_in, no_line, pixel_at, row_at, white_line}
 use Rattle.fx_picture.specs.Bounds.{bounds_of}
 
 pub any_line : (rows : List Line) (i : ℕ) (d e : Line) → i < length rows → get_or rows i d ≡ get_or rows i e
@@ -36,6 +36,16 @@ pixel_of_white zero x h = absurd (omega (arith, h))
 pixel_of_white (suc n) zero h = refl
 pixel_of_white (suc n) (suc x) h = pixel_of_white n x (omega (arith, h))
 
+small_of_white : (n x : ℕ) → get_or (replicate n white) x 0 < 2 ^ 24
+small_of_white zero x = omega arith
+small_of_white (suc n) zero = omega arith
+small_of_white (suc n) (suc x) = small_of_white n x
+
+small_of_copies : (n x y : ℕ) (line : Line) → get_or line.pixels x 0 < 2 ^ 24 → pixel_at (replicate n line) x y < 2 ^ 24
+small_of_copies zero x y line h = omega arith
+small_of_copies (suc n) x zero line h = h
+small_of_copies (suc n) x (suc y) line h = small_of_copies n x y line h
+
 abbrev pub white_surface : ℕ → ℕ → Surface
 white_surface w h = record { width = w; height = h; rows = replicate h (white_line w) }
 
@@ -46,6 +56,7 @@ surface_white w h a b = record {
       ap (λ (k : Line). length k.pixels) (row_of_copies h y (white_line w) (omega (arith, l))) ∙ length-white w);
   narrow = a;
   low = b;
+  bytes = λ x y. small_of_copies h x y (white_line w) (small_of_white w x);
 }
 
 pub pixel_white : (w h x y : ℕ) → x < w → y < h → pixel_at (replicate h (white_line w)) x y ≡ white
@@ -55,12 +66,14 @@ pixel_white w h x y a b = ap (λ (k : Line). get_or k.pixels x 0) (row_of_copies
 abbrev pub with_rows : Surface → List Line → Surface
 with_rows s rows = record s { rows = rows }
 
-pub surface_sized : (s : Surface) (rows : List Line) → IsSurface s → HaveOneSize s.rows rows → IsSurface (with_rows s rows)
-surface_sized s rows is same = record {
+pub surface_sized : (s : Surface) (rows : List Line) → IsSurface s → HaveOneSize s.rows rows → AreBytes rows
+    → IsSurface (with_rows s rows)
+surface_sized s rows is same small = record {
   down = same.down ∙ is.down;
   across = λ y l. same.across y ∙ is.across y (let down = same.down in omega (arith, l, down));
   narrow = is.narrow;
   low = is.low;
+  bytes = small;
 }
 
 -- ---- a row is printed anew

@@ -3,6 +3,7 @@ use Rattle.std.specs.Prelude.{◌≡◌, ◌<◌, ◌≤◌, ℕ, ℤ, pos, Bool
 use Rattle.std.specs.List.{list_any, range_with_len, sum_by}
 use Rattle.fx_base.specs.Pixel.{blended}
 use Rattle.fx_base.specs.Rectangle.{in_span}
+use Rattle.fx_base.specs.declared.color.Color.{Color}
 use Rattle.fx_base.specs.declared.geometry.Rect.{Rect}
 use Rattle.fx_picture.specs.Bounds.{bounds_of, in_range, meet, within}
 use Rattle.fx_picture.specs.Pixels.{covered, over, pixel, shapes_of}
@@ -10,7 +11,7 @@ use Rattle.fx_picture.specs.Shapes.{bounds, color_of, holds, whole}
 use Rattle.fx_picture.specs.declared.edges.Bounds.{Bounds}
 use Rattle.fx_picture.specs.declared.entries.Entry.{Entry}
 use Rattle.fx_picture.specs.declared.shapes.Shape.{Shape}
-use Rattle.fx_canvas.specs.Surfaces.{Line, pixel_at, row_at}
+use Rattle.fx_canvas.specs.Surfaces.{AreBytes, Line, pixel_at, row_at}
 use Rattle.fx_canvas.specs.declared.blocks.Block.{Block}
 use Rattle.fx_pens.specs.Dots.{count_in, is_in}
 
@@ -66,13 +67,22 @@ pub record HaveOneSize (old new : List Line) : Type 0 where
   pub down : length new ≡ length old
   pub across : (y : ℕ) → length (row_at new y).pixels ≡ length (row_at old y).pixels
 
--- each pixel is made of its place and of what it was, rows that fail the test are as they were, and so many are counted
+-- each channel of a colour is a byte
+pub record HasBytes (color : Color) : Type 0 where
+  pub red : color.r < 256
+  pub green : color.g < 256
+  pub blue : color.b < 256
+  pub opacity : color.a < 256
+
+-- each pixel is made of its place and of what it was, rows that fail the test are as they were, so many are counted,
+-- and pixels of three bytes stay so
 pub record IsDrawn (change : ℕ → ℕ → ℕ → ℕ) (touched : ℕ → Bool) (count : ℕ) (old new : List Line)
     (before after : ℕ) : Type 0 where
   pub sizes : HaveOneSize old new
   pub pixels : (x y : ℕ) → x < length (row_at old y).pixels → pixel_at new x y ≡ change x y (pixel_at old x y)
   pub kept : (y : ℕ) → touched y ≡ false → row_at new y ≡ row_at old y
   pub counted : after ≡ before + count
+  pub bytes : AreBytes old → AreBytes new
 
 -- the edges lie in the rows
 pub record FitsIn (area : Bounds) (rows : List Line) : Type 0 where

@@ -74,7 +74,8 @@ impl Canvas {
         })
     }
 
-    /// Promises on its rows: there are as many as it is high, each as long as it is wide.
+    /// Promises on its rows: there are as many as it is high, each as long as it is wide, and each pixel is of three
+    /// bytes.
     pub fn laws(&self)
         ensures { IsWhole self.now }
     {

@@ -2,7 +2,7 @@
 ghost use Rattle.std.specs.Prelude.{◌∷◌, [], All, if◌then◌else◌};
 ghost use Rattle.std.specs.List.{sum_by};
 ghost use Rattle.fx_base.specs.Rectangle.{in_span, inside};
-ghost use Rattle.fx_canvas.specs.Painting.{FitsIn, IsBlock, IsDrawn, is_met, laid_above, laid_in, points_above, points_of, repainted, writes};
+ghost use Rattle.fx_canvas.specs.Painting.{FitsIn, HasBytes, IsBlock, IsDrawn, is_met, laid_above, laid_in, points_above, points_of, repainted, writes};
 ghost use Rattle.fx_pens.specs.Dots.{is_in};
 ghost use Rattle.fx_picture.specs.Bounds.{bounds_of, in_range};
 ghost use Rattle.fx_picture.specs.Pixels.{pixel, shapes_of};
@@ -12,7 +12,7 @@ use crate::blocks::{Block, block_of};
 use crate::rows::Row;
 use fx_base::{Color, Rect, Steps};
 use fx_pens::Columns;
-use fx_picture::{Bounds, Entry, Shape, bounds, bounds_of, is_empty, meeting};
+use fx_picture::{Bounds, Entry, Shape, bounds, bounds_of, color_of, is_empty, meeting};
 use std::sync::ledger::Ledger;
 
 /// What is painted before any shape.
@@ -93,7 +93,13 @@ fn lay_block<P: Ledger>(rows: &mut [Row], block: Block, shape: &Shape, painted: 
         left: block.left,
         right: block.right,
     };
+    channel_laws(color_of(shape));
     for y in block.top..block.bottom {
         rows[y].lay(columns, y as u32, shape, painted);
     }
 }
+
+/// Promises on a colour: each of its channels is a byte.
+fn channel_laws(color: Color)
+    ensures { HasBytes color }
+{}

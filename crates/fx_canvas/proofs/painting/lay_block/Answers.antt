@@ -1,5 +1,6 @@
 -- one row more is laid over
 use Rattle.std.proofs.Common.{◌<◌, length, subst, arith}
+use Rattle.fx_canvas.specs.Painting.{HasBytes}
 use Rattle.fx_canvas.specs.Surfaces.{Line, no_line}
 use Rattle.fx_canvas.proofs.BlockLemmas.{block_step, columns_of}
 use Rattle.fx_canvas.proofs.SurfaceLemmas.{any_line}
@@ -19,6 +20,8 @@ loop-y-preserved g c =
     let same = c.loop-y.invariant.sizes.down in
     let test = c.loop-y-test.true in
     let within : y < length rows = omega arith in
+    let small : HasBytes (color_of shape) = subst HasBytes c.color_of.ensures c.channel_laws.ensures in
     let Laid : Line → Type 0 = λ l. IsLaid (plain_pen (columns_of block) (color_of shape)) (λ x. holds shape x y) l.pixels c.lay.new.self.pixels c.loop-y.painted c.lay.new.painted in
     block_step block shape y c.args.rows.now rows c.lay.new.self c.args.painted.now c.loop-y.painted c.lay.new.painted
-    (omega arith) (omega arith) within c.loop-y.invariant (subst Laid (any_line rows y c.index-rows-y.result no_line within) c.lay.ensures)
+    (omega arith) (omega arith) within small c.loop-y.invariant
+    (subst Laid (any_line rows y c.index-rows-y.result no_line within) c.lay.ensures)

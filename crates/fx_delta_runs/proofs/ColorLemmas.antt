@@ -9,7 +9,7 @@ use Rattle.fx_picture.specs.Pixels.{laid, over, pixel, shapes_of}
 use Rattle.fx_picture.specs.Shapes.{color_of, holds}
 use Rattle.fx_picture.specs.declared.entries.Entry.{Entry}
 use Rattle.fx_picture.specs.declared.shapes.Shape.{Shape}
-use Rattle.fx_delta_runs.specs.Frames.{IsColor}
+use Rattle.fx_delta_runs.specs.Frames.{ArePixels, IsColor}
 
 mixed : (upper opacity under rest : ℕ) → upper < 256 → under < 256 → opacity + rest ≡ 255
     → upper * opacity + under * rest + 127 < 256 * 255
@@ -52,6 +52,10 @@ over_small (s ∷ ss) x y under all h =
     by true = blended_small (color_of s) under (All-head (λ (s : Shape). IsColor (color_of s)) s ss all)
     by false = h
 
-pub pixel_small : (entries : List Entry) (x y : ℕ) → All (λ (s : Shape). IsColor (color_of s)) (shapes_of entries)
+pixel_small : (entries : List Entry) (x y : ℕ) → All (λ (s : Shape). IsColor (color_of s)) (shapes_of entries)
     → pixel entries x y < 2 ^ 24
 pixel_small entries x y all = over_small (shapes_of entries) x y white all (omega arith)
+
+pub pixels_are : (width height : ℕ) (entries : List Entry)
+    → All (λ (s : Shape). IsColor (color_of s)) (shapes_of entries) → ArePixels width height entries
+pixels_are width height entries all = λ x y hx hy. pixel_small entries x y all

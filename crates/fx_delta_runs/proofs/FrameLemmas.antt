@@ -21,7 +21,6 @@ use Rattle.fx_plain_frames.specs.Pulses.{image_in}
 use Rattle.fx_pulse_model.specs.Frames.{Framed}
 use Rattle.fx_delta_runs.specs.Frames.{IsDrawable, IsSent, area_of, damage_behind, part_behind, picture_behind}
 use Rattle.fx_delta_runs.proofs.BoxLemmas.{boxes_lie, few, window_lies}
-use Rattle.fx_delta_runs.proofs.ColorLemmas.{pixel_small}
 use Rattle.fx_delta_runs.proofs.DamageLemmas.{AreColors, Lies, at-image, full-image, items_are, shown-image}
 use Rattle.fx_delta_runs.proofs.PointLemmas.{IsFull, at}
 use Rattle.fx_delta_runs.proofs.TextLemmas.{head_text, image_text}
@@ -125,7 +124,7 @@ starts outside (Some last) next old now = elim (cases_Bool (eqb last.width next.
 
 -- ---- what a frame ends with
 colors : (next : Framed) → IsDrawable next → AreColors next.width next.height (pixel next.picture)
-colors next now = λ x y hx hy. pixel_small next.picture x y now.colors
+colors next now = now.pixels
 
 ends : (next : Framed) (rects : List Rect) (start : Picture) → IsDrawable next → Starts next rects start
     → with_items start (damage_items (image_in next) rects) ≡ picture_of (image_in next)

@@ -1,5 +1,5 @@
 -- Frames that follow one another, with what is told between them, and each as a part of a stream.
-use Rattle.std.specs.Prelude.{◌≡◌, ◌<◌, ℕ, true, ◌+◌, List, [], ◌∷◌, ◌++◌, All, IfSome, Option, Some, None, map}
+use Rattle.std.specs.Prelude.{◌≡◌, ◌<◌, ◌^◌, ℕ, true, ◌+◌, List, [], ◌∷◌, ◌++◌, All, IfSome, Option, Some, None, map}
 use Rattle.std.specs.List.{flat_map}
 use Rattle.std.specs.Option.{option_map}
 use Rattle.fx_base.specs.declared.color.Color.{Color}
@@ -11,9 +11,9 @@ use Rattle.fx_frame_text.specs.Frames.{damage_items, frame_text, shown_behind}
 use Rattle.fx_frame_text.specs.declared.forms.Form.{Form}
 use Rattle.fx_frame_text.specs.declared.forms.Form.TheVariants.{Text, Delta}
 use Rattle.fx_picture.specs.Entries.{HasDistinctBirths, Rises}
-use Rattle.fx_picture.specs.Pixels.{shapes_of}
-use Rattle.fx_picture.specs.Shapes.{color_of, whole}
-use Rattle.fx_picture.specs.declared.shapes.Shape.{Shape}
+use Rattle.fx_picture.specs.Pixels.{pixel}
+use Rattle.fx_picture.specs.Shapes.{whole}
+use Rattle.fx_picture.specs.declared.entries.Entry.{Entry}
 use Rattle.fx_plain_frames.specs.Pulses.{image_in}
 use Rattle.fx_plain_steps.specs.Told.{Told, Totals}
 use Rattle.fx_pulse_model.specs.Frames.{Framed, frame_damage}
@@ -25,13 +25,17 @@ pub record IsColor (color : Color) : Type 0 where
   pub blue : color.b < 256
   pub opacity : color.a < 256
 
+-- the pixels of a picture within a window, of three bytes each
+abbrev pub ArePixels : ℕ → ℕ → List Entry → Type 0
+ArePixels width height picture = (x y : ℕ) → x < width → y < height → pixel picture x y < 2 ^ 24
+
 -- A frame that can be drawn: it has at least one pixel each way and at most 2,048, its nodes stand in pre-order, no
--- two of them have one birth number, and the channels of its colours are bytes.
+-- two of them have one birth number, and its pixels are of three bytes.
 pub record IsDrawable (drawn : Framed) : Type 0 where
   pub sized : is_size drawn.width drawn.height ≡ true
   pub rises : Rises drawn.picture
   pub births : HasDistinctBirths drawn.picture
-  pub colors : All (λ (s : Shape). IsColor (color_of s)) (shapes_of drawn.picture)
+  pub pixels : ArePixels drawn.width drawn.height drawn.picture
 
 -- what a frame damages of the one before it, if there was one
 abbrev pub damage_behind : Option Framed → Framed → List Rect

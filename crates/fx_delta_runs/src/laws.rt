@@ -3,7 +3,7 @@ ghost use Rattle.std.specs.Prelude.{◌≡◌, ◌<◌, ◌≤◌, ◌^◌, ℕ,
 ghost use Rattle.fx_base.specs.declared.geometry.Rect.{Rect as Rectangle};
 ghost use Rattle.fx_delta.specs.Pictures.{is_size};
 ghost use Rattle.fx_delta.specs.Stream.{shown};
-ghost use Rattle.fx_delta_runs.specs.Frames.{AreLines, IsColor, IsDrawable, IsProper, IsSent, Telling, tolds_in};
+ghost use Rattle.fx_delta_runs.specs.Frames.{AreLines, ArePixels, IsColor, IsDrawable, IsProper, IsSent, Telling, tolds_in};
 ghost use Rattle.fx_delta_runs.specs.Runs.{AreProper, IsFirst, IsRun, IsShownAs, in_form};
 ghost use Rattle.fx_delta_runs.specs.Tame.{AreDrawable, AreTameLines, IsTameWorld};
 ghost use Rattle.fx_frame_text.specs.declared.forms.Form.{Form};
@@ -22,11 +22,16 @@ ghost use Rattle.fx_pulse_model.specs.Scenes.{IsScene, Scene};
 ghost use Rattle.fx_scene_acts.specs.declared.tasks.Task.{Task};
 ghost use Rattle.fx_script_commands.specs.Requests.{Numbered};
 
-/// The frame of a scene can be drawn where its size is one that a frame can have, and its colours' channels are bytes.
+/// The pixels of a picture are of three bytes each where the channels of its colours are bytes.
+pub fn bytes_make_pixels()
+    ensures { (width height : ℕ) (picture : List Node) → All (λ (s : Shape). IsColor (color_of s)) (shapes_of picture)
+        → ArePixels width height picture }
+{}
+
+/// The frame of a scene can be drawn where its size is one that a frame can have, and its pixels are of three bytes.
 pub fn scenes_are_drawable()
     ensures { (scene : Scene) (window : Option (ℕ × ℕ)) (w h : ℕ) (rects : List Rectangle) (picture : List Node)
-        → IsScene scene → IsFrame scene window w h rects picture → is_size w h ≡ true
-        → All (λ (s : Shape). IsColor (color_of s)) (shapes_of picture)
+        → IsScene scene → IsFrame scene window w h rects picture → is_size w h ≡ true → ArePixels w h picture
         → IsDrawable (record { width = w; height = h; picture = picture }) }
 {}
 

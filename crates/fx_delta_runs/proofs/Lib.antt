@@ -7,6 +7,7 @@ pub mod FrameLemmas
 pub mod PointLemmas
 pub mod PrintLemmas
 pub mod RunLemmas
+pub mod ScriptLemmas
 pub mod StreamLemmas
 pub mod TameLemmas
 pub mod TellingLemmas

@@ -21,6 +21,7 @@ ghost use Rattle.fx_pulse_model.specs.Frames.{Framed, IsFrame};
 ghost use Rattle.fx_pulse_model.specs.Scenes.{IsScene, Scene};
 ghost use Rattle.fx_scene_acts.specs.declared.tasks.Task.{Task};
 ghost use Rattle.fx_script_commands.specs.Requests.{Numbered};
+ghost use Rattle.fx_script_commands.specs.Scripts.{IsScript};
 
 /// The pixels of a picture are of three bytes each where the channels of its colours are bytes.
 pub fn bytes_make_pixels()
@@ -92,4 +93,9 @@ pub fn tame_lines_are_proper()
 pub fn begun_games_are_tame()
     ensures { (window : Option (ℕ × ℕ)) (tasks : List Task) (first : Game) → IsBegun window tasks first
         → (IsFirst first) × (IsTameWorld first.world) }
+{}
+
+/// The lines of a script are tame, since it is cut at its line feeds, and nothing in a line stands for one.
+pub fn scripts_are_tame()
+    ensures { (bytes : List ℕ) (lines : List Numbered) → IsScript bytes lines → AreTameLines lines }
 {}

@@ -6,6 +6,6 @@ mod laws;
 
 pub use laws::{
     begun_games_are_tame, bytes_make_pixels, frames_are_sent, runs_are_one, runs_are_shown,
-    runs_have_each_form, scenes_are_drawable, streams_show_their_frames, streams_show_their_runs,
-    tame_lines_are_proper,
+    runs_have_each_form, scenes_are_drawable, scripts_are_tame, streams_show_their_frames,
+    streams_show_their_runs, tame_lines_are_proper,
 };

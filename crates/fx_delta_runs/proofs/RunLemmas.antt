@@ -1,6 +1,8 @@
 -- A run tells the same in each form of frames, and its stream shows its text.
-use Rattle.std.proofs.Common.{◌≡◌, ◌<◌, ◌^◌, ℕ, suc, Bool, true, false, List, [], ◌∷◌, ◌++◌, length, Option, Some, None, refl, sym, ap, ap₂, ◌∙◌, subst, arith}
+use Rattle.std.proofs.Common.{◌≡◌, ◌<◌, ◌^◌, ℕ, suc, Bool, true, false, List, [], ◌∷◌, ◌++◌, length, Option, Some, None, All, refl, sym, ap, ap₂, ◌∙◌, subst, arith}
+use Rattle.std.specs.Prelude.{IfSome}
 use Rattle.std.specs.Option.{option_map}
+use Rattle.std.proofs.lemmas.List.Elements.{All-cons, All-nil}
 use Rattle.fx_base.specs.declared.geometry.Rect.{Rect}
 use Rattle.fx_damage.specs.Laws.{SameOutside}
 use Rattle.fx_delta.specs.Stream.{shown}
@@ -16,9 +18,9 @@ use Rattle.fx_plain_steps.specs.Told.{Told, texts_of}
 use Rattle.fx_pulse_model.specs.Frames.{Framed}
 use Rattle.fx_script_commands.specs.Requests.{Numbered}
 use Rattle.fx_script_lines.specs.declared.instructions.Instruction.{Instruction}
-use Rattle.fx_delta_runs.specs.Frames.{AreLines, Telling, told_in, tolds_in}
+use Rattle.fx_delta_runs.specs.Frames.{AreDrawn, AreLines, IsDrawable, IsProper, Telling, last_behind, told_in, tolds_in}
 use Rattle.fx_delta_runs.specs.Runs as runs
-use Rattle.fx_delta_runs.specs.Runs.{AreProper, IsFirst, IsRun, IsShownAs, IsTelling, in_form}
+use Rattle.fx_delta_runs.specs.Runs.{AreProper, AreShown, IsFirst, IsPlayedDrawn, IsRun, IsShownAs, IsTelling, in_form, none_played, one_played, written_in}
 use Rattle.fx_delta_runs.proofs.StreamLemmas.{ViewersShow, shown_all}
 
 -- ---- one line
@@ -129,6 +131,30 @@ runs_have_each_form form first lines tellings (runs.one_line game next line rest
     (ap₂ (λ (n : ℕ) (l : Option Framed). tolds_in form n l others) is.number is.last)
     (runs_have_each_form form next rest others run))
 
+-- the frame that a line tells is the last one behind it
+drawn_last : (last next now : Option Framed) → now ≡ last_behind last next → IfSome now IsDrawable
+    → IfSome next IsDrawable
+drawn_last last None now e is = tt
+drawn_last last (Some next) now e is = subst (λ (o : Option Framed). IfSome o IsDrawable) e is
+
+pub drawn_plays : (form : Form) (first : Game) (lines : List Numbered) (tolds : List Told)
+    → IsPlayedDrawn form first lines tolds
+    → (tellings : List Telling) × (IsRun first lines tellings)
+    × (tolds ≡ tolds_in form first.frames first.last tellings) × AreDrawn tellings
+drawn_plays form first lines tolds (none_played game) =
+    ([], runs.no_line first, refl, All-nil (λ (t : Telling). IfSome t.frame IsDrawable))
+drawn_plays form first lines tolds (one_played game next line rest told others is drawn played) =
+    let one : Tells form line game next told = tells form line game next told is in
+    let more = drawn_plays form next rest others played in
+    let t : Telling = one.telling in (
+      t ∷ more.0,
+      runs.one_line game next line rest t more.0 one.tells more.1,
+      ap₂ (λ (a : Told) (b : List Told). a ∷ b) one.same
+          (more.2 ∙ ap₂ (λ (n : ℕ) (l : Option Framed). tolds_in form n l more.0) one.tells.number one.tells.last),
+      All-cons (λ (t : Telling). IfSome t.frame IsDrawable) t more.0
+          (drawn_last game.last t.frame next.last one.tells.last drawn) more.3,
+    )
+
 -- as many as there are lines
 length-run : (first : Game) (lines : List Numbered) (tellings : List Telling) → IsRun first lines tellings
     → length tellings ≡ length lines
@@ -137,7 +163,7 @@ length-run first lines tellings (runs.one_line game next line rest telling other
     ap (λ (n : ℕ). suc n) (length-run next rest others run)
 
 -- before the first frame
-from_first : (form : Form) (first : Game) (tellings : List Telling) → IsFirst first
+pub from_first : (form : Form) (first : Game) (tellings : List Telling) → IsFirst first
     → tolds_in form first.frames first.last tellings ≡ tolds_in form 0 None tellings
 from_first form first tellings is = ap₂ (λ (n : ℕ) (l : Option Framed). tolds_in form n l tellings) is.none is.last
 
@@ -149,12 +175,12 @@ record Pair (warnings : List ℕ) (first : Game) (tellings : List Telling) (stre
 
 pair_shown : SameOutside → ViewersShow → (warnings : List ℕ) (first : Game) (lines : List Numbered)
     (tellings : List Telling) (stream text : List ℕ) → IsFirst first → length lines < 2 ^ 64 → AreLines warnings
-    → AreProper first lines → IsRun first lines tellings → Pair warnings first tellings stream text
+    → All IsProper tellings → IsRun first lines tellings → Pair warnings first tellings stream text
     → shown stream ≡ record { bytes = text; bad = None }
 pair_shown outside viewer warnings first lines tellings stream text is small warned proper run pair =
     let long : length tellings ≡ length lines = length-run first lines tellings run in
     ap shown (pair.stream_so ∙ ap (λ (l : List Told). warnings ++ texts_of l) (from_first Delta first tellings is))
-    ∙ shown_all outside viewer warnings tellings warned (omega (arith, small, long)) (proper tellings run)
+    ∙ shown_all outside viewer warnings tellings warned (omega (arith, small, long)) proper
     ∙ ap (λ (l : List ℕ). record { bytes = l; bad = None })
     (sym (pair.text_so ∙ ap (λ (l : List Told). warnings ++ texts_of l) (from_first Text first tellings is)))
 
@@ -174,7 +200,8 @@ streams_show_their_runs outside viewer manner warnings first lines stream is sma
           played = runs_have_each_form Text first lines tellings one.1;
           written = refl;
         };
-        shows = pair_shown outside viewer warnings first lines tellings stream text is small warned proper one.1
+        shows = pair_shown outside viewer warnings first lines tellings stream text is small warned
+            (proper tellings one.1) one.1
             (record {
               stream_so = written.written ∙ ap (λ (l : List Told). warnings ++ texts_of l) one.2;
               text_so = refl;
@@ -194,9 +221,34 @@ runs_are_shown outside viewer manner warnings first lines text is small warned p
     let stream : List ℕ = warnings ++ texts_of streams in (
       stream,
       record { tolds = streams; played = runs_have_each_form Delta first lines tellings one.1; written = refl },
-      pair_shown outside viewer warnings first lines tellings stream text is small warned proper one.1
+      pair_shown outside viewer warnings first lines tellings stream text is small warned
+          (proper tellings one.1) one.1
           (record {
             stream_so = refl;
             text_so = written.written ∙ ap (λ (l : List Told). warnings ++ texts_of l) one.2;
           }),
     )
+
+-- ---- one run
+-- what it writes in this form
+written : (form : Form) (manner : Manner) (warnings : List ℕ) (first : Game) (lines : List Numbered)
+    (tellings : List Telling) → IsFirst first → IsRun first lines tellings
+    → IsWritten (in_form form manner) warnings first lines (written_in form warnings tellings)
+written form manner warnings first lines tellings is run =
+    record {
+      tolds = tolds_in form 0 None tellings;
+      played = subst (λ (l : List Told). IsPlayed form first lines l) (from_first form first tellings is)
+          (runs_have_each_form form first lines tellings run);
+      written = refl;
+    }
+
+pub one_is_shown : SameOutside → ViewersShow → (manner : Manner) (warnings : List ℕ) (first : Game)
+    (lines : List Numbered) (tellings : List Telling) → IsFirst first → length lines < 2 ^ 64 → AreLines warnings
+    → IsRun first lines tellings → All IsProper tellings → AreShown manner warnings first lines tellings
+one_is_shown outside viewer manner warnings first lines tellings is small warned run proper =
+    let long : length tellings ≡ length lines = length-run first lines tellings run in
+    record {
+      stream = written Delta manner warnings first lines tellings is run;
+      text = written Text manner warnings first lines tellings is run;
+      shows = shown_all outside viewer warnings tellings warned (omega (arith, small, long)) proper;
+    }

@@ -1,5 +1,5 @@
 -- Whatever a line of a game tells beside a frame is whole lines, and its world stays tame.
-use Rattle.std.proofs.Common.{◌≡◌, ◌+◌, ℕ, Bool, true, false, List, [], ◌∷◌, ◌++◌, Option, Some, None, Ok, Err, All, refl, sym, ap, ap₂, ◌∙◌, subst, arith}
+use Rattle.std.proofs.Common.{◌≡◌, ◌<◌, ◌+◌, ◌^◌, ℕ, Bool, true, false, List, [], ◌∷◌, ◌++◌, length, Option, Some, None, Ok, Err, All, refl, sym, ap, ap₂, ◌∙◌, subst, arith}
 use Rattle.std.specs.Prelude.{IfOk, IfSome, Result, codes}
 use Rattle.std.specs.Fmt.{decimal}
 use Rattle.std.specs.List.{flat_map}
@@ -16,6 +16,7 @@ use Rattle.fx_css_types.specs.declared.sheets.Candidate.{Candidate}
 use Rattle.fx_css_types.specs.declared.sheets.SheetAt.{SheetAt}
 use Rattle.fx_css_types.specs.declared.sheets.SheetOrigin.{SheetOrigin}
 use Rattle.fx_css_types.specs.declared.sheets.SheetOrigin.TheVariants as origin
+use Rattle.fx_damage.specs.Laws.{SameOutside}
 use Rattle.fx_delta.specs.Items.{ended}
 use Rattle.fx_explain.specs.Told.{rank_of}
 use Rattle.fx_explain.specs.declared.cuts.Cut.{Cut}
@@ -35,6 +36,7 @@ use Rattle.fx_plain_frames.specs.Playing.{IsShown, IsToldBy, IsToldOf, explained
 use Rattle.fx_plain_frames.specs.Pulses.{course_behind, image_in}
 use Rattle.fx_plain_steps.specs.Courses.{Course, after, begun}
 use Rattle.fx_plain_steps.specs.Lines.{Step}
+use Rattle.fx_plain_runs.specs.declared.manners.Manner.{Manner}
 use Rattle.fx_plain_steps.specs.Told.{Told}
 use Rattle.fx_plain_times.specs.Clocks.{Clock}
 use Rattle.fx_plain_times.specs.Lines.{Passed, added, halted, keyed, passed, passed_or_refused, played, still, tick, time_step, timed}
@@ -55,12 +57,13 @@ use Rattle.fx_stage_model.specs.World.{World}
 use Rattle.fx_stage_types.specs.declared.refusals.Refusal.{Refusal}
 use Rattle.fx_stage_types.specs.declared.refusals.Refusal.TheVariants as word
 use Rattle.fx_store_model.specs.declared.changes.Change.TheVariants.{Set}
-use Rattle.fx_delta_runs.specs.Frames.{AreLines, IsDrawable, IsProper, Telling, frame_behind, last_behind, number_behind, told_in}
+use Rattle.fx_delta_runs.specs.Frames.{AreDrawn, AreLines, IsDrawable, IsProper, Telling, frame_behind, last_behind, number_behind, told_in}
 use Rattle.fx_delta_runs.specs.Runs as runs
-use Rattle.fx_delta_runs.specs.Runs.{AreProper, IsRun, IsTelling}
+use Rattle.fx_delta_runs.specs.Runs.{AreProper, AreShown, IsFirst, IsRun, IsTelling}
 use Rattle.fx_delta_runs.specs.Tame.{AreDrawable, AreTameLines, IsOneLine, IsOnePath, IsTameLine, IsTameWorld}
 use Rattle.fx_delta_runs.proofs.PrintLemmas.{lines_append, lines_flat, no_lines, notices_lines, one_append, one_decimal, one_known, one_line, one_none, one_space, refused_lines, two_ended}
-use Rattle.fx_delta_runs.proofs.RunLemmas.{still as still_game}
+use Rattle.fx_delta_runs.proofs.RunLemmas.{one_is_shown, still as still_game}
+use Rattle.fx_delta_runs.proofs.StreamLemmas.{ViewersShow}
 use Rattle.fx_delta_runs.proofs.TameLemmas.{IsTameCourse, after_answer, begun_tame, settled_tame, whole_line}
 use Rattle.fx_delta_runs.proofs.WorldLemmas.{Keeps, changed_keeps}
 
@@ -342,7 +345,7 @@ texts_stay first lines tellings are is (runs.one_line game next l rest telling o
     All-cons (λ (t : Telling). AreLines t.text) telling others stays.lines
     (texts_stay next rest others (All-tail IsTameLine l rest are) stays.world run)
 
-both : (tellings : List Telling) → All (λ (t : Telling). IfSome t.frame IsDrawable) tellings
+both : (tellings : List Telling) → AreDrawn tellings
     → All (λ (t : Telling). AreLines t.text) tellings → All IsProper tellings
 both [] frames texts = All-nil IsProper
 both (t ∷ ts) frames texts =
@@ -353,6 +356,14 @@ both (t ∷ ts) frames texts =
     })
     (both ts (All-tail (λ (t : Telling). IfSome t.frame IsDrawable) t ts frames)
     (All-tail (λ (t : Telling). AreLines t.text) t ts texts))
+
+pub drawn_run : SameOutside → ViewersShow → (manner : Manner) (warnings : List ℕ) (first : Game)
+    (lines : List Numbered) (tellings : List Telling) → IsFirst first → IsTameWorld first.world
+    → length lines < 2 ^ 64 → AreTameLines lines → AreLines warnings → IsRun first lines tellings
+    → AreDrawn tellings → AreShown manner warnings first lines tellings
+drawn_run outside viewer manner warnings first lines tellings is tame small are warned run drawn =
+    one_is_shown outside viewer manner warnings first lines tellings is small warned run
+    (both tellings drawn (texts_stay first lines tellings are tame run))
 
 pub tame_lines : (first : Game) (lines : List Numbered) → IsTameWorld first.world → AreTameLines lines
     → AreDrawable first lines → AreProper first lines

@@ -117,3 +117,7 @@ pub record AreLines (text : List ℕ) : Type 0 where
 pub record IsProper (telling : Telling) : Type 0 where
   pub frame : IfSome telling.frame IsDrawable
   pub text : AreLines telling.text
+
+-- each frame of these can be drawn
+abbrev pub AreDrawn : List Telling → Type 0
+AreDrawn tellings = All (λ (telling : Telling). IfSome telling.frame IsDrawable) tellings

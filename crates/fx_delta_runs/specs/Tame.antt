@@ -1,12 +1,12 @@
 -- Lines of a script that print no line feed of their own, and worlds in which no path that is printed holds one.
-use Rattle.std.specs.Prelude.{◌≡◌, ℕ, false, List, All, IfSome}
+use Rattle.std.specs.Prelude.{◌≡◌, ℕ, false, List, All}
 use Rattle.fx_delta.specs.Stream.{is_line_feed}
 use Rattle.fx_plain_frames.specs.Games.{Game}
 use Rattle.fx_script_commands.specs.Requests.{Numbered, Request, Requests, asks, bad, binds, defines, more, no_more}
 use Rattle.fx_script_lines.specs.declared.instructions.Instruction.{Instruction}
 use Rattle.fx_script_lines.specs.declared.instructions.Instruction.TheVariants as line
 use Rattle.fx_stage_model.specs.World.{World}
-use Rattle.fx_delta_runs.specs.Frames.{IsDrawable, Telling}
+use Rattle.fx_delta_runs.specs.Frames.{AreDrawn, Telling}
 use Rattle.fx_delta_runs.specs.Runs.{IsRun}
 
 -- no line feed stands in it
@@ -51,5 +51,4 @@ pub record IsTameWorld (world : World) : Type 0 where
 -- each frame that these lines may draw of this game can be drawn
 abbrev pub AreDrawable : Game → List Numbered → Type 0
 AreDrawable first lines =
-    (tellings : List Telling) → IsRun first lines tellings
-    → All (λ (telling : Telling). IfSome telling.frame IsDrawable) tellings
+    (tellings : List Telling) → IsRun first lines tellings → AreDrawn tellings

@@ -3,8 +3,8 @@ ghost use Rattle.std.specs.Prelude.{◌≡◌, ◌<◌, ◌≤◌, ◌^◌, ℕ,
 ghost use Rattle.fx_base.specs.declared.geometry.Rect.{Rect as Rectangle};
 ghost use Rattle.fx_delta.specs.Pictures.{is_size};
 ghost use Rattle.fx_delta.specs.Stream.{shown};
-ghost use Rattle.fx_delta_runs.specs.Frames.{AreLines, ArePixels, IsColor, IsDrawable, IsProper, IsSent, Telling, tolds_in};
-ghost use Rattle.fx_delta_runs.specs.Runs.{AreProper, IsFirst, IsRun, IsShownAs, in_form};
+ghost use Rattle.fx_delta_runs.specs.Frames.{AreDrawn, AreLines, ArePixels, IsColor, IsDrawable, IsProper, IsSent, Telling, tolds_in};
+ghost use Rattle.fx_delta_runs.specs.Runs.{AreProper, AreShown, IsFirst, IsPlayedDrawn, IsRun, IsShownAs, in_form};
 ghost use Rattle.fx_delta_runs.specs.Tame.{AreDrawable, AreTameLines, IsTameWorld};
 ghost use Rattle.fx_frame_text.specs.declared.forms.Form.{Form};
 ghost use Rattle.fx_frame_text.specs.declared.forms.Form.TheVariants.{Delta, Text};
@@ -93,6 +93,22 @@ pub fn tame_lines_are_proper()
 pub fn begun_games_are_tame()
     ensures { (window : Option (ℕ × ℕ)) (tasks : List Task) (first : Game) → IsBegun window tasks first
         → (IsFirst first) × (IsTameWorld first.world) }
+{}
+
+/// One run of tame lines from its beginning, whose frames could all be drawn: it writes a stream and a text, and of the
+/// stream a viewer shows just the text.
+pub fn drawn_runs_are_shown()
+    ensures { (manner : Manner) (warnings : List ℕ) (first : Game) (lines : List Numbered) (tellings : List Telling)
+        → IsFirst first → IsTameWorld first.world → length lines < 2 ^ 64 → AreTameLines lines → AreLines warnings
+        → IsRun first lines tellings → AreDrawn tellings → AreShown manner warnings first lines tellings }
+{}
+
+/// Whoever goes along its lines, and sees that the last frame behind each of them can be drawn, has told such a run.
+pub fn plays_are_drawn_runs()
+    ensures { (form : Form) (first : Game) (lines : List Numbered) (tolds : List Told)
+        → IsPlayedDrawn form first lines tolds
+        → (tellings : List Telling) × (IsRun first lines tellings)
+        × (tolds ≡ tolds_in form first.frames first.last tellings) × AreDrawn tellings }
 {}
 
 /// The lines of a script are tame, since it is cut at its line feeds, and nothing in a line stands for one.

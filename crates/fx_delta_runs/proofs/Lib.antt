@@ -12,4 +12,5 @@ pub mod StreamLemmas
 pub mod TameLemmas
 pub mod TellingLemmas
 pub mod TextLemmas
+pub mod WarningLemmas
 pub mod WorldLemmas

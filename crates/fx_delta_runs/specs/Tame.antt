@@ -17,6 +17,10 @@ IsOneLine text = All (λ (c : ℕ). is_line_feed c ≡ false) text
 abbrev pub IsOnePath : List (List ℕ) → Type 0
 IsOnePath path = All IsOneLine path
 
+-- nor in these names of files
+abbrev pub AreNames : List (List ℕ) → Type 0
+AreNames names = All IsOneLine names
+
 -- none stands in the text that the line says, or in the path by which it asks for a value or for a listener
 abbrev pub IsTameInstruction : Instruction → Type 0
 IsTameInstruction (line.Get path) = IsOnePath path

@@ -5,9 +5,10 @@ ghost use Rattle.fx_delta.specs.Pictures.{is_size};
 ghost use Rattle.fx_delta.specs.Stream.{shown};
 ghost use Rattle.fx_delta_runs.specs.Frames.{AreDrawn, AreLines, ArePixels, IsColor, IsDrawable, IsProper, IsSent, Telling, tolds_in};
 ghost use Rattle.fx_delta_runs.specs.Runs.{AreProper, AreShown, IsFirst, IsPlayedDrawn, IsRun, IsShownAs, in_form};
-ghost use Rattle.fx_delta_runs.specs.Tame.{AreDrawable, AreTameLines, IsTameWorld};
+ghost use Rattle.fx_delta_runs.specs.Tame.{AreDrawable, AreNames, AreTameLines, IsTameWorld};
 ghost use Rattle.fx_frame_text.specs.declared.forms.Form.{Form};
 ghost use Rattle.fx_frame_text.specs.declared.forms.Form.TheVariants.{Delta, Text};
+ghost use Rattle.fx_load.specs.Telling.{warnings_of};
 ghost use Rattle.fx_picture.specs.Pixels.{shapes_of};
 ghost use Rattle.fx_picture.specs.Shapes.{color_of};
 ghost use Rattle.fx_picture.specs.declared.entries.Entry.{Entry as Node};
@@ -114,4 +115,9 @@ pub fn plays_are_drawn_runs()
 /// The lines of a script are tame, since it is cut at its line feeds, and nothing in a line stands for one.
 pub fn scripts_are_tame()
     ensures { (bytes : List ℕ) (lines : List Numbered) → IsScript bytes lines → AreTameLines lines }
+{}
+
+/// What is told of what was dropped of sheets is whole lines, where no name of a file holds a line feed.
+pub fn warnings_are_lines()
+    ensures { (names : List (List ℕ)) (tasks : List Task) → AreNames names → AreLines (warnings_of names tasks) }
 {}

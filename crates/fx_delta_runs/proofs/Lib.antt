@@ -4,6 +4,7 @@ pub mod ColorLemmas
 pub mod DamageLemmas
 pub mod DrawableLemmas
 pub mod FrameLemmas
+pub mod LoadedLemmas
 pub mod PointLemmas
 pub mod PrintLemmas
 pub mod RunLemmas

@@ -1,5 +1,5 @@
 //! The laws of a run's stream.
-ghost use Rattle.std.specs.Prelude.{◌≡◌, ◌<◌, ◌≤◌, ◌^◌, ℕ, true, All, IfSome, List, None, Option, length};
+ghost use Rattle.std.specs.Prelude.{◌≡◌, ◌<◌, ◌≤◌, ◌^◌, ◌++◌, ℕ, true, All, IfSome, List, None, Ok, Option, length};
 ghost use Rattle.fx_base.specs.declared.geometry.Rect.{Rect as Rectangle};
 ghost use Rattle.fx_delta.specs.Pictures.{is_size};
 ghost use Rattle.fx_delta.specs.Stream.{shown};
@@ -8,7 +8,9 @@ ghost use Rattle.fx_delta_runs.specs.Runs.{AreProper, AreShown, IsFirst, IsPlaye
 ghost use Rattle.fx_delta_runs.specs.Tame.{AreDrawable, AreNames, AreTameLines, IsTameWorld};
 ghost use Rattle.fx_frame_text.specs.declared.forms.Form.{Form};
 ghost use Rattle.fx_frame_text.specs.declared.forms.Form.TheVariants.{Delta, Text};
+ghost use Rattle.fx_load.specs.Loading.{IsElaborated, Loaded};
 ghost use Rattle.fx_load.specs.Telling.{warnings_of};
+ghost use Rattle.fx_load_parts.specs.Files.{Run};
 ghost use Rattle.fx_picture.specs.Pixels.{shapes_of};
 ghost use Rattle.fx_picture.specs.Shapes.{color_of};
 ghost use Rattle.fx_picture.specs.declared.entries.Entry.{Entry as Node};
@@ -18,6 +20,7 @@ ghost use Rattle.fx_plain_frames.specs.Playing.{IsPlayed};
 ghost use Rattle.fx_plain_runs.specs.Runs.{IsBegun, IsWritten};
 ghost use Rattle.fx_plain_runs.specs.declared.manners.Manner.{Manner};
 ghost use Rattle.fx_plain_steps.specs.Told.{Told, texts_of};
+ghost use Rattle.fx_port.specs.Files.{Files};
 ghost use Rattle.fx_pulse_model.specs.Frames.{Framed, IsFrame};
 ghost use Rattle.fx_pulse_model.specs.Scenes.{IsScene, Scene};
 ghost use Rattle.fx_scene_acts.specs.declared.tasks.Task.{Task};
@@ -120,4 +123,22 @@ pub fn scripts_are_tame()
 /// What is told of what was dropped of sheets is whole lines, where no name of a file holds a line feed.
 pub fn warnings_are_lines()
     ensures { (names : List (List ℕ)) (tasks : List Task) → AreNames names → AreLines (warnings_of names tasks) }
+{}
+
+/// Of a run over files, of which no name holds a line feed, a viewer shows the text of the run and finds no bad line,
+/// where the frames that it drew could be drawn.
+pub fn runs_over_files_are_shown()
+    ensures { (run : Run) (files : Files) (loaded : Loaded) (manner : Manner) (first : Game) (tellings : List Telling)
+        → IsElaborated run files (Ok loaded) → AreNames loaded.files → IsBegun manner.window loaded.tasks first
+        → IsRun first loaded.lines tellings → AreDrawn tellings
+        → AreShown manner loaded.warnings first loaded.lines tellings }
+{}
+
+/// And of what a player of such a run told with changed rows a viewer shows the text of the same run.
+pub fn plays_over_files_are_shown()
+    ensures { (run : Run) (files : Files) (loaded : Loaded) (manner : Manner) (first : Game) (tolds : List Told)
+        → IsElaborated run files (Ok loaded) → AreNames loaded.files → IsBegun manner.window loaded.tasks first
+        → IsPlayedDrawn Delta first loaded.lines tolds
+        → (text : List ℕ)
+        × IsShownAs manner loaded.warnings first loaded.lines (loaded.warnings ++ texts_of tolds) text }
 {}

@@ -9,7 +9,8 @@ use Rattle.fx_picture.specs.Pixels.{laid, over, pixel, shapes_of}
 use Rattle.fx_picture.specs.Shapes.{color_of, holds}
 use Rattle.fx_picture.specs.declared.entries.Entry.{Entry}
 use Rattle.fx_picture.specs.declared.shapes.Shape.{Shape}
-use Rattle.fx_delta_runs.specs.Frames.{ArePixels, IsColor}
+use Rattle.fx_plain_frames.specs.Drawable.{ArePixels}
+use Rattle.fx_delta_runs.specs.Frames.{IsColor}
 
 mixed : (upper opacity under rest : ℕ) → upper < 256 → under < 256 → opacity + rest ≡ 255
     → upper * opacity + under * rest + 127 < 256 * 255

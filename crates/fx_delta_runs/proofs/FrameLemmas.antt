@@ -17,9 +17,10 @@ use Rattle.fx_delta_laws.specs.Streams.{Frame, IsArea, IsFrame, frame_picture, h
 use Rattle.fx_frame_text.specs.Frames.{damage_items, image_of, picture_of}
 use Rattle.fx_picture.specs.Bounds.{rect_of}
 use Rattle.fx_picture.specs.Pixels.{covered, pixel}
+use Rattle.fx_plain_frames.specs.Drawable.{IsDrawable}
 use Rattle.fx_plain_frames.specs.Pulses.{image_in}
 use Rattle.fx_pulse_model.specs.Frames.{Framed}
-use Rattle.fx_delta_runs.specs.Frames.{IsDrawable, IsSent, area_of, damage_behind, part_behind, picture_behind}
+use Rattle.fx_delta_runs.specs.Frames.{IsSent, area_of, damage_behind, part_behind, picture_behind}
 use Rattle.fx_delta_runs.proofs.BoxLemmas.{boxes_lie, few, window_lies}
 use Rattle.fx_delta_runs.proofs.DamageLemmas.{AreColors, Lies, at-image, full-image, items_are, shown-image}
 use Rattle.fx_delta_runs.proofs.PointLemmas.{IsFull, at}

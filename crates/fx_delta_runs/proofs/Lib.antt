@@ -5,6 +5,7 @@ pub mod DamageLemmas
 pub mod DrawableLemmas
 pub mod FrameLemmas
 pub mod LoadedLemmas
+pub mod PlayedLemmas
 pub mod PointLemmas
 pub mod PrintLemmas
 pub mod RunLemmas

@@ -9,6 +9,7 @@ use Rattle.fx_delta.specs.Stream.{shown}
 use Rattle.fx_frame_text.specs.Frames.{frame_text}
 use Rattle.fx_frame_text.specs.declared.forms.Form.{Form}
 use Rattle.fx_frame_text.specs.declared.forms.Form.TheVariants.{Text, Delta}
+use Rattle.fx_plain_frames.specs.Drawable.{IsDrawable}
 use Rattle.fx_plain_frames.specs.Games.{Game}
 use Rattle.fx_plain_frames.specs.Playing.{IsPlayed, IsShown, IsTold, IsToldBy, IsToldOf, explained_by, is_pulse, no_line, one_line, time_line}
 use Rattle.fx_plain_frames.specs.Pulses.{image_in, told_of}
@@ -18,7 +19,7 @@ use Rattle.fx_plain_steps.specs.Told.{Told, texts_of}
 use Rattle.fx_pulse_model.specs.Frames.{Framed}
 use Rattle.fx_script_commands.specs.Requests.{Numbered}
 use Rattle.fx_script_lines.specs.declared.instructions.Instruction.{Instruction}
-use Rattle.fx_delta_runs.specs.Frames.{AreDrawn, AreLines, IsDrawable, IsProper, Telling, last_behind, told_in, tolds_in}
+use Rattle.fx_delta_runs.specs.Frames.{AreDrawn, AreLines, IsProper, Telling, last_behind, told_in, tolds_in}
 use Rattle.fx_delta_runs.specs.Runs as runs
 use Rattle.fx_delta_runs.specs.Runs.{AreProper, AreShown, IsFirst, IsPlayedDrawn, IsRun, IsShownAs, IsTelling, in_form, none_played, one_played, written_in}
 use Rattle.fx_delta_runs.proofs.StreamLemmas.{ViewersShow, shown_all}

@@ -9,9 +9,10 @@ use Rattle.fx_delta.specs.Pictures.{Picture, begun, image, no_picture}
 use Rattle.fx_delta.specs.Stream.{shown}
 use Rattle.fx_delta_laws.specs.Streams.{Frame, IsBetween, IsPart, Part, frame, frame_picture, frames_of, head, line, stream_of}
 use Rattle.fx_frame_text.specs.declared.forms.Form.TheVariants.{Text, Delta}
+use Rattle.fx_plain_frames.specs.Drawable.{IsDrawable}
 use Rattle.fx_plain_steps.specs.Told.{texts_of}
 use Rattle.fx_pulse_model.specs.Frames.{Framed}
-use Rattle.fx_delta_runs.specs.Frames.{AreLines, IsDrawable, IsProper, IsSent, Telling, frame_behind, last_behind, number_behind, part_behind, picture_behind, text_behind, tolds_in}
+use Rattle.fx_delta_runs.specs.Frames.{AreLines, IsProper, IsSent, Telling, frame_behind, last_behind, number_behind, part_behind, picture_behind, text_behind, tolds_in}
 use Rattle.fx_delta_runs.proofs.FrameLemmas.{sent}
 
 -- a piece of a stream that is these parts, behind a picture, leaves another, and shows so much

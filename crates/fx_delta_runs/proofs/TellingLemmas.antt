@@ -31,6 +31,7 @@ use Rattle.fx_anim.specs.Line.{sets_of}
 use Rattle.fx_kinds.specs.declared.facts.StyleFacts.{StyleFacts}
 use Rattle.fx_plain_explain.specs.Explaining.{IsAnswered, find_attached, seen_by}
 use Rattle.fx_plain_explain.specs.Ranks.{cut_text, declared_text, explanation_lines, loser_line, origin_text, rank_text, source_text, three, winner_line, winner_text}
+use Rattle.fx_plain_frames.specs.Drawable.{IsDrawable}
 use Rattle.fx_plain_frames.specs.Games.{Game, entries_in}
 use Rattle.fx_plain_frames.specs.Playing.{IsShown, IsToldBy, IsToldOf, explained_by, is_pulse, time_line}
 use Rattle.fx_plain_frames.specs.Pulses.{course_behind, image_in}
@@ -57,7 +58,7 @@ use Rattle.fx_stage_model.specs.World.{World}
 use Rattle.fx_stage_types.specs.declared.refusals.Refusal.{Refusal}
 use Rattle.fx_stage_types.specs.declared.refusals.Refusal.TheVariants as word
 use Rattle.fx_store_model.specs.declared.changes.Change.TheVariants.{Set}
-use Rattle.fx_delta_runs.specs.Frames.{AreDrawn, AreLines, IsDrawable, IsProper, Telling, frame_behind, last_behind, number_behind, told_in}
+use Rattle.fx_delta_runs.specs.Frames.{AreDrawn, AreLines, IsProper, Telling, frame_behind, last_behind, number_behind, told_in}
 use Rattle.fx_delta_runs.specs.Runs as runs
 use Rattle.fx_delta_runs.specs.Runs.{AreProper, AreShown, IsFirst, IsRun, IsTelling}
 use Rattle.fx_delta_runs.specs.Tame.{AreDrawable, AreTameLines, IsOneLine, IsOnePath, IsTameLine, IsTameWorld}

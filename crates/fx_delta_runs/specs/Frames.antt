@@ -1,19 +1,17 @@
 -- Frames that follow one another, with what is told between them, and each as a part of a stream.
-use Rattle.std.specs.Prelude.{◌≡◌, ◌<◌, ◌^◌, ℕ, true, ◌+◌, List, [], ◌∷◌, ◌++◌, All, IfSome, Option, Some, None, map}
+use Rattle.std.specs.Prelude.{◌≡◌, ◌<◌, ℕ, ◌+◌, List, [], ◌∷◌, ◌++◌, All, IfSome, Option, Some, None, map}
 use Rattle.std.specs.List.{flat_map}
 use Rattle.std.specs.Option.{option_map}
 use Rattle.fx_base.specs.declared.color.Color.{Color}
 use Rattle.fx_base.specs.declared.geometry.Rect.{Rect}
 use Rattle.fx_delta.specs.Items.{ended}
-use Rattle.fx_delta.specs.Pictures.{Picture, is_size}
+use Rattle.fx_delta.specs.Pictures.{Picture}
 use Rattle.fx_delta_laws.specs.Streams.{Area, Frame, IsBetween, IsFrame, frame, frame_picture, frames_of, stream_of}
 use Rattle.fx_frame_text.specs.Frames.{damage_items, frame_text, shown_behind}
 use Rattle.fx_frame_text.specs.declared.forms.Form.{Form}
 use Rattle.fx_frame_text.specs.declared.forms.Form.TheVariants.{Text, Delta}
-use Rattle.fx_picture.specs.Entries.{HasDistinctBirths, Rises}
-use Rattle.fx_picture.specs.Pixels.{pixel}
 use Rattle.fx_picture.specs.Shapes.{whole}
-use Rattle.fx_picture.specs.declared.entries.Entry.{Entry}
+use Rattle.fx_plain_frames.specs.Drawable.{IsDrawable}
 use Rattle.fx_plain_frames.specs.Pulses.{image_in}
 use Rattle.fx_plain_steps.specs.Told.{Told, Totals}
 use Rattle.fx_pulse_model.specs.Frames.{Framed, frame_damage}
@@ -24,18 +22,6 @@ pub record IsColor (color : Color) : Type 0 where
   pub green : color.g < 256
   pub blue : color.b < 256
   pub opacity : color.a < 256
-
--- the pixels of a picture within a window, of three bytes each
-abbrev pub ArePixels : ℕ → ℕ → List Entry → Type 0
-ArePixels width height picture = (x y : ℕ) → x < width → y < height → pixel picture x y < 2 ^ 24
-
--- A frame that can be drawn: it has at least one pixel each way and at most 2,048, its nodes stand in pre-order, no
--- two of them have one birth number, and its pixels are of three bytes.
-pub record IsDrawable (drawn : Framed) : Type 0 where
-  pub sized : is_size drawn.width drawn.height ≡ true
-  pub rises : Rises drawn.picture
-  pub births : HasDistinctBirths drawn.picture
-  pub pixels : ArePixels drawn.width drawn.height drawn.picture
 
 -- what a frame damages of the one before it, if there was one
 abbrev pub damage_behind : Option Framed → Framed → List Rect

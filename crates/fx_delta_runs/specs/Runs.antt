@@ -3,13 +3,14 @@ use Rattle.std.specs.Prelude.{◌≡◌, ℕ, false, List, [], ◌∷◌, ◌++�
 use Rattle.fx_delta.specs.Stream.{shown}
 use Rattle.fx_frame_text.specs.declared.forms.Form.{Form}
 use Rattle.fx_frame_text.specs.declared.forms.Form.TheVariants.{Delta, Text}
+use Rattle.fx_plain_frames.specs.Drawable.{IsDrawable}
 use Rattle.fx_plain_frames.specs.Games.{Game}
 use Rattle.fx_plain_frames.specs.Playing.{IsTold}
 use Rattle.fx_plain_runs.specs.Runs.{IsWritten}
 use Rattle.fx_plain_runs.specs.declared.manners.Manner.{Manner}
 use Rattle.fx_plain_steps.specs.Told.{Told, texts_of}
 use Rattle.fx_script_commands.specs.Requests.{Numbered}
-use Rattle.fx_delta_runs.specs.Frames.{IsDrawable, IsProper, Telling, last_behind, number_behind, told_in, tolds_in}
+use Rattle.fx_delta_runs.specs.Frames.{IsProper, Telling, last_behind, number_behind, told_in, tolds_in}
 
 -- a line tells so between two games, in each form of frames
 pub record IsTelling (line : Numbered) (before now : Game) (telling : Telling) : Type 0 where

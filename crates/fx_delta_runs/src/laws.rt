@@ -3,7 +3,7 @@ ghost use Rattle.std.specs.Prelude.{◌≡◌, ◌<◌, ◌≤◌, ◌^◌, ◌+
 ghost use Rattle.fx_base.specs.declared.geometry.Rect.{Rect as Rectangle};
 ghost use Rattle.fx_delta.specs.Pictures.{is_size};
 ghost use Rattle.fx_delta.specs.Stream.{shown};
-ghost use Rattle.fx_delta_runs.specs.Frames.{AreDrawn, AreLines, ArePixels, IsColor, IsDrawable, IsProper, IsSent, Telling, tolds_in};
+ghost use Rattle.fx_delta_runs.specs.Frames.{AreDrawn, AreLines, IsColor, IsProper, IsSent, Telling, tolds_in};
 ghost use Rattle.fx_delta_runs.specs.Runs.{AreProper, AreShown, IsFirst, IsPlayedDrawn, IsRun, IsShownAs, in_form};
 ghost use Rattle.fx_delta_runs.specs.Tame.{AreDrawable, AreNames, AreTameLines, IsTameWorld};
 ghost use Rattle.fx_frame_text.specs.declared.forms.Form.{Form};
@@ -15,6 +15,7 @@ ghost use Rattle.fx_picture.specs.Pixels.{shapes_of};
 ghost use Rattle.fx_picture.specs.Shapes.{color_of};
 ghost use Rattle.fx_picture.specs.declared.entries.Entry.{Entry as Node};
 ghost use Rattle.fx_picture.specs.declared.shapes.Shape.{Shape};
+ghost use Rattle.fx_plain_frames.specs.Drawable.{ArePixels, IsDrawable};
 ghost use Rattle.fx_plain_frames.specs.Games.{Game};
 ghost use Rattle.fx_plain_frames.specs.Playing.{IsPlayed};
 ghost use Rattle.fx_plain_runs.specs.Runs.{IsBegun, IsWritten};
@@ -141,4 +142,12 @@ pub fn plays_over_files_are_shown()
         → IsPlayedDrawn Delta first loaded.lines tolds
         → (text : List ℕ)
         × IsShownAs manner loaded.warnings first loaded.lines (loaded.warnings ++ texts_of tolds) text }
+{}
+
+/// Of every stream that such a run writes a viewer shows the text of the same run, for each frame of it can be drawn.
+pub fn streams_of_files_show_their_runs()
+    ensures { (run : Run) (files : Files) (loaded : Loaded) (manner : Manner) (first : Game) (stream : List ℕ)
+        → IsElaborated run files (Ok loaded) → AreNames loaded.files → IsBegun manner.window loaded.tasks first
+        → IsWritten (in_form Delta manner) loaded.warnings first loaded.lines stream
+        → (text : List ℕ) × IsShownAs manner loaded.warnings first loaded.lines stream text }
 {}

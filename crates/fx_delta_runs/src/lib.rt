@@ -8,5 +8,6 @@ pub use laws::{
     begun_games_are_tame, bytes_make_pixels, drawn_runs_are_shown, frames_are_sent,
     plays_are_drawn_runs, plays_over_files_are_shown, runs_are_one, runs_are_shown,
     runs_have_each_form, runs_over_files_are_shown, scenes_are_drawable, scripts_are_tame,
-    streams_show_their_frames, streams_show_their_runs, tame_lines_are_proper, warnings_are_lines,
+    streams_of_files_show_their_runs, streams_show_their_frames, streams_show_their_runs,
+    tame_lines_are_proper, warnings_are_lines,
 };

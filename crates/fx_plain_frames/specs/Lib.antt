@@ -1,3 +1,4 @@
+pub mod Drawable
 pub mod Games
 pub mod Playing
 pub mod Pulses

@@ -22,6 +22,7 @@ use Rattle.fx_stage_facts.specs.Styles.{style_facts}
 use Rattle.fx_stage_model.specs.World.{World}
 use Rattle.fx_stage_text.specs.Printing.{notice_lines}
 use Rattle.fx_store_model.specs.declared.changes.Notices.{Notices}
+use Rattle.fx_plain_frames.specs.Drawable.{IsDrawable}
 use Rattle.fx_plain_frames.specs.Games.{Game}
 
 -- what a frame is made of
@@ -50,11 +51,12 @@ pub record Pulsed : Type 0 where
   pub damage : List Rect
   pub notices : Notices
 
--- The present scene, styled, laid out and drawn from nothing, is the next frame, and the sizes of its nodes are
--- published behind it, as one change.
+-- The present scene, styled, laid out and drawn from nothing, is the next frame, which can be drawn, and the sizes of its
+-- nodes are published behind it, as one change.
 pub record IsDrawn (before now : World) (last next : Option Framed) (pulsed : Pulsed) : Type 0 where
   pub rects : List Rect
   pub shown : IsFrame (scene_of before) before.window pulsed.frame.width pulsed.frame.height rects pulsed.frame.picture
+  pub drawable : IsDrawable pulsed.frame
   pub damage : pulsed.damage ≡ frame_damage last pulsed.frame.picture pulsed.frame.width pulsed.frame.height
   pub published : now
       ≡ published (pulsed.frame.width, pulsed.frame.height) (sizes_of (box_facts before) rects) (looked before)

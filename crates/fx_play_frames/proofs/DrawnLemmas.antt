@@ -1,11 +1,15 @@
 -- What the renderer drew is what the definition draws.
-use Rattle.std.proofs.Common.{◌≡◌, ℕ, Bool, true, false, List, Option, Some, None, ◌∙◌, ap, ap₂, subst, refl}
-use Rattle.std.specs.Prelude.{IsSome}
+use Rattle.std.proofs.Common.{◌≡◌, ◌≤◌, ◌<◌, ◌^◌, ℕ, Bool, true, false, List, Option, Some, None, ◌∙◌, ap, ap₂, subst, refl, sym}
+use Rattle.std.specs.Prelude.{IfSome, IsSome}
 use Rattle.std.specs.Option.{option_map}
 use Rattle.fx_base.specs.declared.geometry.Rect.{Rect}
-use Rattle.fx_canvas.specs.Surfaces.{Surface}
+use Rattle.fx_canvas.specs.Surfaces.{IsSurface, Surface}
+use Rattle.fx_canvas_laws.specs.Frames.{Shows}
+use Rattle.fx_delta.specs.Pictures.{is_size}
 use Rattle.fx_kinds.specs.declared.facts.BoxFacts.{BoxFacts}
+use Rattle.fx_picture.specs.Entries.{HasDistinctBirths, Rises}
 use Rattle.fx_picture.specs.declared.entries.Entry.{Entry}
+use Rattle.fx_plain_frames.specs.Drawable.{IsDrawable}
 use Rattle.fx_plain_frames.specs.Pulses.{IsDrawn, scene_of, sizes_of}
 use Rattle.fx_pulse.specs.Rendering.{Rendering, last_frame, surface_of}
 use Rattle.fx_pulse.specs.declared.renderer.Frame.{Frame}
@@ -44,14 +48,33 @@ pub drawn_as : (world : World) (facts : Facts) (scene : Scene) (before now : Ren
     → IsFrame scene facts.window frame.width frame.height now.rects now.picture
     → frame.damage.items ≡ frame_damage (last_frame before) now.picture frame.width frame.height
     → IsSome now.canvas → (surface_of now.canvas).width ≡ frame.width → (surface_of now.canvas).height ≡ frame.height
-    → IsDrawnAs world before now frame
-drawn_as world facts scene before now frame are is shown damage some w h = record {
+    → IfSome (last_frame now) IsDrawable → IsDrawnAs world before now frame
+drawn_as world facts scene before now frame are is shown damage some w h drawable = record {
   shown = subst (λ (s : Scene). IsFrame s world.window frame.width frame.height now.rects now.picture) is
       (subst (λ (v : Option (ℕ × ℕ)). IsFrame scene v frame.width frame.height now.rects now.picture)
       (ap (λ (f : Facts). f.window) are ∙ facts_window world) shown);
   damage = damage;
   last = last_in now.canvas now.picture frame.width frame.height some w h;
+  drawable = subst (λ (last : Option Framed). IfSome last IsDrawable)
+      (last_in now.canvas now.picture frame.width frame.height some w h) drawable;
 }
+
+-- what a canvas shows can be drawn
+
+pub shown_drawable : (canvas : Option Surface) (surface : Surface) (picture : List Entry) → canvas ≡ Some surface
+    → is_size surface.width surface.height ≡ true → IsSurface surface → Shows (surface_of canvas) picture
+    → Rises picture → HasDistinctBirths picture
+    → IfSome {T = Framed} (option_map (λ (s : Surface). record { width = s.width; height = s.height; picture = picture }) canvas) IsDrawable
+shown_drawable canvas surface picture is sized whole shows rises births =
+    let IsSo : Option Surface → Type 0 =
+    λ c. IfSome {T = Framed} (option_map (λ (s : Surface). record { width = s.width; height = s.height; picture = picture }) c) IsDrawable in
+    let shown : Shows surface picture = subst (λ (c : Option Surface). Shows (surface_of c) picture) is shows in
+    subst IsSo (sym is) (record {
+      sized = sized;
+      rises = rises;
+      births = births;
+      pixels = λ x y a b. subst (λ (n : ℕ). n < 2 ^ 24) (shown x y a b) (whole.bytes x y);
+    })
 
 pub drawn_whole : (before mid now : World) (facts : Facts) (old new : Rendering) (made : Pulsed) (boxes : List BoxFacts) (rects : List Rect)
     → facts ≡ facts_of before → mid ≡ looked before → IsDrawnAs before old new made.frame → boxes ≡ facts.boxes → rects ≡ new.rects
@@ -63,6 +86,7 @@ drawn_whole before mid now facts old new made boxes rects are read drawn these t
     record {
       rects = new.rects;
       shown = drawn.shown;
+      drawable = drawn.drawable;
       damage = drawn.damage;
       published = out ∙ (ap₂ (λ bs rs. published (made.frame.width, made.frame.height) (sizes_of bs rs) mid) boxes_are there
           ∙ ap (published (made.frame.width, made.frame.height) (sizes_of (box_facts before) new.rects)) read);

@@ -3,6 +3,7 @@ use Rattle.std.specs.Prelude.{◌≡◌, ◌≤◌, ◌+◌, Some}
 use Rattle.std.specs.List.{sum_by}
 use Rattle.fx_canvas.specs.Painting.{most_writes}
 use Rattle.fx_layout.specs.Layouts.{IsLayout}
+use Rattle.fx_plain_frames.specs.Drawable.{IsDrawable}
 use Rattle.fx_plain_frames.specs.Pulses.{Pulsed, scene_of}
 use Rattle.fx_plain_work.specs.Works.{Counted}
 use Rattle.fx_pulse.specs.Rendering.{Rendering, last_frame}
@@ -26,6 +27,7 @@ pub record IsDrawnAs (world : World) (before now : Rendering) (frame : Frame) : 
   pub shown : IsFrame (scene_of world) world.window frame.width frame.height now.rects now.picture
   pub damage : frame.damage.items ≡ frame_damage (last_frame before) now.picture frame.width frame.height
   pub last : last_frame now ≡ Some (framed_as now frame)
+  pub drawable : IsDrawable (framed_as now frame)
 
 -- no more was worked for it than may be
 pub record IsDrawWork (world : World) (before now : Rendering) (frame : Frame) (old new : Counted) : Type 0 where

@@ -1,6 +1,8 @@
 //! What a `pulse` does: the next frame, and the sizes that are published behind it.
-ghost use Rattle.std.specs.Prelude.{◌≡◌, ◌<◌, ◌+◌, ◌-◌, ◌^◌, All, IfOk, IsSome, IsTrue, OnOk};
+ghost use Rattle.std.specs.Prelude.{◌≡◌, ◌<◌, ◌+◌, ◌-◌, ◌^◌, All, IfOk, IfSome, IsSome, IsTrue, OnOk, Some};
+ghost use Rattle.fx_delta.specs.Pictures.{is_size};
 ghost use Rattle.fx_frame_text.specs.declared.forms.Form.{Form as Image};
+ghost use Rattle.fx_plain_frames.specs.Drawable.{IsDrawable};
 ghost use Rattle.fx_plain_frames.specs.Playing.{IsShown};
 ghost use Rattle.fx_plain_dispatch.specs.Settling.{IsSettledWhole};
 ghost use Rattle.fx_plain_frames.specs.Pulses.{IsDrawn, course_behind, sizes_of as sizes};
@@ -27,6 +29,9 @@ use fx_stage::Stage;
 use fx_stage_facts::{Facts, publish, read_facts};
 use fx_store_model::Notices;
 use std::alloc::{AllocError, Global};
+
+/// The most pixels of a frame each way.
+const MOST_PIXELS: u32 = 2048;
 
 /// A frame that was made, and who was told of the sizes that it published.
 #[derive(Drop)]
@@ -142,22 +147,37 @@ fn draw<L: Ledgers>(
     Ok(frame)
 }
 
-/// Whether there is a canvas, and all of the rectangles lie in it.
+/// Whether there is a canvas of a frame's size, and all of the rectangles lie in it.
 fn is_shown(renderer: &Renderer, rects: &[Rect]) -> bool
     ensures some { IsTrue result → IsSome renderer.now.canvas }
     ensures small { IsTrue result → All IsSmallRect rects.now }
+    ensures drawable { IsTrue result → IfSome (last_frame renderer.now) IsDrawable }
 {
     match renderer.canvas() {
         None => false,
-        Some(canvas) => holds_all(canvas, rects),
+        Some(canvas) => is_shown_on(renderer, canvas, rects),
     }
 }
 
-fn holds_all(canvas: &Canvas, rects: &[Rect]) -> bool
-    ensures { IsTrue result → All IsSmallRect rects.now }
+fn is_shown_on(renderer: &Renderer, canvas: &Canvas, rects: &[Rect]) -> bool
+    requires { renderer.now.canvas ≡ Some canvas.now }
+    ensures small { IsTrue result → All IsSmallRect rects.now }
+    ensures drawable { IsTrue result → IfSome (last_frame renderer.now) IsDrawable }
 {
+    renderer.laws();
+    if !has_frame_size(canvas) {
+        return false;
+    }
     canvas.laws();
     canvas.has_all(rects)
+}
+
+/// Has it the size of a frame: at least one pixel each way, and at most 2,048?
+fn has_frame_size(canvas: &Canvas) -> bool
+    ensures { result ≡ is_size canvas.now.width canvas.now.height }
+{
+    let (width, height) = (canvas.width(), canvas.height());
+    (1 <= width && width <= MOST_PIXELS) && (1 <= height && height <= MOST_PIXELS)
 }
 
 /// Publishes the sizes of these nodes, and keeps the window.

@@ -14,6 +14,7 @@ pub returns-clause-drawn : goal.returns-clause-drawn
 returns-clause-drawn g c = λ world are.
     drawn_as world c.args.facts.now _ c.args.renderer.now c.pulse.new.self c.in_ok-frame.frame are (c.scene_in-scene.ensures.scene world are)
     c.in_ok-frame.ensures.frame c.in_ok-frame.ensures.damage (c.is_shown.ensures.some (subst IsTrue (sym c.if-not-is_shown.false) refl)) c.in_ok-frame.ensures.width c.in_ok-frame.ensures.height
+    (c.is_shown.ensures.drawable (subst IsTrue (sym c.if-not-is_shown.false) refl))
 
 pub returns-clause-once : goal.returns-clause-once
 returns-clause-once g c =

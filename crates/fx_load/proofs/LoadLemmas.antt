@@ -19,7 +19,7 @@ use Rattle.fx_port.specs.Files.{Files}
 use Rattle.fx_port.specs.declared.files.FetchError.{FetchError}
 use Rattle.fx_port.specs.declared.files.FetchError.TheVariants as fetch
 use Rattle.fx_scene_acts.specs.declared.tasks.Task.{Task}
-use Rattle.fx_scene_load.specs.Courses.{Course, first_course}
+use Rattle.fx_scene_course.specs.Courses.{Course, first_course}
 use Rattle.fx_scene_load.specs.Documents.{document_in}
 use Rattle.fx_scene_load.specs.Reading.{IsSceneRead}
 use Rattle.fx_script_commands.specs.Requests.{Numbered}

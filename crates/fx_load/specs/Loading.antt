@@ -11,7 +11,7 @@ use Rattle.fx_port.specs.Files.{Files}
 use Rattle.fx_scene_acts.specs.Acts.{task_of}
 use Rattle.fx_scene_acts.specs.declared.tasks.Doing.TheVariants.{Step}
 use Rattle.fx_scene_acts.specs.declared.tasks.Task.{Task}
-use Rattle.fx_scene_load.specs.Courses.{Course, first_course, place_in}
+use Rattle.fx_scene_course.specs.Courses.{Course, first_course, place_in}
 use Rattle.fx_scene_load.specs.Documents.{document_in}
 use Rattle.fx_scene_load.specs.Reading.{IsSceneRead}
 use Rattle.fx_scene_plan.specs.declared.steps.PlannedStep.TheVariants as planned

@@ -38,7 +38,6 @@ flaw_word flaw.Cycle = codes "cycle"
 flaw_word flaw.Child = codes "child"
 flaw_word flaw.ReadOnly = codes "readonly"
 flaw_word flaw.Limit = codes "limit"
-flaw_word flaw.NotBuilt = codes "notbuilt"
 
 unfoldable pub kind_word : FaultKind → List ℕ
 kind_word Missing = codes "missing"

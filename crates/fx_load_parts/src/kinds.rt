@@ -63,6 +63,5 @@ fn flaw_word(flaw: Flaw) -> &'static str
         Flaw::Child => "child",
         Flaw::ReadOnly => "readonly",
         Flaw::Limit => "limit",
-        Flaw::NotBuilt => "notbuilt",
     }
 }

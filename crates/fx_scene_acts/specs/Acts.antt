@@ -1,6 +1,6 @@
 -- What tasks make of a world: each is a step of building, a fault, or a look for room. The first fault ends them, and
 -- so does the first step that is refused, whose word is a flaw at its place.
-use Rattle.std.specs.Prelude.{◌≡◌, ℕ, List, [], ◌∷◌, Result, Ok, Err}
+use Rattle.std.specs.Prelude.{◌≡◌, ℕ, Bool, true, false, List, [], ◌∷◌, Result, Ok, Err}
 use Rattle.fx_base.specs.declared.positions.Place.{Place}
 use Rattle.fx_base.specs.declared.positions.Position.{Position}
 use Rattle.fx_scene_plan.specs.Plans.{Standing, roomy, stepped, unbuilt}
@@ -9,6 +9,7 @@ use Rattle.fx_stage_types.specs.declared.refusals.Refusal.{Refusal}
 use Rattle.fx_stage_types.specs.declared.refusals.Refusal.TheVariants as word
 use Rattle.fx_scene_acts.specs.declared.acts.Act.{Act}
 use Rattle.fx_scene_acts.specs.declared.acts.Deed.{Deed}
+use Rattle.fx_scene_acts.specs.declared.acts.Deed.TheVariants as deed
 use Rattle.fx_scene_acts.specs.declared.tasks.Doing.{Doing}
 use Rattle.fx_scene_acts.specs.declared.tasks.Doing.TheVariants as doing
 use Rattle.fx_scene_acts.specs.declared.tasks.SceneFault.{SceneFault}
@@ -45,6 +46,14 @@ flaw_of word.Full = flaw.Limit
 -- what a place of a document asks for
 abbrev pub act_of : Position → Deed → Act
 act_of place deed = record { place = place; deed = deed }
+
+abbrev pub is_node_deed : Deed → Bool
+is_node_deed deed.Node = true
+is_node_deed _ = false
+
+-- a node is read before anything behind the act
+abbrev pub is_node_act : Act → Bool
+is_node_act act = is_node_deed act.deed
 
 -- what is done at a place of a file
 abbrev pub task_of : Place → Doing → Task

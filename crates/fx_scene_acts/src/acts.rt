@@ -1,4 +1,7 @@
 //! What documents ask for, in the order of work.
+ghost use Rattle.std.specs.Prelude.{◌≡◌};
+ghost use Rattle.fx_scene_acts.specs.Acts as spec;
+
 use fx_base::{Position, Text};
 use fx_kinds::Class;
 use fx_scene_flaws::Flaw;
@@ -28,6 +31,8 @@ pub enum Deed {
     File(usize, Text),
     /// The property is bound behind all documents.
     Bind(Binding),
+    /// The node of a definition within a value that stands here is read before anything behind it.
+    Node,
 }
 
 /// What a place of a document asks for.
@@ -35,4 +40,11 @@ pub enum Deed {
 pub struct Act {
     pub place: Position,
     pub deed: Deed,
+}
+
+/// Is a node read before anything behind the act?
+pub fn is_node_act(act: &Act) -> bool
+    ensures { result ≡ spec.is_node_act act.now }
+{
+    matches!(act.deed, Deed::Node)
 }

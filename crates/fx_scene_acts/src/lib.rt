@@ -8,6 +8,6 @@ mod acts;
 mod flaws;
 mod tasks;
 
-pub use acts::{Act, Binding, Deed};
+pub use acts::{Act, Binding, Deed, is_node_act};
 pub use flaws::flaw_of;
 pub use tasks::{Doing, SceneFault, Task};

@@ -7,11 +7,11 @@ use Rattle.fx_doc_grammar.specs.Grammar.{Attr, Head}
 use Rattle.fx_scene_acts.specs.declared.acts.Act.{Act}
 use Rattle.fx_scene_acts.specs.declared.acts.Deed.{Deed}
 use Rattle.fx_scene_acts.specs.declared.acts.Deed.TheVariants as deed
-use Rattle.fx_scene_elements.specs.Added.{deed_at, flaw_at}
+use Rattle.fx_scene_elements.specs.Added.{deed_at, flaw_at, node_at}
 use Rattle.fx_scene_elements.specs.declared.entries.Entry.{Entry}
 use Rattle.fx_scene_elements.specs.declared.entries.Entry.TheVariants as entry
 use Rattle.fx_scene_literals.specs.declared.made.Found.{Found}
-use Rattle.fx_scene_literals.specs.declared.made.Found.TheVariants.{Whole, Flaw}
+use Rattle.fx_scene_literals.specs.declared.made.Found.TheVariants.{Whole, Flaw, Node}
 use Rattle.fx_scene_literals.specs.declared.made.Made.{Made}
 use Rattle.fx_scene_literals.specs.declared.made.Made.TheVariants.{Location, Plain, Track}
 use Rattle.fx_scene_plan.specs.declared.steps.PlannedStep.TheVariants as planned
@@ -80,8 +80,10 @@ room_acts entry.Sheet node place = []
 abbrev pub named_acts : Entry → ℕ → Head → Found → List Act
 named_acts kind node head (Whole made) = made_acts kind node (item_place kind head made) made
 named_acts kind node head (Flaw mistake spot) = room_acts kind node head.position ++ flaw_at spot mistake
+named_acts kind node head (Node spot) = node_at spot
 
 -- what a reference stands for has no room to be looked for where it may not stand there
 abbrev pub referred_acts : Entry → ℕ → Position → Found → List Act
 referred_acts kind node place (Whole made) = made_acts kind node place made
 referred_acts kind node place (Flaw mistake spot) = flaw_at spot mistake
+referred_acts kind node place (Node spot) = node_at spot

@@ -4,14 +4,14 @@ use Rattle.fx_base.specs.declared.positions.Position.{Position}
 use Rattle.fx_doc_grammar.specs.Grammar.{Head, Nodes, Nothing, Letters, Node}
 use Rattle.fx_doc_grammar.specs.Machine.{is_nothing}
 use Rattle.fx_scene_acts.specs.declared.acts.Act.{Act}
-use Rattle.fx_scene_elements.specs.Added.{Asked, asked, asked_then, deed_at, flaw_at, flaw_in}
+use Rattle.fx_scene_elements.specs.Added.{Asked, asked, asked_then, deed_at, flaw_at, flaw_in, node_at}
 use Rattle.fx_scene_elements.specs.Targets.{Target, target_kind, value_deed}
 use Rattle.fx_scene_literals.specs.Instances.{is_reference}
 use Rattle.fx_scene_literals.specs.Literals.{Told, closed, no_value, want_of}
 use Rattle.fx_scene_literals.specs.References.{referred}
 use Rattle.fx_scene_literals.specs.Views.{item_told}
 use Rattle.fx_scene_literals.specs.declared.made.Found.{Found}
-use Rattle.fx_scene_literals.specs.declared.made.Found.TheVariants.{Whole, Flaw}
+use Rattle.fx_scene_literals.specs.declared.made.Found.TheVariants.{Whole, Flaw, Node as Unread}
 use Rattle.fx_scene_literals.specs.declared.made.Made.TheVariants.{Location, Plain, Track}
 use Rattle.fx_scene_literals.specs.declared.made.Part.TheVariants.{One}
 use Rattle.fx_scene_things.specs.Names.{Names}
@@ -29,6 +29,7 @@ found_acts node name place target (Whole (Plain content)) = deed_at place (value
 found_acts node name place target (Whole (Track track)) = []
 found_acts node name place target (Whole (Location file)) = []
 found_acts node name place target (Flaw mistake spot) = flaw_at spot mistake
+found_acts node name place target (Unread spot) = node_at spot
 
 abbrev pub told_acts : ℕ → List ℕ → Position → Target → Told → Asked
 told_acts node name place target t = asked (found_acts node name place target t.found) t.names

@@ -1,8 +1,8 @@
 -- Style classes and style sheets as elements: lists of texts and of locations.
-use Rattle.std.specs.Prelude.{ℕ, false, List, [], ◌++◌, Result, Ok, Err, if◌then◌else◌}
+use Rattle.std.specs.Prelude.{ℕ, Bool, true, false, List, [], ◌++◌, Result, Ok, Err, if◌then◌else◌}
 use Rattle.fx_doc_grammar.specs.Grammar.{Head, Nodes, Nothing, Letters, Node}
 use Rattle.fx_kinds.specs.declared.classes.Class.{Class}
-use Rattle.fx_scene_elements.specs.Added.{Asked, asked, asked_then, flaw_at}
+use Rattle.fx_scene_elements.specs.Added.{Asked, asked, asked_then, flaw_at, stops}
 use Rattle.fx_scene_elements.specs.Entries.{named_acts, referred_acts}
 use Rattle.fx_scene_elements.specs.Held.{closed_asked}
 use Rattle.fx_scene_elements.specs.declared.entries.Entry.{Entry}
@@ -42,12 +42,20 @@ item_asked kind scope names node (Node before head inner) =
     if is_reference head.name then reference_item kind scope names node head inner
     else instance_item kind scope names node head inner
 
+-- nothing is read behind a node that is read first
+abbrev pub next_asked : Bool → Entry → Scope → Names → ℕ → Nodes → Asked
+next_asked true kind scope names node item = asked [] names
+next_asked false kind scope names node item = item_asked kind scope names node item
+
+-- an item behind others
+abbrev pub with_item : Entry → Scope → ℕ → Asked → Nodes → Asked
+with_item kind scope node before item =
+    asked_then before (λ known. next_asked (stops before.acts) kind scope known node item)
+
 -- a style class or a style sheet for each instance and each reference
 unfoldable pub list_asked : Entry → Scope → Names → ℕ → Nodes → Asked
 list_asked kind scope names node Nothing = asked [] names
 list_asked kind scope names node (Letters before text spot) =
-    asked_then (list_asked kind scope names node before)
-    (λ known. item_asked kind scope known node (Letters Nothing text spot))
+    with_item kind scope node (list_asked kind scope names node before) (Letters Nothing text spot)
 list_asked kind scope names node (Node before head inner) =
-    asked_then (list_asked kind scope names node before)
-    (λ known. item_asked kind scope known node (Node Nothing head inner))
+    with_item kind scope node (list_asked kind scope names node before) (Node Nothing head inner)

@@ -7,7 +7,7 @@ use Rattle.fx_doc_grammar.specs.Grammar.{Head, Nodes, Nothing, Letters, Node}
 use Rattle.fx_kinds.specs.declared.classes.Class.{Class}
 use Rattle.fx_scene_acts.specs.declared.acts.Act.{Act}
 use Rattle.fx_scene_acts.specs.declared.acts.Deed.TheVariants.{Step}
-use Rattle.fx_scene_elements.specs.Added.{deed_at, flaw_at, flaw_in}
+use Rattle.fx_scene_elements.specs.Added.{deed_at, flaw_at, flaw_in, stops}
 use Rattle.fx_scene_elements.specs.declared.lanes.Lane.{Lane}
 use Rattle.fx_scene_flaws.specs.declared.flaws.Flaw.{Flaw as Mistake}
 use Rattle.fx_scene_flaws.specs.declared.flaws.Flaw.TheVariants as flaw
@@ -18,7 +18,7 @@ use Rattle.fx_scene_literals.specs.References.{referred}
 use Rattle.fx_scene_literals.specs.declared.instances.Want.{Want}
 use Rattle.fx_scene_literals.specs.declared.instances.Want.TheVariants as want
 use Rattle.fx_scene_literals.specs.declared.made.Found.{Found}
-use Rattle.fx_scene_literals.specs.declared.made.Found.TheVariants.{Whole, Flaw}
+use Rattle.fx_scene_literals.specs.declared.made.Found.TheVariants.{Whole, Flaw, Node as Unread}
 use Rattle.fx_scene_literals.specs.declared.made.Made.TheVariants.{Location, Plain, Track}
 use Rattle.fx_scene_plan.specs.declared.steps.PlannedStep.TheVariants as planned
 use Rattle.fx_scene_things.specs.Names.{Names}
@@ -41,6 +41,7 @@ tracks_in (Whole (Track track)) = track ∷ []
 tracks_in (Whole (Plain content)) = []
 tracks_in (Whole (Location name)) = []
 tracks_in (Flaw mistake spot) = []
+tracks_in (Unread spot) = []
 
 abbrev pub found_told : literal.Told → Told
 found_told t = told (flaw_in t.found) (tracks_in t.found) t.names
@@ -65,6 +66,7 @@ closed_told acts tracks t = told (acts ++ flaw_in t.found) tracks t.names
 abbrev pub limited : ℕ → Position → Found → Found
 limited count place (Whole made) = if nat_le 256 count then Flaw flaw.Limit place else Whole made
 limited count place (Flaw mistake spot) = Flaw mistake spot
+limited count place (Unread spot) = Unread spot
 
 abbrev pub referred_told : Found → literal.Told → Told
 referred_told found t = closed_told (flaw_in found) (tracks_in found) t
@@ -87,10 +89,15 @@ part_told scope wanted names count (Node before head inner) = child_told scope w
 abbrev pub both : Told → Told → Told
 both one other = told (one.acts ++ other.acts) (one.tracks ++ other.tracks) other.names
 
+-- nothing is read behind a node that is read first
+abbrev pub next_told : Bool → Scope → Want → Names → ℕ → Nodes → Told
+next_told true scope wanted names count item = told [] [] names
+next_told false scope wanted names count item = part_told scope wanted names count item
+
 -- one part behind others, which stand behind so many constraints
 abbrev pub with_part : Scope → Want → ℕ → Told → Nodes → Told
 with_part scope wanted earlier before item =
-    both before (part_told scope wanted before.names (earlier + length before.tracks) item)
+    both before (next_told (stops before.acts) scope wanted before.names (earlier + length before.tracks) item)
 
 unfoldable pub tracks_told : Scope → Want → ℕ → Names → Nodes → Told
 tracks_told scope wanted earlier names Nothing = told [] [] names

@@ -4,7 +4,7 @@ ghost use Rattle.fx_doc.specs.Views.{attr_view};
 ghost use Rattle.fx_scene_elements.specs.Entries as spec;
 ghost use Rattle.fx_scene_outline.specs.Views.{head_of};
 
-use crate::pushing::{push, push_flaw};
+use crate::pushing::{push, push_flaw, push_node};
 use fx_base::{Position, Text, Value};
 use fx_doc::{Attribute, Element};
 use fx_scene_acts::{Act, Deed};
@@ -36,6 +36,7 @@ pub(crate) fn add_referred(
     match found {
         Found::Whole(made) => add_made(alloc, entry, node, place, made, acts),
         Found::Flaw(flaw, spot) => push_flaw(acts, spot, flaw),
+        Found::Node(spot) => push_node(acts, spot),
     }
 }
 
@@ -60,6 +61,7 @@ pub(crate) fn add_named(
             add_room(alloc, entry, node, element.position, acts)?;
             push_flaw(acts, spot, flaw)
         }
+        Found::Node(spot) => push_node(acts, spot),
     }
 }
 

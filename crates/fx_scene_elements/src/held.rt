@@ -10,7 +10,7 @@ ghost use Rattle.fx_scene_outline.specs.Views.{content_of, head_of};
 ghost use Rattle.fx_scene_things.specs.Known.{known};
 ghost use Rattle.fx_scene_values.specs.Views.{scope_view};
 
-use crate::pushing::{push, push_flaw, push_flaw_in};
+use crate::pushing::{push, push_flaw, push_flaw_in, push_node};
 use crate::targets::{Target, target_kind, value_deed};
 use fx_base::{Position, Text};
 use fx_doc::{Content, Element};
@@ -154,6 +154,7 @@ fn add_found(
         }
         Found::Whole(_) => Ok(()),
         Found::Flaw(flaw, spot) => push_flaw(acts, spot, flaw),
+        Found::Node(spot) => push_node(acts, spot),
     }
 }
 

@@ -1,7 +1,8 @@
 //! Style classes and style sheets as elements.
-ghost use Rattle.std.specs.Prelude.{◌≡◌, ◌++◌, OnOk};
+ghost use Rattle.std.specs.Prelude.{◌≡◌, ◌++◌, ◌||◌, IfOk, OnOk};
 ghost use Rattle.fx_doc.specs.Views.{nodes_of, onto};
 ghost use Rattle.fx_doc_grammar.specs.Grammar.{Nothing};
+ghost use Rattle.fx_scene_elements.specs.Added.{stops};
 ghost use Rattle.fx_scene_elements.specs.Lists as spec;
 ghost use Rattle.fx_scene_outline.specs.Views.{content_of, head_of};
 ghost use Rattle.fx_scene_things.specs.Known.{known};
@@ -9,7 +10,7 @@ ghost use Rattle.fx_scene_values.specs.Views.{scope_view};
 
 use crate::entries::{Entry, add_named, add_referred};
 use crate::held::add_closed;
-use crate::pushing::push_flaw;
+use crate::pushing::{push_flaw, stops_from};
 use fx_doc::{Content, Element};
 use fx_kinds::Class;
 use fx_scene_acts::Act;
@@ -34,10 +35,37 @@ pub(crate) fn add_entries(
     ensures names { OnOk result (known names.new
         ≡ (spec.list_asked entry (scope_view scope.now) (known names.old) node (nodes_of content.now)).names) }
 {
+    let mut stopped = false;
     for item in content {
-        add_item(alloc, entry, scope, node, item, names, acts)?;
+        stopped = add_next(alloc, entry, scope, node, stopped, item, names, acts)?;
     }
     Ok(())
+}
+
+/// Adds an item, unless a node is read first. Answers whether one is read before anything behind the item.
+fn add_next(
+    alloc: Global,
+    entry: Entry,
+    scope: &Scope<'_>,
+    node: usize,
+    stopped: bool,
+    item: &Content,
+    names: &mut Names,
+    acts: &mut Vec<Act>,
+) -> Result<bool, AllocError>
+    ensures acts { OnOk result (acts.new.items ≡ acts.old.items ++ (spec.next_asked stopped entry (scope_view scope.now)
+        (known names.old) node (onto item.now Nothing)).acts) }
+    ensures names { OnOk result (known names.new ≡ (spec.next_asked stopped entry (scope_view scope.now)
+        (known names.old) node (onto item.now Nothing)).names) }
+    ensures stops { IfOk result (λ now. now ≡ stopped || stops (spec.next_asked stopped entry (scope_view scope.now)
+        (known names.old) node (onto item.now Nothing)).acts) }
+{
+    if stopped {
+        return Ok(true);
+    }
+    let from = acts.len();
+    add_item(alloc, entry, scope, node, item, names, acts)?;
+    Ok(stops_from(acts.as_slice(), from))
 }
 
 fn add_item(

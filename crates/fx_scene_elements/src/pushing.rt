@@ -1,9 +1,9 @@
 //! Adding acts.
-ghost use Rattle.std.specs.Prelude.{◌≡◌, ◌++◌, OnOk};
+ghost use Rattle.std.specs.Prelude.{◌≡◌, ◌≤◌, ◌++◌, OnOk, drop, length};
 ghost use Rattle.fx_scene_elements.specs.Added as spec;
 
 use fx_base::Position;
-use fx_scene_acts::{Act, Deed};
+use fx_scene_acts::{Act, Deed, is_node_act};
 use fx_scene_flaws::Flaw;
 use fx_scene_literals::Found;
 use std::alloc::AllocError;
@@ -23,14 +23,30 @@ pub fn push_flaw(acts: &mut Vec<Act>, place: Position, flaw: Flaw) -> Result<(),
     push(acts, place, Deed::Flaw(flaw))
 }
 
-/// Adds what is wrong with what was found, if anything is.
+/// A node is read before anything behind it.
+pub(crate) fn push_node(acts: &mut Vec<Act>, place: Position) -> Result<(), AllocError>
+    ensures ok { OnOk result (acts.new.items ≡ acts.old.items ++ spec.node_at place) }
+{
+    push(acts, place, Deed::Node)
+}
+
+/// Adds why reading stops, if it does.
 pub fn push_flaw_in(found: Found, acts: &mut Vec<Act>) -> Result<(), AllocError>
     ensures ok { OnOk result (acts.new.items ≡ acts.old.items ++ spec.flaw_in found) }
 {
     match found {
         Found::Whole(_) => Ok(()),
         Found::Flaw(flaw, spot) => push_flaw(acts, spot, flaw),
+        Found::Node(spot) => push_node(acts, spot),
     }
+}
+
+/// Is a node read before anything behind the acts from this one on?
+pub(crate) fn stops_from(acts: &[Act], from: usize) -> bool
+    requires { from ≤ length acts.now }
+    ensures { result ≡ spec.stops (drop from acts.now) }
+{
+    acts.split_at(from).1.iter().any(|act| is_node_act(act))
 }
 
 /// Adds what is done at one place.

@@ -1,8 +1,8 @@
 //! The constraints of columns and rows as elements.
-ghost use Rattle.std.specs.Prelude.{◌≡◌, ◌++◌, IfOk, OnOk, length};
+ghost use Rattle.std.specs.Prelude.{◌≡◌, ◌++◌, ◌||◌, IfOk, OnOk, length};
 ghost use Rattle.fx_doc.specs.Views.{nodes_of, onto};
 ghost use Rattle.fx_doc_grammar.specs.Grammar.{Nothing};
-ghost use Rattle.fx_scene_elements.specs.Added.{flaw_in};
+ghost use Rattle.fx_scene_elements.specs.Added.{flaw_in, stops};
 ghost use Rattle.fx_scene_elements.specs.Elements.{columns_by, rows_by};
 ghost use Rattle.fx_scene_elements.specs.Tracks as spec;
 ghost use Rattle.fx_scene_outline.specs.Views.{content_of, head_of};
@@ -11,7 +11,7 @@ ghost use Rattle.fx_scene_values.specs.Views.{scope_view};
 
 use crate::held::add_closed;
 use crate::lanes::{Lane, add_lanes, tracks_of};
-use crate::pushing::{push, push_flaw};
+use crate::pushing::{push, push_flaw, push_node, stops_from};
 use fx_base::{List, Position, Track};
 use fx_doc::{Content, Element};
 use fx_kinds::Class;
@@ -134,11 +134,51 @@ fn add_tracks(
         (length earlier.now) (known names.old) (nodes_of content.now)).names) }
 {
     let mut tracks = Vec::new(alloc);
+    let mut stopped = false;
     for item in content {
         let count = earlier.len() + tracks.len();
-        add_part(alloc, scope, want, count, item, names, &mut tracks, acts)?;
+        stopped = add_next(
+            alloc,
+            scope,
+            want,
+            count,
+            stopped,
+            item,
+            names,
+            &mut tracks,
+            acts,
+        )?;
     }
     Ok(tracks)
+}
+
+/// Adds a part, unless a node is read first. Answers whether one is read before anything behind the part.
+fn add_next(
+    alloc: Global,
+    scope: &Scope<'_>,
+    want: Want,
+    count: usize,
+    stopped: bool,
+    item: &Content,
+    names: &mut Names,
+    tracks: &mut Vec<Track>,
+    acts: &mut Vec<Act>,
+) -> Result<bool, AllocError>
+    ensures acts { OnOk result (acts.new.items ≡ acts.old.items ++ (spec.next_told stopped (scope_view scope.now) want
+        (known names.old) count (onto item.now Nothing)).acts) }
+    ensures tracks { OnOk result (tracks.new.items ≡ tracks.old.items ++ (spec.next_told stopped (scope_view scope.now)
+        want (known names.old) count (onto item.now Nothing)).tracks) }
+    ensures names { OnOk result (known names.new ≡ (spec.next_told stopped (scope_view scope.now) want
+        (known names.old) count (onto item.now Nothing)).names) }
+    ensures stops { IfOk result (λ now. now ≡ stopped || stops (spec.next_told stopped (scope_view scope.now) want
+        (known names.old) count (onto item.now Nothing)).acts) }
+{
+    if stopped {
+        return Ok(true);
+    }
+    let from = acts.len();
+    add_part(alloc, scope, want, count, item, names, tracks, acts)?;
+    Ok(stops_from(acts.as_slice(), from))
 }
 
 fn add_part(
@@ -208,6 +248,7 @@ fn limited(count: usize, place: Position, found: Found) -> Found
             }
         }
         Found::Flaw(flaw, spot) => Found::Flaw(flaw, spot),
+        Found::Node(spot) => Found::Node(spot),
     }
 }
 
@@ -266,5 +307,6 @@ fn add_found(found: Found, tracks: &mut Vec<Track>, acts: &mut Vec<Act>) -> Resu
         Found::Whole(Made::Track(track)) => Ok(tracks.push(track)?),
         Found::Whole(_) => Ok(()),
         Found::Flaw(flaw, spot) => push_flaw(acts, spot, flaw),
+        Found::Node(spot) => push_node(acts, spot),
     }
 }

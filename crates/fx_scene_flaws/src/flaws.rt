@@ -31,8 +31,6 @@ pub enum Flaw {
     ReadOnly,
     /// A limit would be passed.
     Limit,
-    /// It is of a form that isn't read yet.
-    NotBuilt,
 }
 
 /// What is wrong, and where.

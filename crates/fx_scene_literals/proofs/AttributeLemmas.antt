@@ -1,14 +1,12 @@
 -- What is made behind some attributes, one attribute more at a time.
-use Rattle.std.proofs.Common.{◌≡◌, ◌<◌, ℕ, ◌+◌, List, ◌∷◌, drop, length, get_or, map, sym, ◌∙◌, ap}
+use Rattle.std.proofs.Common.{◌≡◌, ◌<◌, ℕ, ◌+◌, List, ◌∷◌, drop, length, get_or, map, refl, sym, ◌∙◌, ap}
 use Rattle.std.proofs.lemmas.List.{drop_more}
-use Rattle.fx_base.specs.declared.positions.Position.{Position}
 use Rattle.fx_doc.specs.Views.{attr_view}
 use Rattle.fx_doc.specs.declared.document.Attribute.{Attribute}
 use Rattle.fx_kinds.specs.declared.classes.Class.{Class}
-use Rattle.fx_scene_flaws.specs.declared.flaws.Flaw.{Flaw as Mistake}
 use Rattle.fx_scene_literals.specs.Literals.{Told, attribute_told, found_then, made_from, told}
 use Rattle.fx_scene_literals.specs.declared.made.Found.{Found}
-use Rattle.fx_scene_literals.specs.declared.made.Found.TheVariants.{Whole, Flaw}
+use Rattle.fx_scene_literals.specs.declared.made.Found.TheVariants.{Whole, Flaw, Node}
 use Rattle.fx_scene_literals.specs.declared.made.Made.{Made}
 use Rattle.fx_scene_things.specs.Names.{Names}
 use Rattle.fx_scene_values.specs.Scopes.{Scope}
@@ -29,15 +27,27 @@ next_is scope class attributes i x made old names found whole h is found_is name
     ∙ (sym (ap (λ left. made_from scope class made old (map attr_view left))
     (drop_more attributes i x h ∙ ap (λ y. y ∷ drop (i + 1) attributes) (sym is))) ∙ so_far))
 
+abbrev IsStop : Found → Type 0
+IsStop (Whole made) = ⊥
+IsStop (Flaw mistake place) = Unit {0}
+IsStop (Node place) = Unit {0}
+
+stopped : (scope : Scope) (class : Class) (attributes : List Attribute) (i : ℕ) (stop : Found) (names : Names)
+    → IsStop stop → rest_of scope class attributes i stop names ≡ told stop names
+stopped scope class attributes i (Whole made) names h = absurd h
+stopped scope class attributes i (Flaw mistake place) names h = refl
+stopped scope class attributes i (Node place) names h = refl
+
 pub attribute_stops : (scope : Scope) (class : Class) (attributes : List Attribute) (i : ℕ) (x : Attribute) (made : Made)
-    (old names : Names) (found : Found) (whole : Told) (mistake : Mistake) (place : Position) → i < length attributes
+    (old names : Names) (found : Found) (whole : Told) (stop : Found) → i < length attributes
     → x ≡ get_or attributes i x → found ≡ (attribute_told scope class (attr_view x) made old).found
-    → names ≡ (attribute_told scope class (attr_view x) made old).names → found ≡ Flaw mistake place
+    → names ≡ (attribute_told scope class (attr_view x) made old).names → found ≡ stop → IsStop stop
     → made_from scope class made old (map attr_view (drop i attributes)) ≡ whole
-    → told (Flaw mistake place) names ≡ whole
-attribute_stops scope class attributes i x made old names found whole mistake place h is found_is names_is stops so_far =
-    ap (λ (f : Found). rest_of scope class attributes i f names) (sym stops)
-    ∙ next_is scope class attributes i x made old names found whole h is found_is names_is so_far
+    → told stop names ≡ whole
+attribute_stops scope class attributes i x made old names found whole stop h is found_is names_is stops stands so_far =
+    sym (stopped scope class attributes i stop names stands)
+    ∙ (ap (λ (f : Found). rest_of scope class attributes i f names) (sym stops)
+    ∙ next_is scope class attributes i x made old names found whole h is found_is names_is so_far)
 
 pub attribute_goes : (scope : Scope) (class : Class) (attributes : List Attribute) (i : ℕ) (x : Attribute)
     (made next : Made) (old names : Names) (found : Found) (whole : Told) → i < length attributes

@@ -1,6 +1,6 @@
 -- An instance where a value or a part of a list is wanted: which class it is of, or what is wrong at its name.
+pub use Rattle.fx_scene_outline.specs.Nodes.{is_define, is_include, is_reference}
 use Rattle.std.specs.Prelude.{ℕ, Bool, true, false, ◌||◌, List, codes, Option, Some, None, Result, Ok, Err, if◌then◌else◌}
-use Rattle.std.specs.Str.{bytes_eq}
 use Rattle.fx_base.specs.declared.kinds.Kind.{Kind}
 use Rattle.fx_base.specs.declared.kinds.Kind.TheVariants as kind
 use Rattle.fx_doc_grammar.specs.Grammar.{Head}
@@ -59,16 +59,11 @@ abbrev pub unless_flaw : Class → Option Flaw → Result Class Flaw
 unless_flaw class (Some mistake) = Err mistake
 unless_flaw class None = Ok class
 
--- what is wrong with a node; nodes in definitions within values aren't read yet
-abbrev pub node_flaw : Want → Flaw
-node_flaw want.Defined = flaw.NotBuilt
-node_flaw _ = flaw.Child
-
 -- of all that is wrong, the first in the order of flaws
 abbrev pub class_fit : Scope → Want → Head → Class → Result Class Flaw
 class_fit scope wanted head class =
     if lacks_import scope.imports head.name class then Err flaw.Import
-    else (if is_scene_node class head.attributes then Err (node_flaw wanted)
+    else (if is_scene_node class head.attributes then Err flaw.Child
     else (if lacks_value class head.attributes then Err flaw.Value else unless_flaw class (misfit wanted class)))
 
 abbrev pub class_if : Scope → Want → Head → Option Class → Result Class Flaw
@@ -77,28 +72,17 @@ class_if scope wanted head (Some class) = class_fit scope wanted head class
 
 -- elements that are no instances
 
-abbrev pub is_include : List ℕ → Bool
-is_include name = bytes_eq name (codes "fx:include")
+-- a reference may not stand there, nor may an include, which is a node
+abbrev pub insert_flaw : Head → Flaw
+insert_flaw head = if has_attribute head.attributes (codes "source") then flaw.Child else flaw.Value
 
-abbrev pub is_reference : List ℕ → Bool
-is_reference name = bytes_eq name (codes "fx:reference")
-
-abbrev pub is_define : List ℕ → Bool
-is_define name = bytes_eq name (codes "fx:define")
-
--- a reference may not stand there; an include is a node
-abbrev pub insert_flaw : Want → Head → Flaw
-insert_flaw wanted head =
-    if has_attribute head.attributes (codes "source")
-    then (if is_reference head.name then flaw.Child else node_flaw wanted) else flaw.Value
-
-abbrev pub outside_flaw : Want → Head → Flaw
-outside_flaw wanted head =
-    if is_include head.name || is_reference head.name then insert_flaw wanted head
+abbrev pub outside_flaw : Head → Flaw
+outside_flaw head =
+    if is_include head.name || is_reference head.name then insert_flaw head
     else (if is_define head.name then flaw.Child else flaw.Property)
 
 -- the class of an instance that may stand where this is wanted, or what is wrong with an element at its name
 unfoldable pub entered : Scope → Want → Head → Result Class Flaw
 entered scope wanted head =
     if is_instance head.name then class_if scope wanted head (class_named head.name)
-    else Err (outside_flaw wanted head)
+    else Err (outside_flaw head)

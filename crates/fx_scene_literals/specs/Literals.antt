@@ -7,7 +7,7 @@ use Rattle.fx_base.specs.declared.kinds.Kind.{Kind}
 use Rattle.fx_base.specs.declared.positions.Position.{Position}
 use Rattle.fx_base.specs.declared.values.Value.{Value as Content}
 use Rattle.fx_base.specs.declared.values.Value.TheVariants as value
-use Rattle.fx_doc_grammar.specs.Grammar.{Attr, Head, Nodes, Nothing, Letters, Node}
+use Rattle.fx_doc_grammar.specs.Grammar.{Attr, Head, Nodes, Nothing, Letters, Node as Child}
 use Rattle.fx_doc_grammar.specs.Machine.{is_nothing}
 use Rattle.fx_kinds.specs.declared.classes.Class.{Class}
 use Rattle.fx_kinds.specs.declared.classes.Class.TheVariants as class
@@ -24,13 +24,15 @@ use Rattle.fx_scene_literals.specs.declared.fields.Field.{Field}
 use Rattle.fx_scene_literals.specs.declared.instances.Want.{Want}
 use Rattle.fx_scene_literals.specs.declared.instances.Want.TheVariants as want
 use Rattle.fx_scene_literals.specs.declared.made.Found.{Found}
-use Rattle.fx_scene_literals.specs.declared.made.Found.TheVariants.{Whole, Flaw}
+use Rattle.fx_scene_literals.specs.declared.made.Found.TheVariants.{Whole, Flaw, Node}
 use Rattle.fx_scene_literals.specs.declared.made.Made.{Made}
 use Rattle.fx_scene_literals.specs.declared.made.Made.TheVariants.{Location, Plain, Track}
 use Rattle.fx_scene_literals.specs.declared.made.Part.{Part}
 use Rattle.fx_scene_literals.specs.declared.made.Part.TheVariants.{Closed, Defined, Fields, One}
 use Rattle.fx_scene_names.specs.Names.{is_instance, is_static, lacks_owner}
+use Rattle.fx_scene_outline.specs.Nodes.{is_defined_node}
 use Rattle.fx_scene_things.specs.Names.{Names, has_name, with_name}
+use Rattle.fx_scene_things.specs.Settled.{names_behind}
 use Rattle.fx_scene_things.specs.declared.things.Thing.{Thing}
 use Rattle.fx_scene_things.specs.declared.things.Thing.TheVariants as thing
 use Rattle.fx_scene_values.specs.Forms.{form_of}
@@ -40,7 +42,7 @@ use Rattle.fx_scene_values.specs.declared.values.Given.{Given}
 use Rattle.fx_scene_values.specs.declared.values.Given.TheVariants as given
 use Rattle.fx_text.specs.Classes.{is_identifier}
 
--- what is made, or what is wrong, and the names that are known then
+-- what is made, or why reading stops, and the names that are known then
 pub record Told : Type 0 where
   pub found : Found
   pub names : Names
@@ -51,8 +53,9 @@ told found names = record { found = found; names = names }
 abbrev pub found_then : Found → Names → (Made → Names → Told) → Told
 found_then (Whole made) names next = next made names
 found_then (Flaw mistake place) names next = told (Flaw mistake place) names
+found_then (Node place) names next = told (Node place) names
 
--- reading on, unless something is wrong
+-- reading on, unless something is wrong, or a node is read first
 abbrev pub told_then : Told → (Made → Names → Told) → Told
 told_then t next = found_then t.found t.names next
 
@@ -229,6 +232,7 @@ with_made field (Location name) made = made
 abbrev pub with_found : Field → Found → Made → Found
 with_found field (Whole content) made = Whole (with_made field content made)
 with_found field (Flaw mistake place) made = Flaw mistake place
+with_found field (Node place) made = Node place
 
 abbrev pub with_told : Field → Told → Made → Told
 with_told field t made = told (with_found field t.found made) t.names
@@ -268,17 +272,32 @@ field_told scope inner names class made head empty =
 abbrev pub kept : Made → Found → Found
 kept made (Whole other) = Whole made
 kept made (Flaw mistake place) = Flaw mistake place
+kept made (Node place) = Node place
 
 abbrev pub kept_told : Made → Told → Told
 kept_told made t = told (kept made t.found) t.names
+
+-- a node that was read is passed over, and the names behind it are known; any other stops the reading
+abbrev pub settled_told : Made → Names → Position → Option Names → Told
+settled_told made names place None = told (Node place) names
+settled_told made names place (Some known) = told (Whole made) known
+
+-- a value in a definition within a value
+abbrev pub defined_value : Scope → Inner → Made → Names → Head → Told
+defined_value scope inner made names head = kept_told made (value_told scope inner names want.Defined true head)
+
+abbrev pub defined_told : Scope → Inner → Made → Names → Head → Told
+defined_told scope inner made names head =
+    if is_defined_node head
+    then settled_told made names head.position (names_behind scope.settled head.position)
+    else defined_value scope inner made names head
 
 abbrev pub child_told : Scope → Part → Bool → Made → Names → Inner → Head → Bool → Told
 child_told scope (One kind) first made names inner head empty =
     one_told scope inner names (want_of kind first) head
 child_told scope (Fields class) first made names inner head empty =
     field_told scope inner names class made head empty
-child_told scope Defined first made names inner head empty =
-    kept_told made (value_told scope inner names want.Defined true head)
+child_told scope Defined first made names inner head empty = defined_told scope inner made names head
 child_told scope Closed first made names inner head empty = told (Flaw flaw.Child head.position) names
 
 abbrev pub letters_told : Part → Bool → List ℕ → Position → Names → Told
@@ -290,7 +309,7 @@ read_in scope part made names Nothing = told (Whole made) names
 read_in scope part made names (Letters before text spot) =
     told_then (read_in scope part made names before)
     (λ now known. letters_told part (is_nothing before) text spot known)
-read_in scope part made names (Node before head inner) =
+read_in scope part made names (Child before head inner) =
     told_then (read_in scope part made names before) (λ now known.
     child_told scope part (is_nothing before) now known (λ p m k. read_in scope p m k inner) head (is_nothing inner))
 

@@ -36,6 +36,7 @@ pub(crate) fn made_from(
         match read_attribute(alloc, scope, class, a, made, names)? {
             Found::Whole(next) => made = next,
             Found::Flaw(flaw, place) => return Ok(Found::Flaw(flaw, place)),
+            Found::Node(place) => return Ok(Found::Node(place)),
         }
     }
     Ok(Found::Whole(made))

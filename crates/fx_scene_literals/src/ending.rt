@@ -20,6 +20,7 @@ pub(crate) fn with_found(field: Field, found: Found, made: Made) -> Found
     match found {
         Found::Whole(value) => Found::Whole(with_made(field, value, made)),
         Found::Flaw(flaw, place) => Found::Flaw(flaw, place),
+        Found::Node(place) => Found::Node(place),
     }
 }
 
@@ -46,6 +47,7 @@ pub(crate) fn kept(made: Made, found: Found) -> Found
     match found {
         Found::Whole(_) => Found::Whole(made),
         Found::Flaw(flaw, place) => Found::Flaw(flaw, place),
+        Found::Node(place) => Found::Node(place),
     }
 }
 
@@ -70,6 +72,7 @@ pub(crate) fn finish(
             Ok(Found::Whole(made))
         }
         Found::Flaw(flaw, place) => Ok(Found::Flaw(flaw, place)),
+        Found::Node(place) => Ok(Found::Node(place)),
     }
 }
 

@@ -10,7 +10,7 @@ use fx_doc::Element;
 use fx_kinds::{Class, value_kind};
 use fx_scene_flaws::Flaw;
 use fx_scene_names::{class_named, is_instance, lacks_import};
-use fx_scene_outline::{has_attribute, is_scene_node};
+use fx_scene_outline::{has_attribute, is_define, is_include, is_reference, is_scene_node};
 use fx_scene_values::{Scope, is_same_kind};
 
 /// What is wanted at a place.
@@ -37,7 +37,7 @@ pub fn entered(scope: &Scope<'_>, want: Want, element: &Element) -> Result<Class
     ensures { result ≡ spec.entered (scope_view scope.now) want (head_of element.now) }
 {
     if !is_instance(element.name.as_str()) {
-        return Err(outside_flaw(want, element));
+        return Err(outside_flaw(element));
     }
     match class_named(element.name.as_str()) {
         Some(class) => class_fit(scope, want, element, class),
@@ -52,22 +52,12 @@ fn class_fit(scope: &Scope<'_>, want: Want, element: &Element, class: Class) -> 
         return Err(Flaw::Import);
     }
     if is_scene_node(class, element.attributes.as_slice()) {
-        return Err(node_flaw(want));
+        return Err(Flaw::Child);
     }
     if lacks_value(class, element.attributes.as_slice()) {
         return Err(Flaw::Value);
     }
     unless_flaw(class, misfit(want, class))
-}
-
-/// What is wrong with a node. Nodes in definitions within values aren't read yet.
-fn node_flaw(want: Want) -> Flaw
-    ensures { result ≡ spec.node_flaw want }
-{
-    match want {
-        Want::Defined => Flaw::NotBuilt,
-        _ => Flaw::Child,
-    }
 }
 
 fn unless_flaw(class: Class, flaw: Option<Flaw>) -> Result<Class, Flaw>
@@ -150,11 +140,11 @@ fn is_row(class: Class) -> bool
 }
 
 /// What is wrong with an element that is no instance.
-fn outside_flaw(want: Want, element: &Element) -> Flaw
-    ensures { result ≡ spec.outside_flaw want (head_of element.now) }
+fn outside_flaw(element: &Element) -> Flaw
+    ensures { result ≡ spec.outside_flaw (head_of element.now) }
 {
     if is_include(element.name.as_str()) || is_reference(element.name.as_str()) {
-        return insert_flaw(want, element);
+        return insert_flaw(element);
     }
     if is_define(element.name.as_str()) {
         Flaw::Child
@@ -163,33 +153,12 @@ fn outside_flaw(want: Want, element: &Element) -> Flaw
     }
 }
 
-fn insert_flaw(want: Want, element: &Element) -> Flaw
-    ensures { result ≡ spec.insert_flaw want (head_of element.now) }
+fn insert_flaw(element: &Element) -> Flaw
+    ensures { result ≡ spec.insert_flaw (head_of element.now) }
 {
-    if !has_attribute(element.attributes.as_slice(), "source") {
-        return Flaw::Value;
-    }
-    if is_reference(element.name.as_str()) {
+    if has_attribute(element.attributes.as_slice(), "source") {
         Flaw::Child
     } else {
-        node_flaw(want)
+        Flaw::Value
     }
-}
-
-pub(crate) fn is_include(name: &str) -> bool
-    ensures { result ≡ spec.is_include name.now }
-{
-    name == "fx:include"
-}
-
-pub fn is_reference(name: &str) -> bool
-    ensures { result ≡ spec.is_reference name.now }
-{
-    name == "fx:reference"
-}
-
-pub(crate) fn is_define(name: &str) -> bool
-    ensures { result ≡ spec.is_define name.now }
-{
-    name == "fx:define"
 }

@@ -13,8 +13,8 @@ mod reading;
 mod references;
 
 pub use bare::bare_fault;
-pub use fx_scene_outline::{has_attribute, is_scene_node};
-pub use instances::{Want, entered, is_reference};
+pub use fx_scene_outline::{has_attribute, is_reference, is_scene_node};
+pub use instances::{Want, entered};
 pub use made::{Found, Made};
 pub use needs::lacks_value;
 pub use reading::{closed, one_part, want_of, whole};

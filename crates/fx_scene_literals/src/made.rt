@@ -11,11 +11,13 @@ pub enum Made {
     Location(Text),
 }
 
-/// What is made, or what is wrong, and where.
+/// What is made, or what is wrong, and where. Where a definition within a value has a node that wasn't read yet, that is
+/// read first.
 #[derive(Drop)]
 pub enum Found {
     Whole(Made),
     Flaw(Flaw, Position),
+    Node(Position),
 }
 
 /// What some content is of.

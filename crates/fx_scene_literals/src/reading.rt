@@ -1,12 +1,12 @@
 //! Reading values that are written as instances, with the names that they have.
 ghost use Rattle.std.specs.Prelude.{◌≡◌, IfOk, OnOk, true};
+ghost use Rattle.std.specs.Option.{option_map};
 ghost use Rattle.fx_doc.specs.Views.{nodes_of, onto};
 ghost use Rattle.fx_doc_grammar.specs.Grammar.{Nothing};
 ghost use Rattle.fx_doc_grammar.specs.Machine.{is_nothing};
 ghost use Rattle.fx_scene_literals.specs.Instances.{entered};
 ghost use Rattle.fx_scene_literals.specs.Literals as spec;
 ghost use Rattle.fx_scene_literals.specs.Views.{item_told, part_told};
-ghost use Rattle.fx_scene_literals.specs.declared.instances.Want.TheVariants.{Defined};
 ghost use Rattle.fx_scene_literals.specs.declared.made.Part.TheVariants.{One};
 ghost use Rattle.fx_scene_outline.specs.Views.{content_of, head_of};
 ghost use Rattle.fx_scene_things.specs.Known.{known};
@@ -16,14 +16,15 @@ use crate::attributes::made_from;
 use crate::bare::{bare_fault, field_at};
 use crate::ending::{finish, kept, no_value, with_found};
 use crate::fields::{Field, field_kind};
-use crate::instances::{Want, entered, is_define, is_reference};
+use crate::instances::{Want, entered};
 use crate::made::{Found, Made, Part};
 use crate::references::referred;
 use fx_base::{Kind, Position};
 use fx_doc::{Content, Element};
 use fx_kinds::Class;
 use fx_scene_flaws::Flaw;
-use fx_scene_things::Names;
+use fx_scene_outline::{is_define, is_defined_node, is_reference};
+use fx_scene_things::{Names, names_behind};
 use fx_scene_values::{Given, Scope, literal};
 use std::alloc::{AllocError, Global};
 
@@ -136,6 +137,7 @@ fn read_part(
     match found {
         Found::Whole(made) => read_item(alloc, scope, part, first, made, item, names),
         Found::Flaw(flaw, place) => Ok(Found::Flaw(flaw, place)),
+        Found::Node(place) => Ok(Found::Node(place)),
     }
 }
 
@@ -247,6 +249,7 @@ fn read_closed(
             read_content(alloc, scope, Part::Closed, made, content, names)
         }
         Found::Flaw(flaw, place) => Ok(Found::Flaw(flaw, place)),
+        Found::Node(place) => Ok(Found::Node(place)),
     }
 }
 
@@ -323,6 +326,7 @@ fn read_inside(
             read_content(alloc, scope, Part::Fields(class), made, content, names)
         }
         Found::Flaw(flaw, place) => Ok(Found::Flaw(flaw, place)),
+        Found::Node(place) => Ok(Found::Node(place)),
     }
 }
 
@@ -374,7 +378,7 @@ fn read_define(
     }
 }
 
-/// A value in a definition within a value.
+/// An element of a definition within a value: a node that was read is passed over, and the names behind it are known.
 #[cycle(reading)]
 fn read_defined(
     alloc: Global,
@@ -383,12 +387,34 @@ fn read_defined(
     element: &Element,
     names: &mut Names,
 ) -> Result<Found, AllocError>
-    ensures found { IfOk result (λ next. next ≡ (spec.kept_told made (spec.value_told (scope_view scope.now)
-        (λ p m k. spec.read_in (scope_view scope.now) p m k (content_of element.now)) (known names.old) Defined
-        true (head_of element.now))).found) }
-    ensures names { OnOk result (known names.new ≡ (spec.kept_told made (spec.value_told (scope_view scope.now)
-        (λ p m k. spec.read_in (scope_view scope.now) p m k (content_of element.now)) (known names.old) Defined
-        true (head_of element.now))).names) }
+    ensures found { IfOk result (λ next. next ≡ (spec.defined_told (scope_view scope.now)
+        (λ p m k. spec.read_in (scope_view scope.now) p m k (content_of element.now)) made (known names.old)
+        (head_of element.now)).found) }
+    ensures names { OnOk result (known names.new ≡ (spec.defined_told (scope_view scope.now)
+        (λ p m k. spec.read_in (scope_view scope.now) p m k (content_of element.now)) made (known names.old)
+        (head_of element.now)).names) }
+{
+    if is_defined_node(element) {
+        let behind = names_behind(scope.settled, element.position);
+        return pass_node(alloc, made, element.position, behind, names);
+    }
+    read_defined_value(alloc, scope, made, element, names)
+}
+
+#[cycle(reading)]
+fn read_defined_value(
+    alloc: Global,
+    scope: &Scope<'_>,
+    made: Made,
+    element: &Element,
+    names: &mut Names,
+) -> Result<Found, AllocError>
+    ensures found { IfOk result (λ next. next ≡ (spec.defined_value (scope_view scope.now)
+        (λ p m k. spec.read_in (scope_view scope.now) p m k (content_of element.now)) made (known names.old)
+        (head_of element.now)).found) }
+    ensures names { OnOk result (known names.new ≡ (spec.defined_value (scope_view scope.now)
+        (λ p m k. spec.read_in (scope_view scope.now) p m k (content_of element.now)) made (known names.old)
+        (head_of element.now)).names) }
 {
     let found = read_value(alloc, scope, Want::Defined, true, element, names)?;
     Ok(kept(made, found))
@@ -446,6 +472,28 @@ fn read_held(
             let found = read_content(alloc, scope, part, no_value(), content, names)?;
             Ok(with_found(field, found, made))
         }
+    }
+}
+
+/// A node stops the reading, unless it was read: then the names behind it are known.
+fn pass_node(
+    alloc: Global,
+    made: Made,
+    place: Position,
+    behind: Option<&Names>,
+    names: &mut Names,
+) -> Result<Found, AllocError>
+    ensures found { IfOk result (λ next. next ≡ (spec.settled_told made (known names.old) place
+        (option_map (λ names. known names.now) behind.entry)).found) }
+    ensures names { OnOk result (known names.new ≡ (spec.settled_told made (known names.old) place
+        (option_map (λ names. known names.now) behind.entry)).names) }
+{
+    match behind {
+        Some(behind) => {
+            *names = behind.copy(alloc)?;
+            Ok(Found::Whole(made))
+        }
+        None => Ok(Found::Node(place)),
     }
 }
 

@@ -1,3 +1,2 @@
-pub mod ActLemmas
 pub mod ReadLemmas
 pub mod SceneLemmas

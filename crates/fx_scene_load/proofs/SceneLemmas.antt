@@ -3,8 +3,8 @@ use Rattle.std.proofs.Common.{◌≡◌, ℕ, List, [], ◌∷◌, Option, Some,
 use Rattle.fx_doc_grammar.specs.Grammar.{Reading as Document}
 use Rattle.fx_port.specs.Files.{Files}
 use Rattle.fx_scene_acts.specs.declared.tasks.Task.{Task}
-use Rattle.fx_scene_load.specs.Courses.{Course}
-use Rattle.fx_scene_load.specs.Opens.{Open, outermost}
+use Rattle.fx_scene_course.specs.Courses.{Course}
+use Rattle.fx_scene_course.specs.Opens.{Open, outermost}
 use Rattle.fx_scene_load.specs.Reading.{IsDocumentRead, IsSceneRead, all_tasks, scene_read}
 use Rattle.fx_scene_load.proofs.ReadLemmas.{open_of}
 use Rattle.fx_scene_read.specs.declared.opening.Stand.TheVariants as stand

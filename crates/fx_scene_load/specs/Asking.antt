@@ -7,7 +7,7 @@ use Rattle.fx_doc_grammar.specs.Grammar.{Attr, Head}
 use Rattle.fx_scene_bindings.specs.Names.{attribute_named}
 use Rattle.fx_scene_flaws.specs.declared.flaws.Flaw.{Flaw}
 use Rattle.fx_scene_flaws.specs.declared.flaws.Flaw.TheVariants as flaw
-use Rattle.fx_scene_load.specs.Opens.{Open}
+use Rattle.fx_scene_course.specs.Opens.{Open}
 use Rattle.fx_scene_load.specs.declared.asking.Asked.{Asked}
 use Rattle.fx_scene_load.specs.declared.asking.Asked.TheVariants.{Misplaced, Refused, Wanted}
 use Rattle.fx_scene_outline.specs.declared.pieces.Seat.{Seat}

@@ -5,14 +5,14 @@ ghost use Rattle.std.specs.Option.{option_map};
 ghost use Rattle.std.specs.Str.{bytes_eq};
 ghost use Rattle.fx_doc.specs.Views.{attr_view};
 ghost use Rattle.fx_scene_load.specs.Asking as spec;
-ghost use Rattle.fx_scene_load.specs.Views.{open_view};
+ghost use Rattle.fx_scene_course.specs.Views.{open_view};
 ghost use Rattle.fx_scene_outline.specs.Views.{head_of};
 
-use crate::opens::Open;
 use fx_base::{Position, Str};
 use fx_doc::{Attribute, Element};
 use fx_load_parts::MOST_FETCHES;
 use fx_scene_bindings::attribute_named;
+use fx_scene_course::Open;
 use fx_scene_flaws::Flaw;
 use fx_scene_outline::Seat;
 use fx_scene_places::joined;

@@ -3,9 +3,9 @@ ghost use Rattle.std.specs.Prelude.{◌≡◌, ◌++◌, IfOk, OnOk, map};
 ghost use Rattle.fx_scene_load.specs.Reading as spec;
 ghost use Rattle.fx_scene_things.specs.Known.{space_view};
 
-use crate::courses::Waiting;
 use fx_scene_acts::{Doing, Task};
 use fx_scene_bindings::bound;
+use fx_scene_course::Waiting;
 use fx_scene_things::{Names, Space, names_in};
 use std::alloc::{AllocError, Global};
 

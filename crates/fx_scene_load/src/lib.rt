@@ -1,14 +1,10 @@
-//! The tasks of a scene: its document piece by piece, with the documents that it includes and the style sheets that its
-//! nodes ask for, fetched and read where they stand.
+//! The tasks of a scene: its document piece by piece, with the documents that it includes.
 #![tactic(auto)]
 
 mod asking;
 mod bindings;
-mod courses;
 mod desks;
 mod documents;
-mod making;
-mod opens;
 mod reading;
 mod scenes;
 

@@ -1,40 +1,52 @@
 //! A document piece by piece, with the documents that it includes.
-ghost use Rattle.std.specs.Prelude.{◌≡◌, ◌≤◌, ◌<◌, ◌++◌, ◌∷◌, [], IfOk, List, OnOk, Some, false, length, map, slice_get};
+ghost use Rattle.std.specs.Prelude.{ℕ, ◌≡◌, ◌≤◌, ◌<◌, ◌++◌, ◌∷◌, [], IfOk, List, OnOk, Some, drop, false, length, map, slice_get};
 ghost use Rattle.std.specs.Option.{option_map};
 ghost use Rattle.fx_doc.specs.Views.{reading};
 ghost use Rattle.fx_port.specs.Causes.{HasCause};
 ghost use Rattle.fx_port.specs.Files.{Files};
 ghost use Rattle.fx_port.specs.declared.files.FetchError.TheVariants.{Failed};
-ghost use Rattle.fx_scene_load.specs.Making.{AreActsDone};
+ghost use Rattle.fx_scene_course.specs.Making.{AreActsDone};
 ghost use Rattle.fx_scene_load.specs.Reading as spec;
-ghost use Rattle.fx_scene_load.specs.Reading.{ArePiecesRead, IsDocumentRead, IsIncludeRead, IsPieceRead, IsWantedRead};
-ghost use Rattle.fx_scene_load.specs.Made.{IsFaultKept, IsInnerRead};
-ghost use Rattle.fx_scene_load.specs.Views.{course_view, desk_view, open_view};
+ghost use Rattle.fx_scene_load.specs.Reading.{ArePiecesRead, IsDefinedRead, IsDocumentRead, IsIncludeRead, IsPieceRead, IsWantedRead};
+ghost use Rattle.fx_scene_load.specs.Made.{AreDefinedRead, IsFaultKept, IsInnerRead, IsNextRead};
+ghost use Rattle.fx_scene_course.specs.Views.{course_view, open_view};
+ghost use Rattle.fx_scene_load.specs.Views.{desk_view};
 ghost use Rattle.fx_scene_outline.specs.Pieces.{Include, Piece as PlainPiece};
-ghost use Rattle.fx_scene_outline.specs.Views.{head_of, piece_view, shown};
+ghost use Rattle.fx_scene_outline.specs.Views.{defined_shown, defined_view, head_of, piece_view, shown};
 ghost use Rattle.fx_scene_read.specs.Opening.{stand_at};
-ghost use Rattle.fx_scene_things.specs.Known.{known};
+ghost use Rattle.fx_scene_things.specs.Known.{known, settled_view};
+ghost use Rattle.fx_scene_things.specs.Settled.{settled_of};
 
 use crate::asking::{Asked, asked_of};
-use crate::courses::{
-    Course, add_class, add_fault_in, add_file, add_flaw, add_space, add_task, has_id, place_in,
-};
-use crate::desks::{Desk, empty_desk};
+use crate::desks::{Desk, copy_desk, desk_with, empty_desk};
 use crate::documents::fetch_document;
-use crate::making::do_acts;
-use crate::opens::{Open, around_with, inner_path, scope_in};
-use fx_base::{Place, Str, Text};
+use fx_base::{Place, Position, Str};
 use fx_doc::{Document, Element};
 use fx_kinds::Class;
 use fx_load_parts::LoadError;
 use fx_port::{FetchError, Shelf};
 use fx_scene_acts::{Act, Doing};
 use fx_scene_bindings::add_named;
+use fx_scene_course::{
+    Course, Open, acts_before, acts_behind, acts_between, add_class, add_fault_in, add_file,
+    add_flaw, add_space, add_task, around_with, do_acts, has_id, inner_path, place_in, scope_in,
+};
+use fx_scene_flaws::Flaw;
 use fx_scene_names::class_named;
-use fx_scene_outline::{Piece, Seat, outline};
+use fx_scene_outline::{Piece, Seat, aside_outline, defined_nodes, outline};
 use fx_scene_read::{Stand, add_piece, add_root_attributes, stand_at};
-use fx_scene_things::Named;
+use fx_scene_things::{Named, Names, Settled};
 use std::alloc::{AllocError, Global};
+
+/// The most levels of nodes that are defined within the values of each other: documents aren't deeper.
+const MOST_LEVELS: usize = 128;
+
+/// The nodes of definitions within a piece that were read already, and how many acts of the piece are done.
+#[derive(Drop)]
+pub struct Progress {
+    pub settled: Vec<Settled>,
+    pub done: usize,
+}
 
 /// Reads a document, up to the first fault.
 #[cycle(walk)]
@@ -53,15 +65,25 @@ pub(crate) fn read_whole<F: Shelf>(
 {
     let pieces = outline(alloc, document)?;
     let mut desk = empty_desk(alloc);
-    read_pieces(alloc, shelf, here, pieces.as_slice(), &mut desk, course)?;
+    read_pieces(
+        alloc,
+        shelf,
+        here,
+        MOST_LEVELS,
+        pieces.as_slice(),
+        &mut desk,
+        course,
+    )?;
     Ok(add_space(course, here.file, desk.names)?)
 }
 
+/// Reads pieces with room for so many levels of definitions within values.
 #[cycle(walk)]
 fn read_pieces<F: Shelf>(
     alloc: Global,
     shelf: &mut F,
     here: &Open<'_>,
+    room: usize,
     pieces: &[Piece<'_>],
     desk: &mut Desk,
     course: &mut Course,
@@ -70,15 +92,15 @@ fn read_pieces<F: Shelf>(
     ensures held { F.held shelf.new ≡ F.held shelf.old }
     ensures cause { HasCause Failed (F.faults shelf.old) (F.faults shelf.new) result }
     ensures done { (files : Files) → F.held shelf.old ≡ Some files → OnOk result (ArePiecesRead files
-        (open_view here.now) (desk_view [] desk.old) (course_view course.old) (shown pieces.now) (known desk.new.names)
-        (course_view course.new)) }
+        (open_view here.now) room (desk_view [] desk.old) (course_view course.old) (shown pieces.now)
+        (known desk.new.names) (course_view course.new)) }
 {
     for (index, piece) in pieces.iter().enumerate() {
         if course.at_fault {
             return Ok(());
         }
         let before = pieces.split_at(index).0;
-        read_piece(alloc, shelf, here, before, piece, desk, course)?;
+        read_piece(alloc, shelf, here, room, before, piece, desk, course)?;
     }
     Ok(())
 }
@@ -88,6 +110,7 @@ fn read_piece<F: Shelf>(
     alloc: Global,
     shelf: &mut F,
     here: &Open<'_>,
+    room: usize,
     before: &[Piece<'_>],
     piece: &Piece<'_>,
     desk: &mut Desk,
@@ -97,62 +120,245 @@ fn read_piece<F: Shelf>(
     ensures held { F.held shelf.new ≡ F.held shelf.old }
     ensures cause { HasCause Failed (F.faults shelf.old) (F.faults shelf.new) result }
     ensures done { (files : Files) → F.held shelf.old ≡ Some files → OnOk result (IsPieceRead files
-        (open_view here.now) (desk_view (shown before.now) desk.old) (course_view course.old) (piece_view piece.now)
-        (desk_view (shown before.now ++ piece_view piece.now ∷ []) desk.new) (course_view course.new)) }
+        (open_view here.now) room (desk_view (shown before.now) desk.old) (course_view course.old)
+        (piece_view piece.now) (desk_view (shown before.now ++ piece_view piece.now ∷ []) desk.new)
+        (course_view course.new)) }
 {
     match piece {
         Piece::Include(seat, element) => {
             read_included(alloc, shelf, here, before, *seat, element, desk, course)
         }
-        _ => read_plain(alloc, shelf, here, before, piece, desk, course),
+        _ => read_plain(alloc, shelf, here, room, before, piece, desk, course),
     }
 }
 
-/// A piece that is no include.
+/// A piece that is no include: it is read up to each of the nodes in the definitions within it, and then as a whole.
+#[cycle(walk)]
 fn read_plain<F: Shelf>(
     alloc: Global,
     shelf: &mut F,
     here: &Open<'_>,
+    room: usize,
     before: &[Piece<'_>],
     piece: &Piece<'_>,
     desk: &mut Desk,
     course: &mut Course,
 ) -> Result<(), FetchError>
-    requires { spec.is_include (piece_view piece.now) ≡ false }
+    requires around { length here.now.around.items ≤ 17 }
+    requires plain { spec.is_include (piece_view piece.now) ≡ false }
     ensures held { F.held shelf.new ≡ F.held shelf.old }
     ensures cause { HasCause Failed (F.faults shelf.old) (F.faults shelf.new) result }
     ensures done { (files : Files) → F.held shelf.old ≡ Some files → OnOk result (IsPieceRead files
-        (open_view here.now) (desk_view (shown before.now) desk.old) (course_view course.old) (piece_view piece.now)
-        (desk_view (shown before.now ++ piece_view piece.now ∷ []) desk.new) (course_view course.new)) }
+        (open_view here.now) room (desk_view (shown before.now) desk.old) (course_view course.old)
+        (piece_view piece.now) (desk_view (shown before.now ++ piece_view piece.now ∷ []) desk.new)
+        (course_view course.new)) }
 {
     let node = course.classes.len();
-    let acts = tell_piece(alloc, here, before, node, piece, desk)?;
-    do_acts(alloc, shelf, here, acts, course)?;
+    let defined = defined_nodes(alloc, piece)?;
+    let progress = read_all_defined(
+        alloc,
+        shelf,
+        here,
+        room,
+        node,
+        before,
+        piece,
+        defined.as_slice(),
+        desk,
+        course,
+    )?;
+    read_rest(
+        alloc, shelf, here, node, before, piece, progress, desk, course,
+    )?;
     add_class(course, class_of(piece))?;
     Ok(push_node(desk, node)?)
 }
 
-/// What a piece asks for, which is the node of this ordinal where it is an instance.
+/// The nodes in the definitions within a piece, one after another, each behind what stands before it.
+#[cycle(walk)]
+fn read_all_defined<F: Shelf>(
+    alloc: Global,
+    shelf: &mut F,
+    here: &Open<'_>,
+    room: usize,
+    node: usize,
+    before: &[Piece<'_>],
+    piece: &Piece<'_>,
+    defined: &[&Element],
+    desk: &Desk,
+    course: &mut Course,
+) -> Result<Progress, FetchError>
+    requires { length here.now.around.items ≤ 17 }
+    ensures held { F.held shelf.new ≡ F.held shelf.old }
+    ensures cause { HasCause Failed (F.faults shelf.old) (F.faults shelf.new) result }
+    ensures done { (files : Files) → F.held shelf.old ≡ Some files → IfOk result (λ progress. AreDefinedRead files
+        (open_view here.now) room (desk_view (shown before.now) desk.now) node (piece_view piece.now)
+        (defined_shown defined.now) (course_view course.old) (map settled_view progress.settled.items)
+        progress.done (course_view course.new)) }
+{
+    let mut progress = Progress {
+        settled: Vec::new(alloc),
+        done: 0,
+    };
+    for element in defined {
+        read_next_defined(
+            alloc,
+            shelf,
+            here,
+            room,
+            node,
+            before,
+            piece,
+            element,
+            desk,
+            &mut progress,
+            course,
+        )?;
+    }
+    Ok(progress)
+}
+
+/// A further node in a definition within a piece, behind what stands before it.
+#[cycle(walk)]
+fn read_next_defined<F: Shelf>(
+    alloc: Global,
+    shelf: &mut F,
+    here: &Open<'_>,
+    room: usize,
+    node: usize,
+    before: &[Piece<'_>],
+    piece: &Piece<'_>,
+    element: &Element,
+    desk: &Desk,
+    progress: &mut Progress,
+    course: &mut Course,
+) -> Result<(), FetchError>
+    requires { length here.now.around.items ≤ 17 }
+    ensures held { F.held shelf.new ≡ F.held shelf.old }
+    ensures cause { HasCause Failed (F.faults shelf.old) (F.faults shelf.new) result }
+    ensures done { (files : Files) → F.held shelf.old ≡ Some files → OnOk result (IsNextRead files
+        (open_view here.now) room (desk_view (shown before.now) desk.now) node (piece_view piece.now)
+        (defined_view element.now) (map settled_view progress.old.settled.items) progress.old.done
+        (course_view course.old) (map settled_view progress.new.settled.items) progress.new.done
+        (course_view course.new)) }
+{
+    let mut trial = copy_desk(alloc, desk)?;
+    let settled = progress.settled.as_slice();
+    let acts = tell_piece(alloc, here, settled, before, node, piece, &mut trial)?;
+    let count = acts_before(acts.as_slice());
+    let acts = acts_between(alloc, acts, progress.done, count)?;
+    do_acts(alloc, shelf, here, acts, course)?;
+    let names = read_defined(alloc, shelf, here, room, element, trial.names, course)?;
+    Ok(settle(progress, element.position, names, count)?)
+}
+
+/// The node at this place was read, and so many acts are done.
+fn settle(
+    progress: &mut Progress,
+    place: Position,
+    names: Names,
+    done: usize,
+) -> Result<(), AllocError>
+    ensures settled { OnOk result (map settled_view progress.new.settled.items
+        ≡ map settled_view progress.old.settled.items ++ (settled_of place (known names) ∷ [])) }
+    ensures done { OnOk result (progress.new.done ≡ done) }
+{
+    progress.settled.push(Settled { place, names })?;
+    progress.done = done;
+    Ok(())
+}
+
+/// A node in a definition within a value, where these names are known. Answers the names that are known behind it.
+#[cycle(walk)]
+fn read_defined<F: Shelf>(
+    alloc: Global,
+    shelf: &mut F,
+    here: &Open<'_>,
+    room: usize,
+    element: &Element,
+    names: Names,
+    course: &mut Course,
+) -> Result<Names, FetchError>
+    requires { length here.now.around.items ≤ 17 }
+    ensures held { F.held shelf.new ≡ F.held shelf.old }
+    ensures cause { HasCause Failed (F.faults shelf.old) (F.faults shelf.new) result }
+    ensures done { (files : Files) → F.held shelf.old ≡ Some files → IfOk result (λ behind. IsDefinedRead files
+        (open_view here.now) room (known names) (course_view course.old) (defined_view element.now) (known behind)
+        (course_view course.new)) }
+{
+    if room == 0 {
+        add_flaw(course, place_in(here.file, element.position), Flaw::Limit)?;
+        return Ok(names);
+    }
+    let pieces = aside_outline(alloc, element)?;
+    let mut desk = desk_with(alloc, names);
+    read_pieces(
+        alloc,
+        shelf,
+        here,
+        room - 1,
+        pieces.as_slice(),
+        &mut desk,
+        course,
+    )?;
+    Ok(desk.names)
+}
+
+/// A piece as a whole, of which these nodes of definitions were read and so many acts are done.
+fn read_rest<F: Shelf>(
+    alloc: Global,
+    shelf: &mut F,
+    here: &Open<'_>,
+    node: usize,
+    before: &[Piece<'_>],
+    piece: &Piece<'_>,
+    progress: Progress,
+    desk: &mut Desk,
+    course: &mut Course,
+) -> Result<(), FetchError>
+    ensures held { F.held shelf.new ≡ F.held shelf.old }
+    ensures cause { HasCause Failed (F.faults shelf.old) (F.faults shelf.new) result }
+    ensures names { OnOk result (known desk.new.names
+        ≡ (spec.told_in (open_view here.now) (desk_view (shown before.now) desk.old)
+        (map settled_view progress.settled.items) node (piece_view piece.now)).names) }
+    ensures lanes { OnOk result (desk.new.lanes.items ≡ desk.old.lanes.items
+        ++ (spec.told_in (open_view here.now) (desk_view (shown before.now) desk.old)
+        (map settled_view progress.settled.items) node (piece_view piece.now)).lanes) }
+    ensures nodes { desk.new.nodes ≡ desk.old.nodes }
+    ensures done { (files : Files) → F.held shelf.old ≡ Some files → OnOk result (AreActsDone files
+        (open_view here.now) (course_view course.old) (drop progress.done (spec.told_in (open_view here.now)
+        (desk_view (shown before.now) desk.old) (map settled_view progress.settled.items) node
+        (piece_view piece.now)).acts) (course_view course.new)) }
+{
+    let settled = progress.settled.as_slice();
+    let acts = tell_piece(alloc, here, settled, before, node, piece, desk)?;
+    let acts = acts_behind(alloc, acts, progress.done)?;
+    do_acts(alloc, shelf, here, acts, course)
+}
+
+/// What a piece asks for, which is the node of this ordinal where it is an instance, where these nodes of definitions
+/// within it were read.
 fn tell_piece(
     alloc: Global,
     here: &Open<'_>,
+    settled: &[Settled],
     before: &[Piece<'_>],
     node: usize,
     piece: &Piece<'_>,
     desk: &mut Desk,
 ) -> Result<Vec<Act>, AllocError>
     ensures acts { IfOk result (λ acts. acts.items
-        ≡ (spec.told_at (open_view here.now) (desk_view (shown before.now) desk.old) node
-        (piece_view piece.now)).acts) }
+        ≡ (spec.told_in (open_view here.now) (desk_view (shown before.now) desk.old)
+        (map settled_view settled.now) node (piece_view piece.now)).acts) }
     ensures names { OnOk result (known desk.new.names
-        ≡ (spec.told_at (open_view here.now) (desk_view (shown before.now) desk.old) node
-        (piece_view piece.now)).names) }
+        ≡ (spec.told_in (open_view here.now) (desk_view (shown before.now) desk.old)
+        (map settled_view settled.now) node (piece_view piece.now)).names) }
     ensures lanes { OnOk result (desk.new.lanes.items ≡ desk.old.lanes.items
-        ++ (spec.told_at (open_view here.now) (desk_view (shown before.now) desk.old) node
-        (piece_view piece.now)).lanes) }
+        ++ (spec.told_in (open_view here.now) (desk_view (shown before.now) desk.old)
+        (map settled_view settled.now) node (piece_view piece.now)).lanes) }
     ensures nodes { desk.new.nodes ≡ desk.old.nodes }
 {
-    let scope = scope_in(here);
+    let scope = scope_in(here, settled);
     let mut acts = Vec::new(alloc);
     add_piece(
         alloc,
@@ -202,8 +408,8 @@ fn read_included<F: Shelf>(
     requires { length here.now.around.items ≤ 17 }
     ensures held { F.held shelf.new ≡ F.held shelf.old }
     ensures cause { HasCause Failed (F.faults shelf.old) (F.faults shelf.new) result }
-    ensures done { (files : Files) → F.held shelf.old ≡ Some files → OnOk result (IsPieceRead files
-        (open_view here.now) (desk_view (shown before.now) desk.old) (course_view course.old)
+    ensures done { (files : Files) → F.held shelf.old ≡ Some files → (room : ℕ) → OnOk result (IsPieceRead files
+        (open_view here.now) room (desk_view (shown before.now) desk.old) (course_view course.old)
         (Include seat (head_of element.now))
         (desk_view (shown before.now ++ Include seat (head_of element.now) ∷ []) desk.new) (course_view course.new)) }
 {
@@ -421,7 +627,7 @@ fn read_root_of<F: Shelf>(
         (head_of element.now) (Some class)) (course_view course.new)) }
 {
     let attributes = element.attributes.as_slice();
-    let scope = scope_in(here);
+    let scope = scope_in(here, &[]);
     let given = has_id(course, node);
     let mut acts = Vec::new(alloc);
     add_root_attributes(

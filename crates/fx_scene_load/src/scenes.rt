@@ -4,18 +4,17 @@ ghost use Rattle.fx_doc.specs.Views.{reading};
 ghost use Rattle.fx_port.specs.Causes.{HasCause};
 ghost use Rattle.fx_port.specs.Files.{Files};
 ghost use Rattle.fx_port.specs.declared.files.FetchError.TheVariants.{Failed};
-ghost use Rattle.fx_scene_load.specs.Courses as spec;
+ghost use Rattle.fx_scene_course.specs.Courses as spec;
 ghost use Rattle.fx_scene_load.specs.Reading.{IsSceneRead, all_tasks};
-ghost use Rattle.fx_scene_load.specs.Views.{course_view};
+ghost use Rattle.fx_scene_course.specs.Views.{course_view};
 
 use crate::bindings::add_bound;
-use crate::courses::Course;
-use crate::opens::{Open, around_with};
 use crate::reading::read_whole;
 use fx_base::Str;
 use fx_doc::Document;
 use fx_port::{FetchError, Shelf};
 use fx_scene_acts::Task;
+use fx_scene_course::{Course, Open, around_with};
 use fx_scene_read::Stand;
 use std::alloc::{AllocError, Global};
 

@@ -1,1 +1,2 @@
+pub mod DefinedLemmas
 pub mod PartLemmas

@@ -18,7 +18,7 @@ use Rattle.fx_scene_outline.specs.Views.{behind_part, content_of, element_pieces
 use Rattle.fx_scene_outline.specs.declared.edges.Earlier.{Earlier}
 use Rattle.fx_scene_outline.specs.declared.pieces.Piece.{Piece}
 use Rattle.fx_scene_outline.specs.declared.pieces.Room.{Room}
-use Rattle.fx_scene_outline.specs.declared.pieces.Seat.TheVariants.{Root}
+use Rattle.fx_scene_outline.specs.declared.pieces.Seat.TheVariants.{Aside, Root}
 
 length_of : (v : Vec Content Global) → length v.items ≡ vec_len v
 length_of v = cc
@@ -27,7 +27,7 @@ pub content_is : (e : Element) → eqb (vec_len (w.out-Element e).content) 0 ≡
 content_is e = nothing_is (w.out-Element e).content.items (vec_len (w.out-Element e).content) (sym (length_of (w.out-Element e).content))
 
 -- an opened part, behind what stands before it
-abbrev opened : o.Content-F Content Element → Nodes → Nodes
+abbrev pub opened : o.Content-F Content Element → Nodes → Nodes
 opened x n = content_step (f.map-Content Content Element Onto Onto (f.fold-Content Onto Onto content_step element_step) (f.fold-Element Onto Onto content_step element_step) x) n
 
 abbrev all_behind : Room → ℕ → Nodes → Nodes → List PlainPiece
@@ -62,7 +62,7 @@ earlier_joined before c =
     ∙ (earlier_stepped (w.out-Content c) before
     ∙ ap (λ (g : Onto). behind_part (g Nothing) (earlier_in before)) (sym (f.fold_out-Content Onto Onto content_step element_step c)))
 
-nodes_more : (content : List Content) (i : ℕ) (x : Content) → i < length content → x ≡ get_or content i x
+pub nodes_more : (content : List Content) (i : ℕ) (x : Content) → i < length content → x ≡ get_or content i x
     → nodes_of (take (i + 1) content) ≡ onto x (nodes_of (take i content))
 nodes_more content i x h is =
     ap nodes_of (take_more content i x h ∙ ap (λ y. take i content ++ (y ∷ [])) (sym is)) ∙ nodes_of_push (take i content) x
@@ -129,3 +129,10 @@ pub root_alone : (e : Element) (old new : List Piece) → old ≡ []
     → shown new ≡ root_pieces (onto_element e Nothing)
 root_alone e old new none more =
     more ∙ (ap (λ ps. shown ps ++ element_pieces (length ps) e (listed (length ps) Root (head_of e) (content_of e))) none ∙ root_is e)
+
+-- an element by itself
+pub aside_alone : (e : Element) (old new : List Piece) → old ≡ []
+    → shown new ≡ shown old ++ element_pieces (length old) e (listed (length old) Aside (head_of e) (content_of e))
+    → shown new ≡ element_pieces 0 e (listed 0 Aside (head_of e) (content_of e))
+aside_alone e old new none more =
+    more ∙ ap (λ ps. shown ps ++ element_pieces (length ps) e (listed (length ps) Aside (head_of e) (content_of e))) none

@@ -10,7 +10,7 @@ use Rattle.fx_scene_flaws.specs.declared.flaws.Flaw.{Flaw}
 use Rattle.fx_scene_flaws.specs.declared.flaws.Flaw.TheVariants as flaw
 use Rattle.fx_scene_names.specs.Names.{class_named, is_instance}
 use Rattle.fx_scene_outline.specs.Edges.{edge_named, has_edge}
-use Rattle.fx_scene_outline.specs.Nodes.{is_scene_node}
+use Rattle.fx_scene_outline.specs.Nodes.{is_define, is_include, is_reference, is_scene_node}
 use Rattle.fx_scene_outline.specs.Pieces.{Piece, Include, Instance, Property, Reference, Value, Wrong}
 use Rattle.fx_scene_outline.specs.declared.edges.Earlier.{Earlier}
 use Rattle.fx_scene_outline.specs.declared.pieces.Room.{Room}
@@ -67,15 +67,6 @@ seat_in (slot.Children owner) first = seat.Child owner
 seat_in (slot.Edge owner edge) first = edge_seat owner edge first
 seat_in slot.Aside first = seat.Aside
 seat_in slot.Nowhere first = seat.Nowhere
-
-abbrev pub is_define : List ℕ → Bool
-is_define name = bytes_eq name (codes "fx:define")
-
-abbrev pub is_reference : List ℕ → Bool
-is_reference name = bytes_eq name (codes "fx:reference")
-
-abbrev pub is_include : List ℕ → Bool
-is_include name = bytes_eq name (codes "fx:include")
 
 -- entries
 

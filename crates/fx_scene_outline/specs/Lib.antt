@@ -1,3 +1,4 @@
+pub mod Defined
 pub mod Edges
 pub mod Entries
 pub mod Nodes

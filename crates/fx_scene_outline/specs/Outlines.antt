@@ -50,3 +50,8 @@ root_pieces (Node before head inner) =
 -- what stands in a document
 unfoldable pub outline : Reading → List Piece
 outline document = root_pieces document.root
+
+-- what stands in an element of a definition within a value, which is a node
+unfoldable pub aside_outline : Head → Nodes → List Piece
+aside_outline head inner =
+    with_content (λ inside behind. pieces inside behind inner) 0 head inner (listed 0 seat.Aside head inner)

@@ -1,10 +1,12 @@
 -- Pieces and parts of a document as definitions have them.
-use Rattle.std.specs.Prelude.{◌≡◌, ℕ, List, [], ◌∷◌, ◌++◌, map, Option, Result, Ok, Err}
+use Rattle.std.specs.Prelude.{◌≡◌, ℕ, Bool, List, [], ◌∷◌, ◌++◌, map, Option, Result, Ok, Err}
+use Rattle.std.specs.Borrow.{Bor}
 use Rattle.fx_doc.specs.Views.{attr_view, nodes_of}
 use Rattle.fx_doc.specs.declared.document.Content.TheViews.{out-Element}
 use Rattle.fx_doc.specs.declared.document.Element.{Element}
 use Rattle.fx_doc_grammar.specs.Grammar.{Head, Nodes, Nothing, Letters, Node}
 use Rattle.fx_scene_flaws.specs.declared.flaws.Flaw.TheVariants as flaw
+use Rattle.fx_scene_outline.specs.Defined.{Defined, defined, element_nodes, nodes_within}
 use Rattle.fx_scene_outline.specs.Edges.{behind_element, behind_text}
 use Rattle.fx_scene_outline.specs.Entries.{Entry, entry}
 use Rattle.fx_scene_outline.specs.Outlines.{inside_of, pieces, with_content}
@@ -63,3 +65,17 @@ inside_pieces count e room =
 abbrev pub Entered : {E : Type 0} → Entry → List Piece → List Piece → Result (Option Room) E → Type 0
 Entered entered old new (Ok room) = (shown new ≡ shown old ++ entered.front) × (room ≡ entered.room)
 Entered entered old new (Err error) = Unit {0}
+
+-- an element as a node of a definition
+abbrev pub defined_view : Element → Defined
+defined_view e = defined (head_of e) (content_of e)
+
+abbrev pub defined_shown : List (Bor Element) → List Defined
+defined_shown elements = map (λ (e : Bor Element). defined_view e.now) elements
+
+-- the nodes of one part of some content
+abbrev pub part_nodes : Bool → Nodes → List Defined
+part_nodes in_definition Nothing = []
+part_nodes in_definition (Letters before text spot) = []
+part_nodes in_definition (Node before head inner) =
+    element_nodes (λ is_definition. nodes_within is_definition inner) in_definition head inner

@@ -5,7 +5,7 @@ ghost use Rattle.fx_scene_outline.specs.Entries as spec;
 ghost use Rattle.fx_scene_outline.specs.Views.{Entered, content_of, head_of, piece_view, shown};
 
 use crate::edges::{Earlier, edge_named};
-use crate::nodes::is_scene_node;
+use crate::nodes::{is_define, is_include, is_reference, is_scene_node};
 use crate::pieces::{Piece, Room, Seat, Slot};
 use fx_base::Position;
 use fx_doc::{Attribute, Element};
@@ -228,24 +228,6 @@ fn add_wrong(
 {
     pieces.push(Piece::Flaw(flaw, place))?;
     Ok(None)
-}
-
-fn is_define(name: &str) -> bool
-    ensures { result ≡ spec.is_define name.now }
-{
-    name == "fx:define"
-}
-
-fn is_reference(name: &str) -> bool
-    ensures { result ≡ spec.is_reference name.now }
-{
-    name == "fx:reference"
-}
-
-fn is_include(name: &str) -> bool
-    ensures { result ≡ spec.is_include name.now }
-{
-    name == "fx:include"
 }
 
 fn is_insert(name: &str) -> bool

@@ -3,9 +3,11 @@ ghost use Rattle.std.specs.Prelude.{◌≡◌, map};
 ghost use Rattle.std.specs.List.{list_any};
 ghost use Rattle.fx_doc.specs.Views.{attr_view};
 ghost use Rattle.fx_scene_outline.specs.Nodes as spec;
+ghost use Rattle.fx_scene_outline.specs.Views.{head_of};
 
-use fx_doc::Attribute;
+use fx_doc::{Attribute, Element};
 use fx_kinds::{Class, is_node};
+use fx_scene_names::class_named;
 
 /// Is there an attribute of this name?
 pub fn has_attribute(attributes: &[Attribute], name: &str) -> bool
@@ -43,4 +45,39 @@ fn is_region(class: Class) -> bool
     ensures { result ≡ spec.is_region class }
 {
     matches!(class, Class::Region)
+}
+
+pub fn is_define(name: &str) -> bool
+    ensures { result ≡ spec.is_define name.now }
+{
+    name == "fx:define"
+}
+
+pub fn is_reference(name: &str) -> bool
+    ensures { result ≡ spec.is_reference name.now }
+{
+    name == "fx:reference"
+}
+
+pub fn is_include(name: &str) -> bool
+    ensures { result ≡ spec.is_include name.now }
+{
+    name == "fx:include"
+}
+
+/// Is an element of a definition a node? An instance may be one, and the root of another document is.
+#[tactic(auto, unfolding(crate::specs::Nodes::is_defined_node))]
+pub fn is_defined_node(element: &Element) -> bool
+    ensures { result ≡ spec.is_defined_node (head_of element.now) }
+{
+    is_include(element.name.as_str()) || is_node_if(element, class_named(element.name.as_str()))
+}
+
+fn is_node_if(element: &Element, class: Option<Class>) -> bool
+    ensures { result ≡ spec.is_node_if (head_of element.now) class }
+{
+    match class {
+        Some(class) => is_scene_node(class, element.attributes.as_slice()),
+        None => false,
+    }
 }

@@ -17,15 +17,31 @@ pub fn outline<'a>(alloc: Global, document: &'a Document) -> Result<Vec<Piece<'a
     ensures { IfOk result (λ pieces. shown pieces.items ≡ spec.outline (reading document.now)) }
 {
     let mut pieces = Vec::new(alloc);
-    add_root(&document.root, &mut pieces)?;
+    add_seated(&document.root, Seat::Root, &mut pieces)?;
     Ok(pieces)
 }
 
-fn add_root<'a>(root: &'a Element, pieces: &mut Vec<Piece<'a>>) -> Result<(), AllocError>
-    ensures ok { OnOk result (shown pieces.new.items ≡ shown pieces.old.items
-        ++ element_pieces (length pieces.old.items) root.now
-        (listed (length pieces.old.items) Root (head_of root.now) (content_of root.now))) }
+/// What stands in an element of a definition within a value, which is a node.
+#[tactic(auto, unfolding(crate::specs::Outlines::aside_outline))]
+pub fn aside_outline<'a>(alloc: Global, element: &'a Element) -> Result<Vec<Piece<'a>>, AllocError>
+    ensures { IfOk result (λ pieces. shown pieces.items
+        ≡ spec.aside_outline (head_of element.now) (content_of element.now)) }
 {
-    let inside = enter_listed(root, Seat::Root, pieces)?;
-    add_inside(root, inside, pieces)
+    let mut pieces = Vec::new(alloc);
+    add_seated(element, Seat::Aside, &mut pieces)?;
+    Ok(pieces)
+}
+
+/// Adds an element with its content in a seat.
+fn add_seated<'a>(
+    element: &'a Element,
+    seat: Seat,
+    pieces: &mut Vec<Piece<'a>>,
+) -> Result<(), AllocError>
+    ensures ok { OnOk result (shown pieces.new.items ≡ shown pieces.old.items
+        ++ element_pieces (length pieces.old.items) element.now
+        (listed (length pieces.old.items) seat (head_of element.now) (content_of element.now))) }
+{
+    let inside = enter_listed(element, seat, pieces)?;
+    add_inside(element, inside, pieces)
 }

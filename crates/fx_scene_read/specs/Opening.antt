@@ -35,13 +35,9 @@ children owner pieces = count_by (is_child owner) pieces
 abbrev pub node_at : ℕ → List ℕ → ℕ
 node_at owner nodes = unwrap_or (slice_get nodes owner) 0
 
--- A value may not stand where a node must. Defined values aren't read yet.
-abbrev pub place_flaw : Seat → Flaw
-place_flaw seat.Aside = flaw.NotBuilt
-place_flaw _ = flaw.Child
-
-abbrev pub value_flaw : Seat → Class → List Attr → Flaw
-value_flaw place class attributes = if lacks_value class attributes then flaw.Value else place_flaw place
+-- a value may not stand where a node must
+abbrev pub value_flaw : Class → List Attr → Flaw
+value_flaw class attributes = if lacks_value class attributes then flaw.Value else flaw.Child
 
 -- a scene has at most 4,096 nodes
 abbrev pub limit_flaw : ℕ → Option Flaw
@@ -57,7 +53,7 @@ unfoldable pub opening_flaw : List (List ℕ) → ℕ → Seat → Head → Clas
 opening_flaw imports node seat head class =
     if lacks_import imports head.name class then Some flaw.Import
     else (if is_scene_node class head.attributes then node_flaw node seat
-    else Some (value_flaw seat class head.attributes))
+    else Some (value_flaw class head.attributes))
 
 -- where a node comes to stand, behind these pieces with these ordinals
 abbrev pub stand_at : List Piece → List ℕ → Seat → Stand

@@ -46,7 +46,7 @@ pub(crate) fn opening_flaw(
     if is_scene_node(class, element.attributes.as_slice()) {
         return node_flaw(node, seat);
     }
-    Some(value_flaw(seat, class, element.attributes.as_slice()))
+    Some(value_flaw(class, element.attributes.as_slice()))
 }
 
 fn node_flaw(node: usize, seat: Seat) -> Option<Flaw>
@@ -59,23 +59,13 @@ fn node_flaw(node: usize, seat: Seat) -> Option<Flaw>
 }
 
 /// What is wrong with a value where a node must stand.
-fn value_flaw(seat: Seat, class: Class, attributes: &[Attribute]) -> Flaw
-    ensures { result ≡ spec.value_flaw seat class (map attr_view attributes.now) }
+fn value_flaw(class: Class, attributes: &[Attribute]) -> Flaw
+    ensures { result ≡ spec.value_flaw class (map attr_view attributes.now) }
 {
     if lacks_value(class, attributes) {
         Flaw::Value
     } else {
-        place_flaw(seat)
-    }
-}
-
-/// Defined values aren't read yet.
-fn place_flaw(seat: Seat) -> Flaw
-    ensures { result ≡ spec.place_flaw seat }
-{
-    match seat {
-        Seat::Aside => Flaw::NotBuilt,
-        _ => Flaw::Child,
+        Flaw::Child
     }
 }
 

@@ -7,7 +7,7 @@ use Rattle.fx_scene_things.specs.Names.{Names}
 use Rattle.fx_scene_things.specs.Spaces.{Space as PlainSpace, is_of, names_in}
 use Rattle.fx_scene_things.specs.declared.spaces.Space.{Space}
 
-find-map : {A B : Type 0} (test : B → Bool) (f : A → B) (xs : List A)
+pub find-map : {A B : Type 0} (test : B → Bool) (f : A → B) (xs : List A)
     → find test (map f xs) ≡ option_map f (find (λ x. test (f x)) xs)
 find-map test f [] = refl
 find-map {A} {B} test f (x ∷ xs) = either (test (f x)) (find test (map f xs)) (find (λ y. test (f y)) xs) (find-map test f xs)

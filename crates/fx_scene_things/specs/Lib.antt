@@ -1,3 +1,4 @@
 pub mod Known
 pub mod Names
+pub mod Settled
 pub mod Spaces

@@ -1,5 +1,5 @@
 //! The names of a document that are known so far.
-ghost use Rattle.std.specs.Prelude.{◌≡◌, OnOk, string_bytes};
+ghost use Rattle.std.specs.Prelude.{◌≡◌, IfOk, OnOk, string_bytes};
 ghost use Rattle.std.specs.Option.{option_copied};
 ghost use Rattle.fx_scene_things.specs.Known.{known};
 ghost use Rattle.fx_scene_things.specs.Names as spec;
@@ -53,6 +53,21 @@ impl Names {
         ensures ok { OnOk result (known self.new ≡ spec.with_name (known self.old) name.now thing) }
     {
         self.keep(String::from_str(alloc, name)?, thing)
+    }
+
+    /// The same names.
+    pub fn copy(&self, alloc: Global) -> Result<Names, AllocError>
+        ensures { IfOk result (λ names. known names ≡ known self.now) }
+    {
+        let mut names = Names::new(alloc);
+        let mut left = self.things.len();
+        while left > 0 {
+            left -= 1;
+            if let Some((name, thing)) = self.things.get_index(left) {
+                names.put(alloc, name.as_str(), thing.copy(alloc)?)?;
+            }
+        }
+        Ok(names)
     }
 
     fn keep(&mut self, name: String, thing: Thing) -> Result<(), AllocError>

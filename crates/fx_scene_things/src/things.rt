@@ -1,6 +1,9 @@
 //! What names of a document stand for.
+ghost use Rattle.std.specs.Prelude.{◌≡◌, IfOk};
+
 use fx_base::{Text, Track, Value};
 use fx_kinds::Class;
+use std::alloc::{AllocError, Global};
 
 /// The node of an ordinal, and its class.
 #[derive(Clone, Copy, Debug, PartialEq, Eq)]
@@ -26,4 +29,20 @@ pub enum Thing {
     Location(Text),
     /// Something that isn't whole yet.
     Open,
+}
+
+impl Thing {
+    /// The same thing.
+    pub(crate) fn copy(&self, alloc: Global) -> Result<Thing, AllocError>
+        ensures { IfOk result (λ copy. copy ≡ self.now) }
+    {
+        match self {
+            Thing::Node(named) => Ok(Thing::Node(*named)),
+            Thing::Value(value, defined) => Ok(Thing::Value(value.copy(alloc)?, *defined)),
+            Thing::Column(track) => Ok(Thing::Column(*track)),
+            Thing::Row(track) => Ok(Thing::Row(*track)),
+            Thing::Location(name) => Ok(Thing::Location(name.copy(alloc)?)),
+            Thing::Open => Ok(Thing::Open),
+        }
+    }
 }

@@ -1,4 +1,6 @@
 -- Forms and documents as definitions have them.
+use Rattle.std.specs.Prelude.{map}
+use Rattle.fx_scene_things.specs.Known.{settled_view}
 use Rattle.fx_scene_values.specs.Forms as plain
 use Rattle.fx_scene_values.specs.Scopes.{Scope as PlainScope, scope_of}
 use Rattle.fx_scene_values.specs.declared.forms.Form.{Form}
@@ -13,4 +15,4 @@ form_view (form.Located path) = plain.Located path.now
 form_view form.Refused = plain.Refused
 
 abbrev pub scope_view : Scope → PlainScope
-scope_view s = scope_of s.file.now s.imports.now
+scope_view s = scope_of s.file.now s.imports.now (map settled_view s.settled.now)

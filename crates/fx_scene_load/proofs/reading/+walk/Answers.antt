@@ -1,5 +1,6 @@
 -- documents, their pieces and their includes
-use Rattle.std.proofs.Common.{◌≡◌, ◌∙◌, ◌<◌, ◌++◌, ◌∷◌, [], ap, sym, subst, List, ℕ, Vec, Ok, Err, arith, length, map, take}
+use Rattle.std.proofs.Common.{◌≡◌, ◌∙◌, ◌<◌, ◌-◌, ◌++◌, ◌∷◌, [], ap, refl, sym, subst, List, ℕ, Vec, Ok, Err, arith, drop, length, map, take}
+use Rattle.std.specs.Prelude.{OnOk}
 use Rattle.std.specs.Global.{Global}
 use Rattle.std.specs.Option.{option_map}
 use Rattle.fx_base.specs.declared.positions.Place.{Place}
@@ -8,20 +9,28 @@ use Rattle.fx_doc.specs.declared.document.Attribute.{Attribute}
 use Rattle.fx_doc.specs.declared.document.Document.{Document}
 use Rattle.fx_load_parts.specs.Says.{LoadSays}
 use Rattle.fx_scene_load.specs.Asking.{asked_of}
-use Rattle.fx_scene_load.specs.Courses.{with_file, with_flaw}
+use Rattle.fx_scene_course.specs.Courses.{with_class, with_file, with_flaw}
+use Rattle.fx_scene_elements.specs.Elements.{Told}
+use Rattle.fx_scene_flaws.specs.declared.flaws.Flaw.TheVariants as flaw
 use Rattle.fx_scene_load.specs.Documents.{document_in}
-use Rattle.fx_scene_load.specs.Made.{IsInnerRead}
-use Rattle.fx_scene_load.specs.Opens.{inner_path}
-use Rattle.fx_scene_load.specs.Reading.{IsIncludeRead, IsWantedRead, stand_in, with_room}
-use Rattle.fx_scene_load.specs.Views.{course_view, desk_view, open_view}
+use Rattle.fx_scene_load.specs.Made.{AreDefinedRead, IsInnerRead}
+use Rattle.fx_scene_course.specs.Making.{acts_before}
+use Rattle.fx_scene_course.specs.Opens.{inner_path}
+use Rattle.fx_scene_load.specs.Reading.{IsIncludeRead, IsPieceRead, IsToldRead, IsWantedRead, stand_in, told_in, with_room}
+use Rattle.fx_scene_course.specs.Views.{course_view, open_view}
+use Rattle.fx_scene_load.specs.Views.{desk_view}
 use Rattle.fx_scene_load.specs.declared.desks.Desk.{Desk}
-use Rattle.fx_scene_outline.specs.Views.{head_of, shown}
+use Rattle.fx_scene_outline.specs.Defined.{Defined}
+use Rattle.fx_scene_outline.specs.Pieces.{Piece as PlainPiece}
+use Rattle.fx_scene_outline.specs.Views.{defined_shown, defined_view, head_of, piece_view, shown}
 use Rattle.fx_scene_read.specs.Opening.{stand_at}
 use Rattle.fx_scene_read.specs.declared.opening.Stand.{Stand}
-use Rattle.fx_scene_things.specs.Known.{known}
+use Rattle.fx_scene_things.specs.Known.{known, settled_view}
 use Rattle.fx_scene_things.specs.Names.{Names}
-use Rattle.fx_scene_load.proofs.ActLemmas.{counted, on_both, on_ok}
-use Rattle.fx_scene_load.proofs.ReadLemmas.{asked_is_roomy, ends, files_roomed, included_read, inner_read, inner_whole, steps_on, stops, told_included, told_misplaced, told_refused, told_unread_on, told_wanted, whole_read}
+use Rattle.fx_scene_things.specs.Settled.{Settled}
+use Rattle.fx_scene_things.specs.declared.settled.Settled.{Settled as HeldSettled}
+use Rattle.fx_scene_course.proofs.ActLemmas.{counted, on_both, on_ok}
+use Rattle.fx_scene_load.proofs.ReadLemmas.{asked_is_roomy, deep_read, defined_more, ends, files_roomed, included_read, inner_read, inner_whole, inside_read, next_read, none_defined, plain_read, steps_on, stops, told_included, told_misplaced, told_refused, told_unread_on, told_wanted, whole_read}
 use Rattle.fx_scene_load.proofs.reading.+walk.Goals as goal
 
 pub read_include-read_wanted-requires : goal.read_include-read_wanted-requires
@@ -89,12 +98,12 @@ read_include-returns-in_ok-add_room-in-Wanted-clause-done g n c = λ files e.
     (c.read_wanted.ensures.done files e (shown c.args.before.now))
 
 pub read_included-returns-clause-done : goal.read_included-returns-clause-done
-read_included-returns-clause-done g n c = λ files e.
+read_included-returns-clause-done g n c = λ files e room.
     let desk = desk_view (shown c.args.before.now) c.args.desk.now in
     let IsRead : Names → Type 0 =
     λ names. IsIncludeRead files (open_view c.args.here.now) desk (course_view c.args.course.now) c.args.seat
     (head_of c.args.element.now) names (course_view c.read_include.new.course) in
-    included_read files (open_view c.args.here.now) desk (course_view c.args.course.now)
+    included_read files (open_view c.args.here.now) room desk (course_view c.args.course.now)
     (course_view c.read_include.new.course) c.args.seat (head_of c.args.element.now) c.len-node.result
     (known c.push_node.new.desk.names) c.push_node.new.desk.lanes.items c.push_node.new.desk.nodes.items
     (counted c.args.course.now.classes c.len-node.result c.len-node.ensures)
@@ -129,7 +138,7 @@ read_inner-returns-clause-done g n c = λ files e before.
 
 pub read_pieces-returns-then-course-clause-done : goal.read_pieces-returns-then-course-clause-done
 read_pieces-returns-then-course-clause-done g n c = λ files e.
-    stops files (open_view c.args.here.now) (desk_view [] c.args.desk.now)
+    stops files (open_view c.args.here.now) c.args.room (desk_view [] c.args.desk.now)
     (desk_view (shown (take c.loop-index.index c.args.pieces.now)) c.loop-index.desk) (course_view c.args.course.now)
     (course_view c.loop-index.course) c.args.pieces.now c.loop-index.index (c.loop-index.invariant.completes files e)
     c.if-course.true
@@ -139,7 +148,7 @@ read_pieces-loop-index-preserved g n c = record {
   same = c.read_piece.ensures.held ∙ c.loop-index.invariant.same;
   later = omega (arith, c.read_piece.ensures.cause.later, c.loop-index.invariant.later);
   completes = λ files e.
-      steps_on files (open_view c.args.here.now) (desk_view [] c.args.desk.now) c.loop-index.desk c.read_piece.new.desk
+      steps_on files (open_view c.args.here.now) c.args.room (desk_view [] c.args.desk.now) c.loop-index.desk c.read_piece.new.desk
       (course_view c.args.course.now) (course_view c.loop-index.course) (course_view c.read_piece.new.course)
       c.args.pieces.now c.split_at.result.0.now c.loop-index.index c.index-pieces-index.result c.loop-index-test.true
       c.index-pieces-index.is c.split_at.ensures.front (c.loop-index.invariant.completes files e) c.if-course.false
@@ -148,7 +157,7 @@ read_pieces-loop-index-preserved g n c = record {
 
 pub read_pieces-returns-clause-done : goal.read_pieces-returns-clause-done
 read_pieces-returns-clause-done g n c = λ files e.
-    ends files (open_view c.args.here.now) (desk_view [] c.args.desk.now)
+    ends files (open_view c.args.here.now) c.args.room (desk_view [] c.args.desk.now)
     (desk_view (shown (take c.loop-index.index c.args.pieces.now)) c.loop-index.desk) (course_view c.args.course.now)
     (course_view c.loop-index.course) c.args.pieces.now c.loop-index.index c.loop-index-test.false
     (c.loop-index.invariant.completes files e)
@@ -190,3 +199,116 @@ read_whole-returns-clause-done g n c = λ files e.
     (desk_view [] c.empty_desk-desk.result) (shown c.as_slice.result.now) c.empty_desk-desk.ensures
     (ap shown c.as_slice.ensures.value ∙ c.in_ok-pieces.ensures) c.in_ok-add_space.ensures.ok
     (c.in_ok-read_pieces.ensures.done files e)
+
+pub read_piece-returns-in-Include-clause-done : goal.read_piece-returns-in-Include-clause-done
+read_piece-returns-in-Include-clause-done g n c = λ files e.
+    let IsRead : PlainPiece → Type 0 =
+    λ piece. OnOk c.read_included.result (IsPieceRead files (open_view c.args.here.now) c.args.room
+    (desk_view (shown c.args.before.now) c.args.desk.now) (course_view c.args.course.now) piece
+    (desk_view (shown c.args.before.now ++ (piece ∷ [])) c.read_included.new.desk)
+    (course_view c.read_included.new.course)) in
+    subst IsRead (ap piece_view (sym c.in-Include.is)) (c.read_included.ensures.done files e c.args.room)
+
+pub read_plain-returns-clause-done : goal.read_plain-returns-clause-done
+read_plain-returns-clause-done g n c = λ files e.
+    let here = open_view c.args.here.now in
+    let desk = desk_view (shown c.args.before.now) c.args.desk.now in
+    let piece = piece_view c.args.piece.now in
+    let settled = map settled_view c.in_ok-progress.progress.settled.items in
+    let IsDefined : List Defined → Type 0 =
+    λ nodes. AreDefinedRead files here c.args.room desk c.len-node.result piece nodes (course_view c.args.course.now)
+    settled c.in_ok-progress.progress.done (course_view c.read_all_defined.new.course) in
+    plain_read files here c.args.room desk (course_view c.args.course.now) (course_view c.read_all_defined.new.course)
+    (course_view c.read_rest.new.course) (course_view c.add_class.new.course) piece c.len-node.result settled
+    c.in_ok-progress.progress.done (known c.push_node.new.desk.names) c.push_node.new.desk.lanes.items
+    c.push_node.new.desk.nodes.items c.requires.plain
+    (counted c.args.course.now.classes c.len-node.result c.len-node.ensures)
+    (subst IsDefined (ap defined_shown c.as_slice.ensures.value ∙ c.in_ok-defined.ensures)
+    (c.in_ok-progress.ensures.done files e))
+    (ap (λ (d : Desk). known d.names) c.in_ok-push_node.ensures.others ∙ c.in_ok-read_rest.ensures.names)
+    (ap (λ (d : Desk). d.lanes.items) c.in_ok-push_node.ensures.others ∙ c.in_ok-read_rest.ensures.lanes)
+    (c.in_ok-push_node.ensures.ok
+    ∙ ap (λ (v : Vec ℕ Global). v.items ++ (c.len-node.result ∷ [])) c.in_ok-read_rest.ensures.nodes)
+    (c.in_ok-read_rest.ensures.done files (c.read_all_defined.ensures.held ∙ e))
+    (c.in_ok-add_class.ensures.ok ∙ ap (with_class (course_view c.read_rest.new.course)) c.class_of.ensures)
+
+pub read_all_defined-loop-element-init : goal.read_all_defined-loop-element-init
+read_all_defined-loop-element-init g n c =
+    let here = open_view c.args.here.now in
+    let desk = desk_view (shown c.args.before.now) c.args.desk.now in
+    let piece = piece_view c.args.piece.now in
+    record {
+      same = refl;
+      later = omega (arith);
+      completes = λ files e told last read.
+          subst (λ (nodes : List HeldSettled). IsToldRead files here c.args.room desk c.args.node piece
+          (map settled_view nodes) 0 (course_view c.args.course.now) (defined_shown c.args.defined.now) told last)
+          c.new.ensures.items read;
+    }
+
+pub read_all_defined-loop-element-preserved : goal.read_all_defined-loop-element-preserved
+read_all_defined-loop-element-preserved g n c =
+    let here = open_view c.args.here.now in
+    let desk = desk_view (shown c.args.before.now) c.args.desk.now in
+    let piece = piece_view c.args.piece.now in
+    record {
+      same = c.read_next_defined.ensures.held ∙ c.loop-element.invariant.same;
+      later = omega (arith, c.read_next_defined.ensures.cause.later, c.loop-element.invariant.later);
+      completes = λ files e told last read.
+          c.loop-element.invariant.completes files e told last
+          (defined_more files here c.args.room desk c.args.node piece c.args.defined.now c.loop-element.element-index
+          c.element-item.result (map settled_view c.loop-element.progress.settled.items)
+          (map settled_view c.read_next_defined.new.progress.settled.items) c.loop-element.progress.done
+          c.read_next_defined.new.progress.done (course_view c.loop-element.course)
+          (course_view c.read_next_defined.new.course) told last c.loop-element-test.true c.element-item.is
+          (c.in_ok-read_next_defined.ensures.done files (c.loop-element.invariant.same ∙ e)) read);
+    }
+
+pub read_all_defined-returns-clause-done : goal.read_all_defined-returns-clause-done
+read_all_defined-returns-clause-done g n c = λ files e told last read.
+    let here = open_view c.args.here.now in
+    let desk = desk_view (shown c.args.before.now) c.args.desk.now in
+    let piece = piece_view c.args.piece.now in
+    c.loop-element.invariant.completes files e told last
+    (none_defined files here c.args.room desk c.args.node piece c.args.defined.now c.loop-element.element-index
+    (map settled_view c.loop-element.progress.settled.items) c.loop-element.progress.done
+    (course_view c.loop-element.course) told last c.loop-element-test.false read)
+
+pub read_next_defined-returns-clause-done : goal.read_next_defined-returns-clause-done
+read_next_defined-returns-clause-done g n c = λ files e.
+    let here = open_view c.args.here.now in
+    let before = shown c.args.before.now in
+    let desk = desk_view before c.args.desk.now in
+    let trial = desk_view before c.in_ok-trial.trial in
+    let piece = piece_view c.args.piece.now in
+    let settled = map settled_view c.args.progress.now.settled.items in
+    let lent : map settled_view c.as_slice-settled.result.now ≡ settled =
+    ap (λ (l : List HeldSettled). map settled_view l) c.as_slice-settled.ensures.value in
+    let acts = c.in_ok-acts.acts.items in
+    let done = c.args.progress.now.done in
+    next_read files here c.args.room desk trial c.args.node piece (defined_view c.args.element.now) settled
+    (map settled_view c.settle.new.progress.settled.items) done c.settle.new.progress.done
+    (course_view c.args.course.now) (course_view c.do_acts.new.course) (course_view c.read_defined.new.course) acts
+    c.in_ok-acts-2.acts.items (known c.tell_piece.new.desk.names) (known c.in_ok-names.names)
+    (c.in_ok-trial.ensures before)
+    (c.in_ok-acts.ensures.acts ∙ ap (λ (s : List Settled). (told_in here trial s c.args.node piece).acts) lent)
+    (c.in_ok-acts.ensures.names ∙ ap (λ (s : List Settled). (told_in here trial s c.args.node piece).names) lent)
+    (c.in_ok-settle.ensures.done ∙ (c.acts_before-count.ensures ∙ ap acts_before c.as_slice.ensures.value))
+    (c.in_ok-acts-2.ensures ∙ ap (λ n. drop done (take n acts)) (sym c.in_ok-settle.ensures.done))
+    (c.in_ok-do_acts.ensures.done files e) (c.in_ok-names.ensures.done files (c.do_acts.ensures.held ∙ e))
+    c.in_ok-settle.ensures.settled
+
+pub read_defined-returns-then-room-eq0-clause-done : goal.read_defined-returns-then-room-eq0-clause-done
+read_defined-returns-then-room-eq0-clause-done g n c = λ files e.
+    deep_read files (open_view c.args.here.now) c.args.room (known c.args.names) (course_view c.args.course.now)
+    (course_view c.add_flaw.new.course) (defined_view c.args.element.now) (omega (arith, c.if-room-eq0.true))
+    (c.in_ok-add_flaw.ensures.ok
+    ∙ ap (λ (place : Place). with_flaw (course_view c.args.course.now) place flaw.Limit) c.place_in.ensures)
+
+pub read_defined-returns-clause-done : goal.read_defined-returns-clause-done
+read_defined-returns-clause-done g n c = λ files e.
+    inside_read files (open_view c.args.here.now) c.args.room (c.args.room - 1) (known c.args.names)
+    (known c.read_pieces.new.desk.names) (desk_view [] c.desk_with-desk.result) (course_view c.args.course.now)
+    (course_view c.read_pieces.new.course) (defined_view c.args.element.now) (shown c.as_slice.result.now)
+    (omega (arith, c.if-room-eq0.false)) c.desk_with-desk.ensures
+    (ap shown c.as_slice.ensures.value ∙ c.in_ok-pieces.ensures) (c.in_ok-read_pieces.ensures.done files e)

@@ -2,9 +2,10 @@
 use Rattle.std.proofs.Common.{◌∙◌, ap, subst, List, Option, slice_get}
 use Rattle.std.specs.Prelude.{OnOk}
 use Rattle.fx_kinds.specs.declared.classes.Class.{Class}
-use Rattle.fx_scene_load.specs.Making.{AreActsDone, no_acts}
+use Rattle.fx_scene_course.specs.Making.{AreActsDone, no_acts}
 use Rattle.fx_scene_load.specs.Reading.{root_acts_if}
-use Rattle.fx_scene_load.specs.Views.{course_view, desk_view, open_view}
+use Rattle.fx_scene_course.specs.Views.{course_view, open_view}
+use Rattle.fx_scene_load.specs.Views.{desk_view}
 use Rattle.fx_scene_outline.specs.Views.{head_of}
 use Rattle.fx_scene_load.proofs.reading.read_root.Goals as goal
 

@@ -2,8 +2,8 @@
 use Rattle.std.proofs.Common.{Vec, List, ℕ, Some, ap}
 use Rattle.std.specs.Global.{Global}
 use Rattle.fx_doc.specs.Views.{reading}
-use Rattle.fx_scene_load.specs.Courses.{first_course}
-use Rattle.fx_scene_load.specs.Views.{course_view}
+use Rattle.fx_scene_course.specs.Courses.{first_course}
+use Rattle.fx_scene_course.specs.Views.{course_view}
 use Rattle.fx_scene_load.proofs.SceneLemmas.{scene_done}
 use Rattle.fx_scene_load.proofs.scenes.add_scene.Goals as goal
 

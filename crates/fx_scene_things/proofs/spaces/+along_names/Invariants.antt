@@ -1,5 +1,5 @@
 -- names are left behind each name
-use Rattle.std.proofs.Common.{ℕ, ◌+◌, ◌*◌, length}
+use Rattle.std.proofs.Common.{◌+◌, ◌*◌, length}
 use Rattle.fx_scene_things.proofs.spaces.+along_names.Given as goal
 
 abbrev pub decreases-along : goal.decreases-along

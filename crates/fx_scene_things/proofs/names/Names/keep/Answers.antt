@@ -1,5 +1,5 @@
 -- the name stands for what it was given, and every other name for what it stood for
-use Rattle.std.proofs.Common.{◌≡◌, ℕ, List, Option, Some, string_bytes}
+use Rattle.std.proofs.Common.{Some, string_bytes}
 use Rattle.std.proofs.lemmas.Map.Text.{hash_map_updates_text}
 use mathlib.Core.Path.{fun_ext}
 use Rattle.fx_scene_things.proofs.names.Names.keep.Goals as goal

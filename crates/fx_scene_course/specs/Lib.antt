@@ -1,0 +1,5 @@
+pub mod Courses
+pub mod Made
+pub mod Making
+pub mod Opens
+pub mod Views

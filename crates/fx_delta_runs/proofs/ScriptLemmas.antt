@@ -1,48 +1,24 @@
 -- A script that was read is tame: its lines are what stands between line feeds, and what a line says, asks for or
 -- defines are parts of its text.
-use Rattle.std.proofs.Common.{◌≡◌, ◌≤◌, ◌+◌, ◌-◌, ℕ, Bool, true, false, cond, ◌&&◌, eqb, not, List, [], ◌∷◌, length, take, Option, Some, None, All, refl, sym, subst, arith}
+use Rattle.std.proofs.Common.{◌≡◌, ◌≤◌, ◌+◌, ◌-◌, ℕ, Bool, true, false, cond, ◌&&◌, eqb, not, List, [], ◌∷◌, ◌++◌, length, take, Option, Some, None, All, refl, sym, subst, arith}
 use Rattle.std.specs.Prelude.{IfSome, codes, nat_le}
-use Rattle.std.specs.List.{list_all, onto_first, position, position_or_len, prefix_len, slice_index, slice_split}
+use Rattle.std.specs.List.{find, list_all, onto_first, position, position_or_len, prefix_len, slice_index, slice_split}
 use Rattle.std.specs.Option.{option_and_then, option_map, option_to_list}
 use Rattle.std.specs.Str.{bytes_eq}
 use Rattle.std.specs.Str.Lines.{lines, lines_of_parts, strip_carriage_return}
 use Rattle.std.proofs.lemmas.List.Elements.{All-append, All-cons, All-drop, All-head, All-nil, All-tail, All-take, All-weaker}
 use Rattle.fx_text.specs.Fronts.{behind}
 use Rattle.fx_delta.specs.Stream.{is_line_feed}
-use Rattle.fx_script_commands.specs.Commands.{action_name, binding, command_behind, expression_in, is_barred, is_skipped, is_end, or_bad, request_behind, request_of}
+use Rattle.fx_script_commands.specs.Commands.{action_name, binding, command_behind, expression_in, is_skipped, is_end, or_bad, request_behind}
 use Rattle.fx_script_commands.specs.Requests.{Expression, Numbered, Request, asks, bad, binds, defines, requests_of}
 use Rattle.fx_script_commands.specs.Scripts.{IsScript, action_of, body_from, body_in, body_of, inside_line, line_at, lines_from, opened, opens}
-use Rattle.fx_script_commands.specs.declared.standing.Standing.{Standing}
-use Rattle.fx_script_commands.specs.declared.standing.Standing.TheVariants.{Outside, InAction}
 use Rattle.fx_script_lines.specs.Forms.{bond, focus, form, frame, input, instruction_behind, listener, look, node, property, time, tree}
-use Rattle.fx_script_lines.specs.Keywords.{keyword_of}
+use Rattle.fx_script_lines.specs.Keywords.{eight_letters, five_letters, four_letters, keyword_of, keywords, more_letters, seven_letters, six_letters, three_letters}
 use Rattle.fx_script_lines.specs.Taking.{Reader, alone, behind_word, ended, has_shape, is_dot, is_name, is_over, is_space, is_word, label, names, names_in, pair, path, quadruple, rest, reverse, triple, word, word_in}
 use Rattle.fx_script_lines.specs.declared.instructions.Instruction.{Instruction}
 use Rattle.fx_script_lines.specs.declared.instructions.Instruction.TheVariants as line
 use Rattle.fx_script_lines.specs.declared.shapes.Shape.{Shape}
 use Rattle.fx_script_lines.specs.declared.shapes.Shape.TheVariants.{Any, Identifier, Ident, Integer, Place, Count, Notice, Kind, Switch}
-use Rattle.fx_script_lines.specs.declared.keywords.Keyword.{Keyword}
-use Rattle.fx_script_lines.specs.declared.keywords.Keyword.TheVariants as about
-use Rattle.fx_script_lines.specs.declared.keywords.PropertyWord.{PropertyWord}
-use Rattle.fx_script_lines.specs.declared.keywords.PropertyWord.TheVariants as property_word
-use Rattle.fx_script_lines.specs.declared.keywords.BondWord.{BondWord}
-use Rattle.fx_script_lines.specs.declared.keywords.BondWord.TheVariants as bond_word
-use Rattle.fx_script_lines.specs.declared.keywords.ListenerWord.{ListenerWord}
-use Rattle.fx_script_lines.specs.declared.keywords.ListenerWord.TheVariants as listener_word
-use Rattle.fx_script_lines.specs.declared.keywords.TreeWord.{TreeWord}
-use Rattle.fx_script_lines.specs.declared.keywords.TreeWord.TheVariants as tree_word
-use Rattle.fx_script_lines.specs.declared.keywords.LookWord.{LookWord}
-use Rattle.fx_script_lines.specs.declared.keywords.LookWord.TheVariants as look_word
-use Rattle.fx_script_lines.specs.declared.keywords.NodeWord.{NodeWord}
-use Rattle.fx_script_lines.specs.declared.keywords.NodeWord.TheVariants as node_word
-use Rattle.fx_script_lines.specs.declared.keywords.InputWord.{InputWord}
-use Rattle.fx_script_lines.specs.declared.keywords.InputWord.TheVariants as input_word
-use Rattle.fx_script_lines.specs.declared.keywords.FocusWord.{FocusWord}
-use Rattle.fx_script_lines.specs.declared.keywords.FocusWord.TheVariants as focus_word
-use Rattle.fx_script_lines.specs.declared.keywords.FrameWord.{FrameWord}
-use Rattle.fx_script_lines.specs.declared.keywords.FrameWord.TheVariants as frame_word
-use Rattle.fx_script_lines.specs.declared.keywords.TimeWord.{TimeWord}
-use Rattle.fx_script_lines.specs.declared.keywords.TimeWord.TheVariants as time_word
 use Rattle.fx_delta_runs.specs.Tame.{AreTame, AreTameLines, IsOneLine, IsOnePath, IsTame, IsTameInstruction, IsTameLine}
 
 abbrev Calm : ℕ → Type 0
@@ -214,115 +190,144 @@ others : {A : Type 0} (o : Option A) (f : A → Instruction) → ((a : A) → Is
 others None f each = tt
 others (Some a) f each = each a
 
-property_tame : (keyword : PropertyWord) (text : List ℕ) → IsOneLine text → MaySay (property keyword text)
-unfolding property
-property_tame property_word.Prop text one =
-    others (triple (word Identifier) (word Kind) rest text) (λ a. line.Prop a.0 a.1 a.2) (λ a. tt)
-property_tame property_word.Set text one = others (pair path rest text) (λ a. line.Set a.0 a.1) (λ a. tt)
-property_tame property_word.Get text one =
+-- what the rows of a table of first words ask for is tame
+abbrev AllSay : {K : Type 0} → (K → Option Instruction) → List (List ℕ × K) → Type 0
+AllSay form [] = Unit {0}
+AllSay form (row ∷ rows) = MaySay (form row.1) × AllSay form rows
+
+both_say : {K : Type 0} (form : K → Option Instruction) (front back : List (List ℕ × K)) → AllSay form front
+    → AllSay form back → AllSay form (front ++ back)
+both_say form [] back says more = more
+both_say form (row ∷ rows) back says more = (says.0, both_say form rows back says.1 more)
+
+found_says : {K : Type 0} (form : K → Option Instruction) (table : List (List ℕ × K)) (first : List ℕ)
+    → AllSay form table
+    → MaySay (option_and_then form (option_map (λ row. row.1) (find (λ row. bytes_eq row.0 first) table)))
+found_says form [] first says = tt
+found_says {K} form (row ∷ rows) first says = by (bytes_eq row.0 first) (found_says form rows first says.1)
+  where
+    found : List (List ℕ × K) → Option (List ℕ × K)
+    found = find (λ r. bytes_eq r.0 first)
+
+    by : (t : Bool) → MaySay (option_and_then form (option_map (λ r. r.1) (found rows)))
+        → MaySay (option_and_then form (option_map (λ r. r.1) (cond t (Some row) (found rows))))
+    by true more = says.0
+    by false more = more
+
+get_tame : (text : List ℕ) → IsOneLine text → MaySay (option_map line.Get (alone path text))
+get_tame text one =
     map_some IsOnePath IsTameInstruction (alone path text) line.Get (alone_reads IsOnePath path text path_reads one)
     (λ p is. is)
-property_tame property_word.Unbind text one = others (alone path text) line.Unbind (λ a. tt)
 
-bond_tame : (keyword : BondWord) (text : List ℕ) → MaySay (bond keyword text)
-unfolding bond
-bond_tame bond_word.Pair text = others (pair path path text) (λ a. line.Pair a.0 a.1) (λ a. tt)
-bond_tame bond_word.Unpair text = others (pair path path text) (λ a. line.Unpair a.0 a.1) (λ a. tt)
-bond_tame bond_word.Owner text = others (alone (word Identifier) text) line.Owner (λ a. tt)
-bond_tame bond_word.Release text = others (alone (word Identifier) text) line.Release (λ a. tt)
-
-listener_tame : (keyword : ListenerWord) (text : List ℕ) → IsOneLine text → MaySay (listener keyword text)
-unfolding listener
-listener_tame listener_word.Listen text one =
+listen_tame : (text : List ℕ) → IsOneLine text
+    → MaySay (option_map (λ a. line.Listen a.0 a.1 a.2) (triple (word Notice) path label text))
+listen_tame text one =
     map_some (λ (a : List ℕ × List (List ℕ) × Option (List ℕ)). IsOnePath a.1) IsTameInstruction
     (triple (word Notice) path label text) (λ a. line.Listen a.0 a.1 a.2)
     (triple_reads IsOnePath (word Notice) path label text (word_reads Notice) path_reads one) (λ a is. is)
-listener_tame listener_word.Unlisten text one =
-    others (triple (word Notice) path label text) (λ a. line.Unlisten a.0 a.1 a.2) (λ a. tt)
-listener_tame listener_word.Watch text one =
+
+watch_tame : (text : List ℕ) → IsOneLine text
+    → MaySay (option_map (λ a. line.Watch a.0 a.1 a.2 a.3) (quadruple (word Notice) path (word Identifier) label text))
+watch_tame text one =
     map_some (λ (a : List ℕ × List (List ℕ) × List ℕ × Option (List ℕ)). IsOnePath a.1) IsTameInstruction
     (quadruple (word Notice) path (word Identifier) label text) (λ a. line.Watch a.0 a.1 a.2 a.3)
     (quadruple_reads IsOnePath (word Notice) path (word Identifier) label text (word_reads Notice) path_reads one)
     (λ a is. is)
-listener_tame listener_word.Unwatch text one =
-    others (quadruple (word Notice) path (word Identifier) label text) (λ a. line.Unwatch a.0 a.1 a.2 a.3) (λ a. tt)
 
-tree_tame : (keyword : TreeWord) (text : List ℕ) → MaySay (tree keyword text)
-unfolding tree
-tree_tame tree_word.New text = others (pair (word Any) (word Identifier) text) (λ a. line.New a.0 a.1) (λ a. tt)
-tree_tame tree_word.Attach text =
-    others (triple path path (word Place) text) (λ a. line.Attach a.0 a.1 a.2) (λ a. tt)
-tree_tame tree_word.Detach text = others (alone path text) line.Detach (λ a. tt)
-tree_tame tree_word.Drop text = others (alone path text) line.Drop (λ a. tt)
+say_tame : (text : List ℕ) → IsOneLine text → MaySay (option_map line.Say (alone rest text))
+unfolding rest
+say_tame text one = one
 
-look_tame : (keyword : LookWord) (text : List ℕ) → MaySay (look keyword text)
-unfolding look
-look_tame look_word.Class text = others (pair path (word Any) text) (λ a. line.Class a.0 a.1) (λ a. tt)
-look_tame look_word.Unclass text = others (pair path (word Any) text) (λ a. line.Unclass a.0 a.1) (λ a. tt)
-look_tame look_word.Style text = others (pair path rest text) (λ a. line.Style a.0 a.1) (λ a. tt)
-look_tame look_word.Pseudo text =
-    others (triple path (word Any) (word Switch) text) (λ a. line.Pseudo a.0 a.1 a.2) (λ a. tt)
+-- the tables, row by row
+onto : {A B : Type 0} → A → B → A × B
+onto a b = (a, b)
 
-node_tame : (keyword : NodeWord) (text : List ℕ) → MaySay (node keyword text)
-unfolding node
-node_tame node_word.Constrain text =
-    others (triple path (word Any) rest text) (λ a. line.Constrain a.0 a.1 a.2) (λ a. tt)
-node_tame node_word.Explain text = others (pair path (word Ident) text) (λ a. line.Explain a.0 a.1) (λ a. tt)
-node_tame node_word.Handle text =
-    others (triple path (word Any) (word Identifier) text) (λ a. line.Handle a.0 a.1 a.2) (λ a. tt)
-node_tame node_word.Filter text =
-    others (triple path (word Any) (word Identifier) text) (λ a. line.Filter a.0 a.1 a.2) (λ a. tt)
+three_say : (text : List ℕ) → IsOneLine text → AllSay (λ keyword. form keyword text) three_letters
+unfolding property tree input focus frame
+three_say text one =
+    onto (others (pair path rest text) (λ a. line.Set a.0 a.1) (λ a. tt))
+    (onto (get_tame text one)
+    (onto (others (pair (word Any) (word Identifier) text) (λ a. line.New a.0 a.1) (λ a. tt))
+    (onto (others (alone (word Any) text) line.Key (λ a. tt))
+    (onto (ended_some IsTameInstruction line.Tab text tt)
+    (onto (say_tame text one) tt)))))
 
-input_tame : (keyword : InputWord) (text : List ℕ) → MaySay (input keyword text)
-unfolding input
-input_tame input_word.Move text = others (pair (word Integer) (word Integer) text) (λ a. line.Move a.0 a.1) (λ a. tt)
-input_tame input_word.Press text = ended_some IsTameInstruction line.Press text tt
-input_tame input_word.ReleaseButton text = ended_some IsTameInstruction line.ReleaseButton text tt
-input_tame input_word.Key text = others (alone (word Any) text) line.Key (λ a. tt)
+four_say : (text : List ℕ) → IsOneLine text → AllSay (λ keyword. form keyword text) four_letters
+unfolding property bond tree input time
+four_say text one =
+    onto (others (triple (word Identifier) (word Kind) rest text) (λ a. line.Prop a.0 a.1 a.2) (λ a. tt))
+    (onto (others (pair path path text) (λ a. line.Pair a.0 a.1) (λ a. tt))
+    (onto (others (alone path text) line.Drop (λ a. tt))
+    (onto (others (pair (word Integer) (word Integer) text) (λ a. line.Move a.0 a.1) (λ a. tt))
+    (onto (others (alone (word Identifier) text) line.Play (λ a. tt))
+    (onto (others (alone (word Identifier) text) line.Stop (λ a. tt))
+    (onto (others (alone (word Integer) text) line.Tick (λ a. tt)) tt))))))
 
-focus_tame : (keyword : FocusWord) (text : List ℕ) → MaySay (focus keyword text)
-unfolding focus
-focus_tame focus_word.Focus text = others (alone path text) line.Focus (λ a. tt)
-focus_tame focus_word.Tab text = ended_some IsTameInstruction line.Tab text tt
-focus_tame focus_word.Backtab text = ended_some IsTameInstruction line.Backtab text tt
+five_say : (text : List ℕ) → IsOneLine text → AllSay (λ keyword. form keyword text) five_letters
+unfolding bond listener look input focus frame
+five_say text one =
+    onto (others (alone (word Identifier) text) line.Owner (λ a. tt))
+    (onto (watch_tame text one)
+    (onto (others (pair path (word Any) text) (λ a. line.Class a.0 a.1) (λ a. tt))
+    (onto (others (pair path rest text) (λ a. line.Style a.0 a.1) (λ a. tt))
+    (onto (ended_some IsTameInstruction line.Press text tt)
+    (onto (others (alone path text) line.Focus (λ a. tt))
+    (onto (ended_some IsTameInstruction line.Pulse text tt) tt))))))
 
-frame_tame : (keyword : FrameWord) (text : List ℕ) → IsOneLine text → MaySay (frame keyword text)
-unfolding frame rest
-frame_tame frame_word.Resize text one =
-    others (pair (word Integer) (word Integer) text) (λ a. line.Resize a.0 a.1) (λ a. tt)
-frame_tame frame_word.Pulse text one = ended_some IsTameInstruction line.Pulse text tt
-frame_tame frame_word.Say text one = one
-frame_tame frame_word.Consume text one = ended_some IsTameInstruction line.Consume text tt
+six_say : (text : List ℕ) → IsOneLine text → AllSay (λ keyword. form keyword text) six_letters
+unfolding property bond listener tree look node frame
+six_say text one =
+    onto (others (alone path text) line.Unbind (λ a. tt))
+    (onto (others (pair path path text) (λ a. line.Unpair a.0 a.1) (λ a. tt))
+    (onto (listen_tame text one)
+    (onto (others (triple path path (word Place) text) (λ a. line.Attach a.0 a.1 a.2) (λ a. tt))
+    (onto (others (alone path text) line.Detach (λ a. tt))
+    (onto (others (triple path (word Any) (word Switch) text) (λ a. line.Pseudo a.0 a.1 a.2) (λ a. tt))
+    (onto (others (triple path (word Any) (word Identifier) text) (λ a. line.Handle a.0 a.1 a.2) (λ a. tt))
+    (onto (others (triple path (word Any) (word Identifier) text) (λ a. line.Filter a.0 a.1 a.2) (λ a. tt))
+    (onto (others (pair (word Integer) (word Integer) text) (λ a. line.Resize a.0 a.1) (λ a. tt)) tt))))))))
 
-time_tame : (keyword : TimeWord) (text : List ℕ) → MaySay (time keyword text)
-unfolding time
-time_tame time_word.Timeline text =
-    others (triple (word Identifier) (word Count) reverse text) (λ a. line.Timeline a.0 a.1 a.2) (λ a. tt)
-time_tame time_word.Keyframe text =
-    others (quadruple (word Identifier) (word Integer) path rest text) (λ a. line.Keyframe a.0 a.1 a.2 a.3) (λ a. tt)
-time_tame time_word.Play text = others (alone (word Identifier) text) line.Play (λ a. tt)
-time_tame time_word.Stop text = others (alone (word Identifier) text) line.Stop (λ a. tt)
-time_tame time_word.Tick text = others (alone (word Integer) text) line.Tick (λ a. tt)
+seven_say : (text : List ℕ) → IsOneLine text → AllSay (λ keyword. form keyword text) seven_letters
+unfolding bond listener look node focus frame
+seven_say text one =
+    onto (others (alone (word Identifier) text) line.Release (λ a. tt))
+    (onto (others (quadruple (word Notice) path (word Identifier) label text) (λ a. line.Unwatch a.0 a.1 a.2 a.3) (λ a. tt))
+    (onto (others (pair path (word Any) text) (λ a. line.Unclass a.0 a.1) (λ a. tt))
+    (onto (others (pair path (word Ident) text) (λ a. line.Explain a.0 a.1) (λ a. tt))
+    (onto (ended_some IsTameInstruction line.Backtab text tt)
+    (onto (ended_some IsTameInstruction line.Consume text tt) tt)))))
 
-form_tame : (keyword : Keyword) (text : List ℕ) → IsOneLine text → MaySay (form keyword text)
-form_tame (about.Property keyword) text one = property_tame keyword text one
-form_tame (about.Bond keyword) text one = bond_tame keyword text
-form_tame (about.Listener keyword) text one = listener_tame keyword text one
-form_tame (about.Tree keyword) text one = tree_tame keyword text
-form_tame (about.Look keyword) text one = look_tame keyword text
-form_tame (about.Node keyword) text one = node_tame keyword text
-form_tame (about.Input keyword) text one = input_tame keyword text
-form_tame (about.Focus keyword) text one = focus_tame keyword text
-form_tame (about.Frame keyword) text one = frame_tame keyword text one
-form_tame (about.Time keyword) text one = time_tame keyword text
+eight_say : (text : List ℕ) → IsOneLine text → AllSay (λ keyword. form keyword text) eight_letters
+unfolding listener time
+eight_say text one =
+    onto (others (triple (word Notice) path label text) (λ a. line.Unlisten a.0 a.1 a.2) (λ a. tt))
+    (onto (others (triple (word Identifier) (word Count) reverse text) (λ a. line.Timeline a.0 a.1 a.2) (λ a. tt))
+    (onto (others (quadruple (word Identifier) (word Integer) path rest text) (λ a. line.Keyframe a.0 a.1 a.2 a.3) (λ a. tt)) tt))
+
+more_say : (text : List ℕ) → IsOneLine text → AllSay (λ keyword. form keyword text) more_letters
+unfolding node input
+more_say text one =
+    onto (others (triple path (word Any) rest text) (λ a. line.Constrain a.0 a.1 a.2) (λ a. tt))
+    (onto (ended_some IsTameInstruction line.ReleaseButton text tt) tt)
+
+all_say : (text : List ℕ) → IsOneLine text → AllSay (λ keyword. form keyword text) keywords
+unfolding keywords
+all_say text one =
+    both_say (λ keyword. form keyword text) three_letters
+    (four_letters ++ (five_letters ++ (six_letters ++ (seven_letters ++ (eight_letters ++ more_letters)))))
+    (three_say text one)
+    (both_say (λ keyword. form keyword text) four_letters
+    (five_letters ++ (six_letters ++ (seven_letters ++ (eight_letters ++ more_letters)))) (four_say text one)
+    (both_say (λ keyword. form keyword text) five_letters
+    (six_letters ++ (seven_letters ++ (eight_letters ++ more_letters))) (five_say text one)
+    (both_say (λ keyword. form keyword text) six_letters (seven_letters ++ (eight_letters ++ more_letters))
+    (six_say text one)
+    (both_say (λ keyword. form keyword text) seven_letters (eight_letters ++ more_letters) (seven_say text one)
+    (both_say (λ keyword. form keyword text) eight_letters more_letters (eight_say text one) (more_say text one))))))
 
 instruction_tame : (first text : List ℕ) → IsOneLine text → MaySay (instruction_behind first text)
-unfolding instruction_behind
-instruction_tame first text one = by (keyword_of first)
-  where
-    by : (found : Option Keyword) → MaySay (option_and_then (λ keyword. form keyword text) found)
-    by None = tt
-    by (Some keyword) = form_tame keyword text one
+unfolding instruction_behind keyword_of
+instruction_tame first text one = found_says (λ keyword. form keyword text) keywords first (all_say text one)
 
 -- ---- one line
 or_tame : (o : Option Request) → IfSome o IsTame → IsTame (or_bad o)
@@ -350,27 +355,25 @@ command_tame first text one = by (bytes_eq first (codes "bind"))
         map_some IsTameInstruction IsTame (instruction_behind first text) asks (instruction_tame first text one)
         (λ instruction is. is)
 
-request_tame : (standing : Standing) (text : List ℕ) → IsOneLine text → IsTame (request_of standing text)
-unfolding request_behind
-request_tame standing text one = by (is_barred standing (word_in text))
-  where
-    by : (t : Bool) → IsTame (cond t bad (or_bad (command_behind (word_in text) (behind_word text))))
-    by true = tt
-    by false =
-        or_tame (command_behind (word_in text) (behind_word text))
-        (command_tame (word_in text) (behind_word text) (one_rest text one))
+-- a line that opens no action, which may stand there or not
+barred_tame : (text : List ℕ) (barred : Bool) → IsOneLine text
+    → IsTame (cond barred bad (or_bad (command_behind (word_in text) (behind_word text))))
+barred_tame text true one = tt
+barred_tame text false one =
+    or_tame (command_behind (word_in text) (behind_word text))
+    (command_tame (word_in text) (behind_word text) (one_rest text one))
 
 -- ---- actions
-inside_tame : (n : ℕ) (text : List ℕ) → IsOneLine text → AreTameLines (option_to_list (inside_line n text))
-unfolding inside_line
-inside_tame n text one = by (is_skipped text)
-  where
-    here : Numbered
-    here = record { number = n; request = request_of InAction text }
+inside_if : (n : ℕ) (request : Request) (skipped : Bool) → IsTame request
+    → AreTameLines (option_to_list
+    (cond {A = Option Numbered} skipped None (Some (record { number = n; request = request }))))
+inside_if n request true tame = All-nil IsTameLine
+inside_if n request false tame =
+    All-cons IsTameLine (record { number = n; request = request }) [] tame (All-nil IsTameLine)
 
-    by : (t : Bool) → AreTameLines (option_to_list (cond {A = Option Numbered} t None (Some here)))
-    by true = All-nil IsTameLine
-    by false = All-cons IsTameLine here [] (request_tame InAction text one) (All-nil IsTameLine)
+inside_tame : (n : ℕ) (text : List ℕ) → IsOneLine text → AreTameLines (option_to_list (inside_line n text))
+unfolding inside_line request_behind
+inside_tame n text one = inside_if n _ (is_skipped text) (barred_tame text _ one)
 
 body_tame : (n : ℕ) (texts : List (List ℕ)) → IsOnePath texts → AreTameLines (body_from n texts)
 unfolding body_from
@@ -407,7 +410,8 @@ action_tame name n behind all =
 -- ---- the lines of a script
 opened_tame : (name : Option (List ℕ)) (n : ℕ) (text : List ℕ) (behind : List (List ℕ)) → IsOneLine text
     → IsOnePath behind → IsTame (opened name n text behind)
-opened_tame None n text behind one all = request_tame Outside text one
+unfolding request_behind
+opened_tame None n text behind one all = barred_tame text _ one
 opened_tame (Some name) n text behind one all = action_tame name (n + 1) behind all
 
 line_tame : (n : ℕ) (text : List ℕ) (behind : List (List ℕ)) → IsOneLine text → IsOnePath behind

@@ -1,13 +1,13 @@
 -- Numbers of digits, one text behind another, and how great they are.
-use Rattle.std.proofs.Common.{◌≡◌, ℕ, ◌+◌, ◌-◌, ◌*◌, ◌^◌, ◌<◌, ◌≤◌, true, nat_le, List, [], ◌∷◌, ◌++◌, length, refl, ap, ◌∙◌, arith}
+use Rattle.std.proofs.Common.{◌≡◌, ℕ, ◌+◌, ◌-◌, ◌*◌, ◌^◌, ◌<◌, ◌≤◌, min, true, nat_le, List, [], ◌∷◌, ◌++◌, length, get_or, take, refl, ap, ◌∙◌, arith}
 use Rattle.std.specs.Char.{is_ascii_digit}
 use Rattle.std.specs.List.{list_all}
 use Rattle.std.proofs.lemmas.Bool.{and_parts}
 use Rattle.std.proofs.lemmas.Bool.Decides.{nat_tests}
-use Rattle.std.proofs.lemmas.List.{length-append}
+use Rattle.std.proofs.lemmas.List.{length-append, take_more}
 use Rattle.std.proofs.lemmas.Nat.{pow-add}
 use Rattle.std.proofs.Math.Nat.{pow-suc, one-le-pow, mul-le-mul_right}
-use Rattle.fx_text.specs.Digits.{number_of_digits, number_behind}
+use Rattle.fx_text.specs.Digits.{capped, number_of_digits, number_behind}
 
 regroup : (v a b n m : ℕ) → v * (a * b) + (n * b + m) ≡ (v * a + n) * b + m
 regroup v a b n m = omega arith
@@ -45,3 +45,12 @@ number_behind_is n (d ∷ ds) =
 pub number_behind-append : (n : ℕ) (xs ys : List ℕ) → number_behind n (xs ++ ys) ≡ number_behind (number_behind n xs) ys
 number_behind-append n [] ys = refl
 number_behind-append n (d ∷ xs) ys = number_behind-append (n * 10 + (d - 48)) xs ys
+
+-- one digit more, as far as 32 bits hold the number
+pub capped-digit : (digits : List ℕ) (i before times after : ℕ) → i < length digits → before ≡ capped (number_of_digits (take i digits))
+    → times ≡ min (before * 10) (2 ^ 32 - 1) → after ≡ min (times + (get_or digits i 0 - 48)) (2 ^ 32 - 1)
+    → after ≡ capped (number_of_digits (take (i + 1) digits))
+capped-digit digits i before times after within b t a =
+    let more : number_of_digits (take (i + 1) digits) ≡ number_of_digits (take i digits) * 10 + (get_or digits i 0 - 48) =
+    ap number_of_digits (take_more digits i 0 within) ∙ number-append (take i digits) (get_or digits i 0 ∷ []) ∙ omega arith in
+    omega (arith, more)

@@ -1,13 +1,15 @@
 -- Classes of characters and bytes. All of their members are ASCII but those of `is_continuation`, so in UTF-8 no byte
--- of
--- a longer character is one of them.
-use Rattle.std.specs.Prelude.{ℕ, Bool, false, List, [], ◌∷◌, ◌&&◌, ◌||◌, ◌==◌, ◌-◌, nat_le, Option, Some, None, if◌then◌else◌}
+-- of a longer character is one of them.
+use Rattle.std.specs.Prelude.{ℕ, Bool, false, List, [], ◌∷◌, ◌&&◌, ◌||◌, ◌==◌, ◌+◌, ◌-◌, nat_le, Option, Some, None, if◌then◌else◌}
 use Rattle.std.specs.List.{list_all}
 use Rattle.fx_text.specs.Characters.{tab, line_feed, carriage_return, space, apostrophe, quotation_mark, digit_zero, digit_nine, capital_a, capital_f, capital_z, underscore, small_a, small_f, small_z}
 
 -- space, tab, line feed and carriage return (XML 1.0, `S`)
 abbrev pub is_white : ℕ → Bool
 is_white c = ((c == space) || (c == tab)) || ((c == line_feed) || (c == carriage_return))
+
+abbrev pub is_space : ℕ → Bool
+is_space c = c == space
 
 -- space and tab, which separate within a line
 abbrev pub is_blank : ℕ → Bool
@@ -33,8 +35,8 @@ is_identifier (c ∷ cs) = is_letter c && list_all is_letter_or_digit cs
 abbrev pub hex_value : ℕ → Option ℕ
 hex_value c =
     if nat_le digit_zero c && nat_le c digit_nine then Some (c - digit_zero)
-    else (if nat_le capital_a c && nat_le c capital_f then Some (c - 55)
-    else (if nat_le small_a c && nat_le c small_f then Some (c - 87) else None))
+    else (if nat_le capital_a c && nat_le c capital_f then Some (c - capital_a + 10)
+    else (if nat_le small_a c && nat_le c small_f then Some (c - small_a + 10) else None))
 
 -- whether the byte goes on with a character of UTF-8
 abbrev pub is_continuation : ℕ → Bool

@@ -14,6 +14,13 @@ pub fn all_white(text: &[u8]) -> bool
     text.iter().all(|byte| is_white(*byte))
 }
 
+/// Is the text nothing but decimal digits?
+pub fn all_digits(text: &[u8]) -> bool
+    ensures { result ≡ list_all is_ascii_digit text.now }
+{
+    text.iter().all(|byte| byte.is_ascii_digit())
+}
+
 /// How many white bytes stand in front of the text?
 pub fn white_count(text: &[u8]) -> usize
     ensures count { result ≡ prefix_len is_white text.now }

@@ -1,7 +1,8 @@
-//! Identifiers, as the names of nodes, properties, owners and actions are.
+//! Identifiers, as the names of nodes, properties, owners and actions are, and those of style sheets.
 ghost use Rattle.std.specs.Prelude.{◌≡◌};
 ghost use Rattle.std.specs.List.{list_all};
 ghost use Rattle.fx_text.specs.Classes.{is_identifier, is_letter, is_letter_or_digit};
+ghost use Rattle.fx_text.specs.Identifiers.{behind_dash, is_later, is_style_identifier, is_style_word};
 
 /// Is the text an ASCII letter or `_`, followed by letters, digits and `_` alone?
 pub fn is_identifier(text: &str) -> bool
@@ -39,4 +40,42 @@ pub fn is_letter_or_digit(byte: u8) -> bool
     ensures { result ≡ is_letter_or_digit byte }
 {
     is_letter(byte) || matches!(byte, b'0'..=b'9')
+}
+
+/// Is the text an identifier of style sheets: perhaps a `-`, an ASCII letter or `_`, and then letters, digits, `_` and
+/// `-`?
+pub fn is_style_identifier(text: &[u8]) -> bool
+    ensures { result ≡ is_style_identifier text.now }
+{
+    is_style_word(behind_dash(text))
+}
+
+fn behind_dash(text: &[u8]) -> &[u8]
+    ensures { result.now ≡ behind_dash text.now }
+{
+    match text {
+        [b'-', rest @ ..] => rest,
+        _ => text,
+    }
+}
+
+fn is_style_word(text: &[u8]) -> bool
+    ensures { result ≡ is_style_word text.now }
+{
+    match text {
+        [first, rest @ ..] => is_letter(*first) && all_later(rest),
+        [] => false,
+    }
+}
+
+fn all_later(text: &[u8]) -> bool
+    ensures { result ≡ list_all is_later text.now }
+{
+    text.iter().all(|byte| is_later(*byte))
+}
+
+fn is_later(byte: u8) -> bool
+    ensures { result ≡ is_later byte }
+{
+    is_letter_or_digit(byte) || byte == b'-'
 }

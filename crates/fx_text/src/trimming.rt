@@ -3,6 +3,7 @@ ghost use Rattle.std.specs.Prelude.{◌≡◌};
 ghost use Rattle.fx_text.specs.Trimming.{trim_front, trim_back, trimmed};
 
 use crate::classes::is_white;
+use std::str;
 
 /// The text without the white in front of it.
 #[tactic(auto, using(crate::proofs::TrimLemmas::front_moves))]
@@ -38,4 +39,14 @@ pub fn trimmed(text: &[u8]) -> &[u8]
     ensures { result.now ≡ trimmed text.now }
 {
     trim_back(trim_front(text))
+}
+
+/// The text without the white at its ends, as text again: white is ASCII.
+pub fn trimmed_text(text: &str) -> &str
+    ensures { result.now ≡ trimmed text.now }
+{
+    match str::from_utf8(trimmed(text.as_bytes())) {
+        Ok(middle) => middle,
+        Err(_) => unreachable!(),
+    }
 }

@@ -1,7 +1,7 @@
 //! Values of properties, and how they are printed.
-ghost use Rattle.std.specs.Prelude.{◌≡◌, ◌++◌, ◌<◌, IfOk, IsOk, OnOk, OnErr, false, true, IsTrue, ◌↔◌};
+ghost use Rattle.std.specs.Prelude.{◌≡◌, ◌++◌, IfOk, IsOk, OnOk, OnErr, true, IsTrue, ◌↔◌};
 ghost use Rattle.std.specs.List.{flat_map};
-ghost use Rattle.std.specs.Fmt.{digit_glyph, signed_decimal};
+ghost use Rattle.std.specs.Fmt.{signed_decimal};
 ghost use Rattle.fx_base.specs.Printing.{printed, kind_of, is_plain, escaped, hexadecimal, constant_at, sides_text};
 
 use crate::color::Color;
@@ -9,6 +9,7 @@ use crate::geometry::Sides;
 use crate::kinds::{Family, Kind};
 use crate::lists::Duplicate;
 use crate::texts::Text;
+use fx_text::hex_digit;
 use std::alloc::{AllocError, Global};
 
 /// What a property holds. A choice is a family and the place of a constant in it.
@@ -135,26 +136,15 @@ fn color_text(color: Color) -> [u8; 9]
     let Color { r, g, b, a } = color;
     [
         b'#',
-        digit(r / 16),
-        digit(r % 16),
-        digit(g / 16),
-        digit(g % 16),
-        digit(b / 16),
-        digit(b % 16),
-        digit(a / 16),
-        digit(a % 16),
+        hex_digit(r / 16),
+        hex_digit(r % 16),
+        hex_digit(g / 16),
+        hex_digit(g % 16),
+        hex_digit(b / 16),
+        hex_digit(b % 16),
+        hex_digit(a / 16),
+        hex_digit(a % 16),
     ]
-}
-
-fn digit(number: u8) -> u8
-    requires { number < 16 }
-    ensures { result ≡ digit_glyph false number }
-{
-    if number < 10 {
-        b'0' + number
-    } else {
-        b'a' + (number - 10)
-    }
 }
 
 fn escaped_text(alloc: Global, text: &str) -> Result<Vec<u8>, AllocError>

@@ -10,7 +10,7 @@ ghost use Rattle.fx_delta.specs.Lines as spec;
 ghost use Rattle.fx_delta.specs.Reading.{IsFound, capped, few_words};
 
 use crate::views::is_size;
-use fx_text::hex_pair;
+use fx_text::{all_digits, hex_pair};
 use std::alloc::{AllocError, Global};
 
 /// What a line that opens a frame says: its size, and how many rectangles follow.
@@ -277,15 +277,9 @@ fn is_number(word: &[u8]) -> bool
     ensures { result ≡ spec.is_number word.now }
 {
     match word {
-        [first, rest @ ..] => are_digits(word) && (*first != b'0' || rest.is_empty()),
+        [first, rest @ ..] => all_digits(word) && (*first != b'0' || rest.is_empty()),
         [] => false,
     }
-}
-
-fn are_digits(word: &[u8]) -> bool
-    ensures { result ≡ list_all is_ascii_digit word.now }
-{
-    word.iter().all(|byte| byte.is_ascii_digit())
 }
 
 fn capped_number(digits: &[u8]) -> u32

@@ -9,6 +9,7 @@ ghost use Rattle.fx_look.specs.Rounding.{digits_of, leading, rounds_away, rounde
 ghost use Rattle.fx_look.specs.Written.{written, power_of_ten};
 
 use crate::decimals::{Decimal, decimal_at, sign_at};
+use fx_text::all_digits;
 
 /// The number that the text spells.
 ///
@@ -104,17 +105,11 @@ fn power_at(text: &[u8]) -> Option<Power>
 fn exponent_at(digits: &[u8]) -> Option<u16>
     ensures { result ≡ exponent_at digits.now }
 {
-    if are_digits(digits) {
+    if all_digits(digits) {
         few_digits(digits)
     } else {
         None
     }
-}
-
-fn are_digits(text: &[u8]) -> bool
-    ensures { result ≡ list_all is_ascii_digit text.now }
-{
-    text.iter().all(|c| c.is_ascii_digit())
 }
 
 /// The number of one to three digits.

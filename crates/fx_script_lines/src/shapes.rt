@@ -1,11 +1,10 @@
 //! What a word of a line looks like.
 //! Words are told apart by their bytes, before they are kept as texts.
 ghost use Rattle.std.specs.Prelude.{◌≡◌};
-ghost use Rattle.std.specs.Char.{is_ascii_digit};
 ghost use Rattle.std.specs.List.{list_all};
 ghost use Rattle.fx_script_lines.specs.Taking as spec;
 
-use fx_text::{is_identifier, is_letter, is_letter_or_digit};
+use fx_text::{all_digits, is_identifier, is_letter, is_letter_or_digit};
 
 /// What a word has to be.
 #[derive(Clone, Copy)]
@@ -74,12 +73,6 @@ fn are_digits(word: &[u8]) -> bool
     ensures { result ≡ spec.are_digits word.now }
 {
     !word.is_empty() && all_digits(word)
-}
-
-fn all_digits(word: &[u8]) -> bool
-    ensures { result ≡ list_all is_ascii_digit word.now }
-{
-    word.iter().all(|c| c.is_ascii_digit())
 }
 
 /// An identifier of style sheets.

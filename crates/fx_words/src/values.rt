@@ -7,6 +7,7 @@ ghost use Rattle.fx_text.specs.Digits.{number_of_digits};
 ghost use Rattle.fx_words.specs.Values as spec;
 
 use crate::runs::{Frames, Size};
+use fx_text::all_digits;
 
 /// `WxH`.
 #[tactic(auto, unfolding(crate::specs::Values::size_of))]
@@ -76,15 +77,9 @@ fn is_decimal(text: &[u8]) -> bool
     ensures { result ≡ spec.is_decimal text.now }
 {
     match text {
-        [first, ..] => *first != b'0' && are_digits(text),
+        [first, ..] => *first != b'0' && all_digits(text),
         [] => false,
     }
-}
-
-fn are_digits(text: &[u8]) -> bool
-    ensures { result ≡ list_all is_ascii_digit text.now }
-{
-    text.iter().all(|c| c.is_ascii_digit())
 }
 
 fn number_of_digits(digits: &[u8]) -> u32

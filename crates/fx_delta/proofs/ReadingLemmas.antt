@@ -1,15 +1,14 @@
 -- Numbers as far as 32 bits hold them, and row items of many words.
-use Rattle.std.proofs.Common.{◌≡◌, ◌≤◌, ◌<◌, ◌+◌, ◌-◌, ◌*◌, ◌^◌, suc, ℕ, min, Bor, true, false, List, [], ◌∷◌, ◌++◌, length, get_or, take, drop, map, Result, Ok, Err, IfOk, Option, Some, None, refl, sym, ◌∙◌, ap, subst, arith, cond, leb, ltb, append-nil, ◌&&◌, Bool, inl, inr, lit<}
+use Rattle.std.proofs.Common.{◌≡◌, ◌≤◌, ◌<◌, ◌+◌, ◌-◌, ◌*◌, ◌^◌, suc, ℕ, min, Bor, true, false, List, [], ◌∷◌, ◌++◌, length, take, drop, map, Result, Ok, Err, IfOk, Option, Some, None, refl, sym, ◌∙◌, ap, subst, arith, cond, leb, ltb, append-nil, ◌&&◌, Bool, inl, inr, lit<}
 use Rattle.std.specs.Option.{option_map, option_and_then}
 use Rattle.std.specs.Str.{bytes_eq}
 use Rattle.std.proofs.lemmas.Bool.{and_parts, leb-true, ltb-true}
 use Rattle.std.proofs.lemmas.Bool.Decides.{leb_tells, nat_tests}
-use Rattle.std.proofs.lemmas.List.{take_more, take-append-drop}
-use Rattle.fx_text.specs.Digits.{number_of_digits}
-use Rattle.fx_text.proofs.DigitLemmas.{number-append}
+use Rattle.std.proofs.lemmas.List.{take-append-drop}
+use Rattle.fx_text.specs.Digits.{capped}
 use Rattle.fx_text.proofs.FrontLemmas.{then_gives}
 use Rattle.fx_delta.specs.Lines.{Item, frame_in, frame_of, item_in, item_of, words, number_of, pixel_of, pixels_of}
-use Rattle.fx_delta.specs.Reading.{IsFound, Takes, capped, few_words}
+use Rattle.fx_delta.specs.Reading.{IsFound, Takes, few_words}
 use Rattle.fx_delta.specs.Pictures.{Picture, is_size, lies, with_pixels}
 use Rattle.fx_delta.specs.Stream.{Flaw, outside, Screen, Step, after_item}
 use Rattle.fx_delta.specs.declared.lines.FoundItem.{FoundItem}
@@ -20,15 +19,6 @@ frame w h k = record { width = w; height = h; rectangles = k }
 
 abbrev pub screen : Picture → Option ℕ → Screen
 screen picture left = record { picture = picture; left = left }
-
--- one digit more
-pub capped-digit : (digits : List ℕ) (i before times after : ℕ) → i < length digits → before ≡ capped (number_of_digits (take i digits))
-    → times ≡ min (before * 10) (2 ^ 32 - 1) → after ≡ min (times + (get_or digits i 0 - 48)) (2 ^ 32 - 1)
-    → after ≡ capped (number_of_digits (take (i + 1) digits))
-capped-digit digits i before times after within b t a =
-    let more : number_of_digits (take (i + 1) digits) ≡ number_of_digits (take i digits) * 10 + (get_or digits i 0 - 48) =
-    ap number_of_digits (take_more digits i 0 within) ∙ number-append (take i digits) (get_or digits i 0 ∷ []) ∙ omega arith in
-    omega (arith, more)
 
 capped-capped : (n : ℕ) → capped (capped n) ≡ capped n
 capped-capped n = omega arith

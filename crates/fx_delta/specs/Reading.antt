@@ -1,5 +1,6 @@
 -- What the reader of lines finds, and what taking a line does.
-use Rattle.std.specs.Prelude.{ℕ, ◌≡◌, ◌<◌, ◌-◌, ◌^◌, min, List, ◌++◌, Option, Some, None, Result, Ok, Err, OnOk, OnErr, IsErr, IsOkAnd, length, nat_le, if◌then◌else◌}
+use Rattle.std.specs.Prelude.{ℕ, ◌≡◌, ◌<◌, List, ◌++◌, Option, Some, None, Result, Ok, Err, OnOk, OnErr, IsErr, IsOkAnd, length, nat_le, if◌then◌else◌}
+use Rattle.fx_text.specs.Digits.{capped}
 use Rattle.fx_delta.specs.Lines.{Item, words}
 use Rattle.fx_delta.specs.Stream.{Flaw, Screen, Step}
 use Rattle.fx_delta.specs.declared.lines.FoundItem.{FoundItem}
@@ -7,10 +8,6 @@ use Rattle.fx_delta.specs.declared.lines.FoundItem.{FoundItem}
 -- the words of a line, unless there are more than so many
 abbrev pub few_words : ℕ → List ℕ → Option (List (List ℕ))
 few_words most line = if nat_le (length (words line)) most then Some (words line) else None
-
--- a number as far as 32 bits hold it
-abbrev pub capped : ℕ → ℕ
-capped number = min number (2 ^ 32 - 1)
 
 -- a row item that is found; one of more pixels than any picture has in a row may be left out
 abbrev pub IsFound : Option FoundItem → Option Item → Type 0

@@ -1,16 +1,14 @@
 //! The lines of a stream, read by their words: frame lines, rectangles and row items.
 //! A viewer asks here what a line says; what it does with the line is decided there.
-ghost use Rattle.std.specs.Prelude.{◌≡◌, ◌&&◌, ◌∷◌, ◌++◌, [], IfOk, IsTrue, codes, length, map};
-ghost use Rattle.std.specs.Char.{is_ascii_digit};
-ghost use Rattle.std.specs.List.{list_all};
+ghost use Rattle.std.specs.Prelude.{◌≡◌, ◌&&◌, ◌∷◌, ◌++◌, [], IfOk, codes, length, map};
 ghost use Rattle.std.specs.Option.{option_map};
 ghost use Rattle.std.specs.Str.{bytes_eq};
-ghost use Rattle.fx_text.specs.Digits.{number_of_digits};
+ghost use Rattle.fx_text.specs.Digits.{capped};
 ghost use Rattle.fx_delta.specs.Lines as spec;
-ghost use Rattle.fx_delta.specs.Reading.{IsFound, capped, few_words};
+ghost use Rattle.fx_delta.specs.Reading.{IsFound, few_words};
 
 use crate::views::is_size;
-use fx_text::{all_digits, hex_pair};
+use fx_text::{all_digits, capped_number, hex_pair};
 use std::alloc::{AllocError, Global};
 
 /// What a line that opens a frame says: its size, and how many rectangles follow.
@@ -280,17 +278,4 @@ fn is_number(word: &[u8]) -> bool
         [first, rest @ ..] => all_digits(word) && (*first != b'0' || rest.is_empty()),
         [] => false,
     }
-}
-
-fn capped_number(digits: &[u8]) -> u32
-    requires { IsTrue (list_all is_ascii_digit digits.now) }
-    ensures { result ≡ capped (number_of_digits digits.now) }
-{
-    let mut number: u32 = 0;
-    for digit in digits {
-        number = number
-            .saturating_mul(10)
-            .saturating_add(u32::from(*digit - b'0'));
-    }
-    number
 }

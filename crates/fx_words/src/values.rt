@@ -1,13 +1,11 @@
 //! What the values of options say, and the number of a demo.
 //! Each is found from the bytes of a word or of what is behind a `=`.
-ghost use Rattle.std.specs.Prelude.{◌≡◌, ◌≤◌, ◌<◌, ◌&&◌, IsTrue, length, nat_le};
-ghost use Rattle.std.specs.Char.{is_ascii_digit};
-ghost use Rattle.std.specs.List.{list_all, prefix_len};
-ghost use Rattle.fx_text.specs.Digits.{number_of_digits};
+ghost use Rattle.std.specs.Prelude.{◌≡◌, ◌≤◌, ◌<◌, Some, None, length, nat_le, if◌then◌else◌};
+ghost use Rattle.std.specs.List.{prefix_len};
 ghost use Rattle.fx_words.specs.Values as spec;
 
 use crate::runs::{Frames, Size};
-use fx_text::all_digits;
+use fx_text::{all_digits, capped_number};
 
 /// `WxH`.
 #[tactic(auto, unfolding(crate::specs::Values::size_of))]
@@ -60,16 +58,22 @@ pub(crate) fn frames_of(text: &[u8]) -> Option<Frames>
     }
 }
 
-/// A decimal number without sign or leading zero, of four digits at most.
-#[tactic(auto, using(crate::proofs::NumberLemmas::long_is_none), unfolding(crate::specs::Values::number_up_to))]
+/// A decimal number without sign or leading zero, up to the greatest one.
+#[tactic(auto, using(crate::proofs::NumberLemmas::capped_within), unfolding(crate::specs::Values::number_up_to))]
 pub(crate) fn number_up_to(most: u32, text: &[u8]) -> Option<u32>
     requires { most < 10000 }
     ensures { result ≡ spec.number_up_to most text.now }
 {
-    if text.len() > 4 || !is_decimal(text) {
-        return None;
+    if is_decimal(text) {
+        within(most, capped_number(text))
+    } else {
+        None
     }
-    let number = number_of_digits(text);
+}
+
+fn within(most: u32, number: u32) -> Option<u32>
+    ensures { result ≡ if nat_le number most then Some number else None }
+{
     if number <= most { Some(number) } else { None }
 }
 
@@ -80,16 +84,4 @@ fn is_decimal(text: &[u8]) -> bool
         [first, ..] => *first != b'0' && all_digits(text),
         [] => false,
     }
-}
-
-fn number_of_digits(digits: &[u8]) -> u32
-    requires digits { IsTrue (list_all is_ascii_digit digits.now) }
-    requires few { length digits.now ≤ 4 }
-    ensures { result ≡ number_of_digits digits.now }
-{
-    let mut number = 0;
-    for digit in digits {
-        number = number * 10 + u32::from(*digit - b'0');
-    }
-    number
 }

@@ -1,7 +1,7 @@
 -- the numbers are capped alone
 
 use Rattle.fx_delta.specs.Lines.{item_of, number_of}
-use Rattle.fx_delta.specs.Reading.{capped}
+use Rattle.fx_text.specs.Digits.{capped}
 use Rattle.fx_delta.proofs.ReadingLemmas.{IsFound-capped}
 use Rattle.fx_delta.proofs.lines.item_said.Goals as goal
 

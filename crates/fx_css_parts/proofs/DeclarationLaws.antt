@@ -25,7 +25,8 @@ use Rattle.fx_css_types.specs.declared.declarations.Paint.TheVariants as paint
 use Rattle.fx_css_types.specs.declared.declarations.Declared.{Declared}
 use Rattle.fx_css_types.specs.declared.declarations.Declared.TheVariants as declared
 use Rattle.fx_css_types.specs.declared.declarations.Declaration.{Declaration}
-use Rattle.fx_css_parts.specs.Texts.{is_later, is_ident}
+use Rattle.fx_text.specs.Identifiers.{is_later}
+use Rattle.fx_css_parts.specs.Texts.{is_ident}
 use Rattle.fx_css_parts.specs.Layers.{separated_at}
 use Rattle.fx_css_parts.specs.Declaring.{IsPaint, color, named, AreSides, positions, IsStyled, insets, constant, size, yes, no, visible, hidden, collapse, painted, painted_layers, inset_layers, IsDeclared, inherited, styled, other, IsDeclaration, named_at, paint_at, insets_at, position_at, truth_at, visibility_at, styled_at, declared_at, declaration, with_value, not_colon, declaration_in}
 use Rattle.fx_text.proofs.TrimLemmas.{trimmed_sound, trimmed_complete}

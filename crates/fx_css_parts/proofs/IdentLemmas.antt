@@ -5,7 +5,8 @@ use Rattle.std.specs.Str.{IsAscii}
 use Rattle.std.proofs.lemmas.Bool.{and_parts}
 use Rattle.std.proofs.lemmas.Bool.Decides.{nat_tests}
 use Rattle.std.proofs.lemmas.Str.Ascii.{IsAscii-nil, IsAscii-cons}
-use Rattle.fx_css_parts.specs.Texts.{is_later, is_word, behind_dash, is_ident}
+use Rattle.fx_text.specs.Identifiers.{behind_dash, is_later, is_style_word}
+use Rattle.fx_css_parts.specs.Texts.{is_ident}
 use Rattle.fx_css_parts.proofs.SelectorLaws.{ident_later}
 
 later_low : (c : ℕ) → is_later c ≡ true → c < 128
@@ -22,5 +23,5 @@ ident_ascii text h = later_ascii text (ident_later text h)
 
 pub ident_short : (text : List ℕ) → is_ident text ≡ true → length text ≤ 4096
 ident_short text h =
-    let both = and_parts (is_word (behind_dash text)) (nat_le (length text) 4096) h in
+    let both = and_parts (is_style_word (behind_dash text)) (nat_le (length text) 4096) h in
     grind (arith, nat_tests, both.1)

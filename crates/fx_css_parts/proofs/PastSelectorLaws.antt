@@ -9,7 +9,8 @@ use Rattle.std.proofs.lemmas.List.Elements.{All-nil, All-cons, All-head, All-tai
 use Rattle.fx_css_types.specs.declared.selectors.Combinator.{Combinator}
 use Rattle.fx_css_types.specs.declared.selectors.Compound.{Compound}
 use Rattle.fx_css_types.specs.declared.selectors.Selector.{Selector}
-use Rattle.fx_css_parts.specs.Texts.{is_later, is_ident, IsBetweenWhite}
+use Rattle.fx_text.specs.Identifiers.{is_later}
+use Rattle.fx_css_parts.specs.Texts.{is_ident, IsBetweenWhite}
 use Rattle.fx_css_parts.specs.Layers.{Separated, last, more}
 use Rattle.fx_css_parts.specs.Selecting.{is_sign, Part, is_part, parts_text, IsKind, unsaid, any, type, IsCompound, AreLinked, end, link, IsSelector, selectors_in, is_gap, not_gap}
 use Rattle.fx_css_parts.specs.Limits.{Start, starts, is_past, past_in_selectors}

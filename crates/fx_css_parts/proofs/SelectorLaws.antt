@@ -11,7 +11,8 @@ use Rattle.fx_css_types.specs.declared.selectors.Combinator.TheVariants.{Descend
 use Rattle.fx_css_types.specs.declared.selectors.Compound.{Compound}
 use Rattle.fx_css_types.specs.declared.selectors.Selector.{Selector}
 use Rattle.fx_text.proofs.FrontLemmas.{front_and_behind, front-stop, behind-stop, behind_stops, then_gives, map_gives, bind_gives}
-use Rattle.fx_css_parts.specs.Texts.{is_later, is_word, behind_dash, is_ident}
+use Rattle.fx_text.specs.Identifiers.{behind_dash, is_later, is_style_word}
+use Rattle.fx_css_parts.specs.Texts.{is_ident}
 use Rattle.fx_css_parts.specs.Selecting.{is_sign, Part, is_part, parts_text, compound, IsKind, unsaid, any, type, IsCompound, IsCombinator, white, child, AreLinked, end, link, selector, IsSelector, IsSelectors, not_sign, parts_at, is_any, kind_at, with_parts, compound_at, is_gap, not_gap, behind_sign, combinator_at, Link, links_at, link_at, linked_at, selector_at, selectors_in}
 use Rattle.fx_text.proofs.TrimLemmas.{front_skip, front_all, front_cut}
 use Rattle.fx_css_parts.proofs.SelectorLemmas.{behind_on, behind_here, parts_skip, parts_first, not_not, links_skip, links_first, linked_first}
@@ -24,7 +25,7 @@ use Rattle.fx_text.specs.Trimming.{trim_front}
 later_letter : (c : ℕ) → is_letter c ≡ true → is_later c ≡ true
 later_letter c e = ap (λ b. (b || (nat_le 48 c && nat_le c 57)) || (c == 45)) e
 
-word_later : (text : List ℕ) → is_word text ≡ true → list_all is_later text ≡ true
+word_later : (text : List ℕ) → is_style_word text ≡ true → list_all is_later text ≡ true
 word_later [] h = refl
 word_later (c ∷ cs) h =
     let both = and_parts (is_letter c) (list_all is_later cs) h in
@@ -33,13 +34,13 @@ word_later (c ∷ cs) h =
 dash_later : (c : ℕ) → (c == 45) ≡ true → is_later c ≡ true
 dash_later c e = grind (arith, nat_tests, e)
 
-dashed_later : (c : ℕ) (cs : List ℕ) (b : Bool) → (c == 45) ≡ b → is_word (cond b cs (c ∷ cs)) ≡ true → list_all is_later (c ∷ cs) ≡ true
+dashed_later : (c : ℕ) (cs : List ℕ) (b : Bool) → (c == 45) ≡ b → is_style_word (cond b cs (c ∷ cs)) ≡ true → list_all is_later (c ∷ cs) ≡ true
 dashed_later c cs true e h = both_true (dash_later c e) (word_later cs h)
 dashed_later c cs false e h = word_later (c ∷ cs) h
 
 pub ident_later : (text : List ℕ) → is_ident text ≡ true → list_all is_later text ≡ true
 ident_later [] h = refl
-ident_later (c ∷ cs) h = dashed_later c cs (c == 45) refl (and_parts (is_word (behind_dash (c ∷ cs))) (nat_le (length (c ∷ cs)) 4096) h).0
+ident_later (c ∷ cs) h = dashed_later c cs (c == 45) refl (and_parts (is_style_word (behind_dash (c ∷ cs))) (nat_le (length (c ∷ cs)) 4096) h).0
 
 pub all_more : (p q : ℕ → Bool) → ((c : ℕ) → p c ≡ true → q c ≡ true) → (text : List ℕ) → list_all p text ≡ true → list_all q text ≡ true
 all_more p q f [] h = refl

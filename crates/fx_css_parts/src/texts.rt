@@ -1,11 +1,10 @@
 //! The identifiers of style sheets.
 //! Selectors and declarations are made of them.
 ghost use Rattle.std.specs.Prelude.{◌≡◌, IfOk, true};
-ghost use Rattle.std.specs.List.{list_all};
-ghost use Rattle.fx_css_parts.specs.Texts.{is_later, is_word, behind_dash, is_ident, ident_at};
+ghost use Rattle.fx_css_parts.specs.Texts.{is_ident, ident_at};
 
 use fx_base::Text;
-use fx_text::{is_letter, is_letter_or_digit};
+use fx_text::is_style_identifier;
 use std::alloc::{AllocError, Global};
 
 /// The greatest number of bytes of an identifier.
@@ -15,38 +14,7 @@ const IDENT_LIMIT: usize = 4096;
 pub fn is_ident(text: &[u8]) -> bool
     ensures { result ≡ is_ident text.now }
 {
-    is_word(behind_dash(text)) && text.len() <= IDENT_LIMIT
-}
-
-fn behind_dash(text: &[u8]) -> &[u8]
-    ensures { result.now ≡ behind_dash text.now }
-{
-    match text {
-        [b'-', rest @ ..] => rest,
-        _ => text,
-    }
-}
-
-fn is_word(text: &[u8]) -> bool
-    ensures { result ≡ is_word text.now }
-{
-    match text {
-        [first, rest @ ..] => is_letter(*first) && all_later(rest),
-        [] => false,
-    }
-}
-
-fn all_later(text: &[u8]) -> bool
-    ensures { result ≡ list_all is_later text.now }
-{
-    text.iter().all(|c| is_later(*c))
-}
-
-/// Is it a letter, a digit, `_` or `-`?
-fn is_later(c: u8) -> bool
-    ensures { result ≡ is_later c }
-{
-    is_letter_or_digit(c) || c == b'-'
+    is_style_identifier(text) && text.len() <= IDENT_LIMIT
 }
 
 /// The text as a name, if it is an identifier.

@@ -5,8 +5,9 @@ use Rattle.std.specs.List.{after_first, before_first, list_all, position_or_len,
 use Rattle.std.specs.Option.{option_and_then, option_map}
 use Rattle.std.specs.Str.{bytes_eq, chars}
 use Rattle.fx_text.specs.Characters.{full_stop, hyphen, space}
-use Rattle.fx_text.specs.Classes.{is_identifier, is_letter, is_letter_or_digit}
+use Rattle.fx_text.specs.Classes.{is_identifier}
 use Rattle.fx_text.specs.Fronts.{behind}
+use Rattle.fx_text.specs.Identifiers.{is_style_identifier}
 use Rattle.fx_script_lines.specs.declared.shapes.Shape.{Shape}
 use Rattle.fx_script_lines.specs.declared.shapes.Shape.TheVariants.{Any, Identifier, Ident, Integer, Place, Count, Notice, Kind, Switch}
 use Rattle.fx_script_lines.specs.declared.stops.Stop.{Stop}
@@ -35,18 +36,6 @@ abbrev pub is_integer : List ℕ → Bool
 is_integer [] = false
 is_integer (c ∷ cs) = if c == hyphen then are_digits cs else are_digits (c ∷ cs)
 
--- an identifier of style sheets: perhaps a `-`, a letter or `_`, and then letters, digits, `_` and `-`
-abbrev pub is_later : ℕ → Bool
-is_later c = is_letter_or_digit c || (c == hyphen)
-
-abbrev pub begins_with_letter : List ℕ → Bool
-begins_with_letter [] = false
-begins_with_letter (c ∷ cs) = is_letter c && list_all is_later cs
-
-abbrev pub is_ident : List ℕ → Bool
-is_ident [] = false
-is_ident (c ∷ cs) = if c == hyphen then begins_with_letter cs else begins_with_letter (c ∷ cs)
-
 abbrev pub is_edge : List ℕ → Bool
 is_edge word =
     (((bytes_eq word (codes "top") || bytes_eq word (codes "right")) || bytes_eq word (codes "bottom"))
@@ -58,7 +47,7 @@ is_kind word = (bytes_eq word (codes "int") || bytes_eq word (codes "bool")) || 
 abbrev pub has_shape : Shape → List ℕ → Bool
 has_shape Any word = true
 has_shape Identifier word = is_identifier word
-has_shape Ident word = is_ident word
+has_shape Ident word = is_style_identifier word
 has_shape Integer word = is_integer word
 has_shape Place word = are_digits word || is_edge word
 has_shape Count word = are_digits word || bytes_eq word (codes "indefinite")

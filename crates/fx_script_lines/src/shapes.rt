@@ -1,10 +1,9 @@
 //! What a word of a line looks like.
 //! Words are told apart by their bytes, before they are kept as texts.
 ghost use Rattle.std.specs.Prelude.{◌≡◌};
-ghost use Rattle.std.specs.List.{list_all};
 ghost use Rattle.fx_script_lines.specs.Taking as spec;
 
-use fx_text::{all_digits, is_identifier, is_letter, is_letter_or_digit};
+use fx_text::{all_digits, is_identifier, is_style_identifier};
 
 /// What a word has to be.
 #[derive(Clone, Copy)]
@@ -34,7 +33,7 @@ pub(crate) fn has_shape(shape: Shape, word: &str) -> bool
     match shape {
         Shape::Any => true,
         Shape::Identifier => is_identifier(word),
-        Shape::Ident => is_ident(bytes),
+        Shape::Ident => is_style_identifier(bytes),
         Shape::Integer => is_integer(bytes),
         Shape::Place => are_digits(bytes) || is_edge(bytes),
         Shape::Count => are_digits(bytes) || bytes == b"indefinite".as_slice(),
@@ -73,29 +72,4 @@ fn are_digits(word: &[u8]) -> bool
     ensures { result ≡ spec.are_digits word.now }
 {
     !word.is_empty() && all_digits(word)
-}
-
-/// An identifier of style sheets.
-fn is_ident(word: &[u8]) -> bool
-    ensures { result ≡ spec.is_ident word.now }
-{
-    match word {
-        [b'-', rest @ ..] => begins_with_letter(rest),
-        _ => begins_with_letter(word),
-    }
-}
-
-fn begins_with_letter(word: &[u8]) -> bool
-    ensures { result ≡ spec.begins_with_letter word.now }
-{
-    match word {
-        [first, rest @ ..] => is_letter(*first) && all_later(rest),
-        [] => false,
-    }
-}
-
-fn all_later(word: &[u8]) -> bool
-    ensures { result ≡ list_all spec.is_later word.now }
-{
-    word.iter().all(|c| is_letter_or_digit(*c) || *c == b'-')
 }

@@ -11,26 +11,15 @@ ghost use Rattle.fx_doc.specs.Views.{held_view, stack_view};
 use crate::modes::Held;
 use fx_base::Text;
 use fx_doc_drafts::Word;
-use fx_text::trimmed;
+use fx_text::trimmed_text;
 use std::alloc::{AllocError, Global};
-use std::str;
-
-/// The text without the white at its ends.
-fn trim_white(text: &str) -> &str
-    ensures { result.now ≡ trimmed text.now }
-{
-    match str::from_utf8(trimmed(text.as_bytes())) {
-        Ok(middle) => middle,
-        Err(_) => unreachable!(),
-    }
-}
 
 /// What an import lists: its trimmed text, unless that is over 4,096 characters.
 fn import_text(alloc: Global, text: &str) -> Result<Option<Text>, AllocError>
     ensures { IfOk result (λ o. option_to_list o
         ≡ if nat_le (length (chars (trimmed text.now))) 4096 then trimmed text.now ∷ [] else []) }
 {
-    let text = String::from_str(alloc, trim_white(text))?;
+    let text = String::from_str(alloc, trimmed_text(text))?;
     Ok(Text::from_string(text))
 }
 

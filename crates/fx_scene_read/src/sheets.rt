@@ -9,7 +9,8 @@ use fx_base::{Kind, Text, Value};
 use fx_scene_acts::Deed;
 use fx_scene_flaws::Flaw;
 use fx_scene_things::Names;
-use fx_scene_values::{Form, Given, Scope, form_of, items_of, trim_white, value_in};
+use fx_scene_values::{Form, Given, Scope, form_of, items_of, value_in};
+use fx_text::trimmed_text;
 use std::alloc::{AllocError, Global};
 
 /// Adds what the attribute `stylesheets` of this text asks for: a sheet for each part between commas.
@@ -41,7 +42,7 @@ fn add_items(
         ++ spec.item_deeds (scope_view scope.now) (known names.now) node (map (λ item. item.now) items.now)) }
 {
     for item in items {
-        deeds.push(sheet_deed(alloc, scope, names, node, trim_white(item))?)?;
+        deeds.push(sheet_deed(alloc, scope, names, node, trimmed_text(item))?)?;
     }
     Ok(())
 }

@@ -18,5 +18,5 @@ pub use properties::{property_deed, property_given, property_named};
 pub use roles::{Role, role_of};
 pub use scopes::Scope;
 pub use statics::{static_deed, static_given};
-pub use styles::{add_classes, handler_deed, items_of, style_deed, trim_white};
+pub use styles::{add_classes, handler_deed, items_of, style_deed};
 pub use values::{Given, literal, location_given, path_in, planned_property, same_given, value_in};

@@ -1,7 +1,6 @@
 //! Style classes, inline styles and handlers.
 ghost use Rattle.std.specs.Prelude.{◌≡◌, ◌++◌, IfOk, OnOk, map};
 ghost use Rattle.std.specs.List.{flat_map, slice_split};
-ghost use Rattle.fx_text.specs.Trimming.{trimmed};
 ghost use Rattle.fx_scene_values.specs.Styles as spec;
 ghost use Rattle.fx_scene_things.specs.Known.{known};
 ghost use Rattle.fx_scene_values.specs.Views.{scope_view};
@@ -16,9 +15,8 @@ use fx_scene_flaws::Flaw;
 use fx_scene_plan::PlannedStep;
 use fx_scene_things::Names;
 use fx_stage_words::read_style;
-use fx_text::{is_identifier, trimmed};
+use fx_text::{is_identifier, trimmed_text};
 use std::alloc::{AllocError, Global};
-use std::str;
 
 /// What the attribute `style` of this text asks for, where these names are known.
 #[tactic(auto, unfolding(crate::specs::Styles::style_deed))]
@@ -84,7 +82,7 @@ fn add_items(
         ++ spec.item_deeds (scope_view scope.now) (known names.now) node (map (λ item. item.now) items.now)) }
 {
     for item in items {
-        deeds.push(class_deed(alloc, scope, names, node, trim_white(item))?)?;
+        deeds.push(class_deed(alloc, scope, names, node, trimmed_text(item))?)?;
     }
     Ok(())
 }
@@ -116,16 +114,6 @@ fn given_class(node: usize, given: Given) -> Deed
         Given::Value(Value::Text(name)) => Deed::Step(PlannedStep::Class(node, name)),
         Given::Value(_) => Deed::Flaw(Flaw::Value),
         Given::Flaw(flaw) => Deed::Flaw(flaw),
-    }
-}
-
-/// The text without the white at its ends.
-pub fn trim_white(text: &str) -> &str
-    ensures { result.now ≡ trimmed text.now }
-{
-    match str::from_utf8(trimmed(text.as_bytes())) {
-        Ok(middle) => middle,
-        Err(_) => unreachable!(),
     }
 }
 

@@ -6,7 +6,7 @@ use Rattle.std.specs.List.{list_all, slice_split}
 use Rattle.std.specs.Option.{option_and_then, option_map}
 use Rattle.std.specs.Str.{bytes_eq}
 use Rattle.fx_text.specs.Characters.{digit_zero, space}
-use Rattle.fx_text.specs.Classes.{hex_value}
+use Rattle.fx_text.specs.Classes.{hex_value, is_space}
 use Rattle.fx_text.specs.Digits.{number_of_digits}
 use Rattle.fx_delta.specs.declared.lines.Frame.{Frame}
 use Rattle.fx_delta.specs.Pictures.{is_size}
@@ -21,9 +21,6 @@ pub record Item : Type 0 where
 -- `row X Y P1 P2 ..`
 unfoldable pub item_line : Item → List ℕ
 item_line item = codes "row " ++ (decimal item.x ++ (space ∷ (decimal item.y ++ (space ∷ pixels_text item.pixels))))
-
-abbrev pub is_space : ℕ → Bool
-is_space c = c == space
 
 -- what stands between the single spaces of a line
 abbrev pub words : List ℕ → List (List ℕ)

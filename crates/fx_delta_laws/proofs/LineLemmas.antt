@@ -5,8 +5,9 @@ use Rattle.std.specs.Fmt.{decimal}
 use Rattle.std.proofs.lemmas.Bool.{and_parts, and_from, leb-true, le-leb, lt-ltb, ltb-true}
 use Rattle.std.proofs.lemmas.List.Splits.{slice_split_at, slice_split_none}
 use Rattle.fx_text.specs.Characters.{space}
+use Rattle.fx_text.specs.Classes.{is_space}
 use Rattle.fx_delta.specs.declared.lines.Frame.{Frame as FrameSaid}
-use Rattle.fx_delta.specs.Lines.{Item, frame_in, frame_of, is_number, is_rectangle, is_space, item_in, item_line, item_of, number_of, pixels_of, words}
+use Rattle.fx_delta.specs.Lines.{Item, frame_in, frame_of, is_number, is_rectangle, item_in, item_line, item_of, number_of, pixels_of, words}
 use Rattle.fx_delta.specs.Pictures.{Picture, begun, image, is_size, lies, with_pixels}
 use Rattle.fx_delta.specs.Rows.{pixel_text, pixels_text}
 use Rattle.fx_delta.specs.Stream.{Flaw, Screen, Step, after_frame, after_item, after_line, begins, copied, is_line_feed, no_rectangle, outside, stray}

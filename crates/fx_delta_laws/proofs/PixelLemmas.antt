@@ -5,10 +5,10 @@ use Rattle.std.specs.Option.{option_and_then, option_map}
 use Rattle.std.proofs.lemmas.List.Elements.{All-head, All-tail}
 use Rattle.std.proofs.lemmas.List.Splits.{slice_split_at, slice_split_none}
 use Rattle.fx_text.specs.Characters.{space}
-use Rattle.fx_text.specs.Classes.{hex_value}
+use Rattle.fx_text.specs.Classes.{hex_value, is_space}
 use Rattle.fx_base.specs.Pixel.{blue_of, green_of, red_of}
 use Rattle.fx_base.specs.Printing.{two_digits}
-use Rattle.fx_delta.specs.Lines.{byte_of, is_space, pixel_of, pixels_of, words}
+use Rattle.fx_delta.specs.Lines.{byte_of, pixel_of, pixels_of, words}
 use Rattle.fx_delta.specs.Rows.{pixel_text, pixels_text}
 use Rattle.fx_delta_laws.proofs.NumberLemmas.{above-append, are_above, none_at}
 

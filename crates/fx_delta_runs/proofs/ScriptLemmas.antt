@@ -7,6 +7,7 @@ use Rattle.std.specs.Option.{option_and_then, option_map, option_to_list}
 use Rattle.std.specs.Str.{bytes_eq}
 use Rattle.std.specs.Str.Lines.{lines, lines_of_parts, strip_carriage_return}
 use Rattle.std.proofs.lemmas.List.Elements.{All-append, All-cons, All-drop, All-head, All-nil, All-tail, All-take, All-weaker}
+use Rattle.fx_text.specs.Classes.{is_space}
 use Rattle.fx_text.specs.Fronts.{behind}
 use Rattle.fx_delta.specs.Stream.{is_line_feed}
 use Rattle.fx_script_commands.specs.Commands.{action_name, binding, command_behind, expression_in, is_skipped, is_end, or_bad, request_behind}
@@ -14,7 +15,7 @@ use Rattle.fx_script_commands.specs.Requests.{Expression, Numbered, Request, ask
 use Rattle.fx_script_commands.specs.Scripts.{IsScript, action_of, body_from, body_in, body_of, inside_line, line_at, lines_from, opened, opens}
 use Rattle.fx_script_lines.specs.Forms.{bond, focus, form, frame, input, instruction_behind, listener, look, node, property, time, tree}
 use Rattle.fx_script_lines.specs.Keywords.{eight_letters, five_letters, four_letters, keyword_of, keywords, more_letters, seven_letters, six_letters, three_letters}
-use Rattle.fx_script_lines.specs.Taking.{Reader, alone, behind_word, ended, has_shape, is_dot, is_name, is_over, is_space, is_word, label, names, names_in, pair, path, quadruple, rest, reverse, triple, word, word_in}
+use Rattle.fx_script_lines.specs.Taking.{Reader, alone, behind_word, ended, has_shape, is_dot, is_name, is_over, is_word, label, names, names_in, pair, path, quadruple, rest, reverse, triple, word, word_in}
 use Rattle.fx_script_lines.specs.declared.instructions.Instruction.{Instruction}
 use Rattle.fx_script_lines.specs.declared.instructions.Instruction.TheVariants as line
 use Rattle.fx_script_lines.specs.declared.shapes.Shape.{Shape}

@@ -2,8 +2,9 @@
 use Rattle.std.proofs.Common.{◌≡◌, ◌+◌, ℕ, false, ◌==◌, List, [], ◌∷◌, Some, codes, suc, take, arith, refl, ap, ◌∙◌}
 use Rattle.std.specs.List.{position_or_len, slice_get}
 use Rattle.std.specs.Str.{bytes_eq}
+use Rattle.fx_text.specs.Classes.{is_space}
 use Rattle.fx_text.specs.Fronts.{behind}
-use Rattle.fx_script_lines.specs.Taking.{before_space, is_space, word_in}
+use Rattle.fx_script_lines.specs.Taking.{before_space, word_in}
 use Rattle.fx_script_commands.specs.Commands.{is_end}
 
 nothing_behind : (x : ℕ) (xs : List ℕ) → (x == 32) ≡ false → behind is_space (x ∷ xs) ≡ x ∷ xs

@@ -3,7 +3,7 @@ use Rattle.std.specs.Prelude.{ℕ, List, [], ◌∷◌, ◌==◌, Option, None, 
 use Rattle.std.specs.Option.{option_map}
 use Rattle.fx_text.specs.Characters.{dollar_sign, left_brace, right_brace}
 use Rattle.fx_text.specs.Fronts.{behind}
-use Rattle.fx_script_lines.specs.Taking.{is_space}
+use Rattle.fx_text.specs.Classes.{is_space}
 
 -- what is behind this character in front
 abbrev pub behind_sign : ℕ → List ℕ → Option (List ℕ)

@@ -5,8 +5,9 @@ use Rattle.std.proofs.lemmas.List.Folds.{list_all-append}
 use Rattle.std.proofs.lemmas.List.Splits.{slice_split_first, slice_split_none}
 use Rattle.std.proofs.lemmas.List.Sums.{fails_before_first}
 use Rattle.std.proofs.lemmas.Bool.Decides.{eqb_tells}
+use Rattle.fx_text.specs.Classes.{is_space}
 use Rattle.fx_text.specs.Fronts.{behind}
-use Rattle.fx_script_lines.specs.Taking.{CutsAtDot, Gives, is_dot, is_name, is_space, name_of, names, names_in}
+use Rattle.fx_script_lines.specs.Taking.{CutsAtDot, Gives, is_dot, is_name, name_of, names, names_in}
 use Rattle.fx_script_lines.specs.declared.stops.Stop.{Stop}
 use Rattle.fx_script_lines.specs.declared.stops.Stop.TheVariants.{Form, Memory}
 

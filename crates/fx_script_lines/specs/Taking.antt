@@ -4,17 +4,14 @@ use Rattle.std.specs.Char.{is_ascii_digit}
 use Rattle.std.specs.List.{after_first, before_first, list_all, position_or_len, slice_split}
 use Rattle.std.specs.Option.{option_and_then, option_map}
 use Rattle.std.specs.Str.{bytes_eq, chars}
-use Rattle.fx_text.specs.Characters.{full_stop, hyphen, space}
-use Rattle.fx_text.specs.Classes.{is_identifier}
+use Rattle.fx_text.specs.Characters.{full_stop, hyphen}
+use Rattle.fx_text.specs.Classes.{is_identifier, is_space}
 use Rattle.fx_text.specs.Fronts.{behind}
 use Rattle.fx_text.specs.Identifiers.{is_style_identifier}
 use Rattle.fx_script_lines.specs.declared.shapes.Shape.{Shape}
 use Rattle.fx_script_lines.specs.declared.shapes.Shape.TheVariants.{Any, Identifier, Ident, Integer, Place, Count, Notice, Kind, Switch}
 use Rattle.fx_script_lines.specs.declared.stops.Stop.{Stop}
 use Rattle.fx_script_lines.specs.declared.stops.Stop.TheVariants.{Form, Memory}
-
-abbrev pub is_space : ℕ → Bool
-is_space c = c == space
 
 abbrev pub before_space : List ℕ → List ℕ
 before_space text = before_first is_space text

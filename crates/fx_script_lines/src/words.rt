@@ -3,6 +3,7 @@
 ghost use Rattle.std.specs.Prelude.{◌≡◌, codes, length, nat_le};
 ghost use Rattle.std.specs.Option.{option_map};
 ghost use Rattle.std.specs.Str.{bytes_eq, chars};
+ghost use Rattle.fx_text.specs.Classes.{is_space};
 ghost use Rattle.fx_text.specs.Fronts.{behind};
 ghost use Rattle.fx_script_lines.specs.Taking as spec;
 ghost use Rattle.fx_script_lines.specs.Taking.{Gives, Takes};
@@ -198,7 +199,7 @@ fn first_word(text: &str) -> (&str, &str)
 
 /// The text without the spaces in front of it.
 pub fn behind_spaces(text: &str) -> &str
-    ensures { result.now ≡ behind spec.is_space text.now }
+    ensures { result.now ≡ behind is_space text.now }
 {
     let mut rest = text;
     while let Some(others) = rest.strip_prefix(' ') {

@@ -2,7 +2,7 @@
 use Rattle.std.proofs.Common.{◌≡◌, length}
 use Rattle.std.specs.Str.{IsUtf8}
 use Rattle.fx_text.specs.Fronts.{behind}
-use Rattle.fx_script_lines.specs.Taking.{is_space}
+use Rattle.fx_text.specs.Classes.{is_space}
 use Rattle.fx_script_lines.proofs.words.behind_spaces.Given as goal
 
 abbrev pub invariant-loop-others : goal.invariant-loop-others

@@ -1,7 +1,7 @@
 //! Rows of pixels as text: of a whole picture, and of one row item.
 //! What a view sends and what a viewer shows are printed by the same functions.
-ghost use Rattle.std.specs.Prelude.{◌≡◌, ◌<◌, ◌++◌, ◌∷◌, [], IfOk, codes, false};
-ghost use Rattle.std.specs.Fmt.{decimal, digit_glyph};
+ghost use Rattle.std.specs.Prelude.{◌≡◌, ◌++◌, ◌∷◌, [], IfOk, codes};
+ghost use Rattle.std.specs.Fmt.{decimal};
 ghost use Rattle.std.specs.List.{flat_map};
 ghost use Rattle.fx_text.specs.Characters.{line_feed, space};
 ghost use Rattle.fx_delta.specs.Lines.{item_line};
@@ -9,6 +9,7 @@ ghost use Rattle.fx_delta.specs.Reading.{Appends};
 ghost use Rattle.fx_delta.specs.Rows.{pixel_text, pixels_text, row_text};
 ghost use Rattle.fx_delta.specs.Runs.{IsRun};
 
+use fx_text::hex_digit;
 use std::alloc::{AllocError, Global};
 
 /// The line of the row item that starts at this place, with its line feed.
@@ -93,14 +94,16 @@ impl Run {
 fn pixel_digits(pixel: u32) -> [u8; 6]
     ensures { result ≡ pixel_text pixel }
 {
-    let (red, green, blue) = (pixel / 65536 % 256, pixel / 256 % 256, pixel % 256);
+    let red = (pixel / 65536 % 256) as u8;
+    let green = (pixel / 256 % 256) as u8;
+    let blue = (pixel % 256) as u8;
     [
-        digit(red / 16),
-        digit(red % 16),
-        digit(green / 16),
-        digit(green % 16),
-        digit(blue / 16),
-        digit(blue % 16),
+        hex_digit(red / 16),
+        hex_digit(red % 16),
+        hex_digit(green / 16),
+        hex_digit(green % 16),
+        hex_digit(blue / 16),
+        hex_digit(blue % 16),
     ]
 }
 
@@ -109,15 +112,4 @@ fn spaced_digits(pixel: u32) -> [u8; 7]
 {
     let [a, b, c, d, e, f] = pixel_digits(pixel);
     [b' ', a, b, c, d, e, f]
-}
-
-fn digit(number: u32) -> u8
-    requires { number < 16 }
-    ensures { result ≡ digit_glyph false number }
-{
-    if number < 10 {
-        b'0' + number as u8
-    } else {
-        b'a' + (number - 10) as u8
-    }
 }

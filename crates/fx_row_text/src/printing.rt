@@ -1,11 +1,11 @@
 //! Printing a row. Equal pixels one after another are printed from one text.
-ghost use Rattle.std.specs.Prelude.{◌≡◌, ◌<◌, ◌++◌, ◌∷◌, OnOk, false, map};
-ghost use Rattle.std.specs.Fmt.{digit_glyph};
+ghost use Rattle.std.specs.Prelude.{◌≡◌, ◌++◌, ◌∷◌, OnOk, map};
 ghost use Rattle.std.specs.List.{flat_map, join_with_byte};
 ghost use Rattle.fx_text.specs.Characters.{space};
 ghost use Rattle.fx_row_text.specs.Rows.{pixel_text, row_text};
 ghost use Rattle.fx_row_text.specs.Runs.{IsRun};
 
+use fx_text::hex_digit;
 use std::alloc::AllocError;
 
 /// Makes the text that of a row of pixels, each 0x00RRGGBB, with a line feed. It keeps its room, so a text that was
@@ -75,14 +75,16 @@ impl Run {
 fn pixel_digits(pixel: u32) -> [u8; 6]
     ensures { result ≡ pixel_text pixel }
 {
-    let (red, green, blue) = (pixel / 65536 % 256, pixel / 256 % 256, pixel % 256);
+    let red = (pixel / 65536 % 256) as u8;
+    let green = (pixel / 256 % 256) as u8;
+    let blue = (pixel % 256) as u8;
     [
-        digit(red / 16),
-        digit(red % 16),
-        digit(green / 16),
-        digit(green % 16),
-        digit(blue / 16),
-        digit(blue % 16),
+        hex_digit(red / 16),
+        hex_digit(red % 16),
+        hex_digit(green / 16),
+        hex_digit(green % 16),
+        hex_digit(blue / 16),
+        hex_digit(blue % 16),
     ]
 }
 
@@ -91,15 +93,4 @@ fn spaced_digits(pixel: u32) -> [u8; 7]
 {
     let [a, b, c, d, e, f] = pixel_digits(pixel);
     [b' ', a, b, c, d, e, f]
-}
-
-fn digit(number: u32) -> u8
-    requires { number < 16 }
-    ensures { result ≡ digit_glyph false number }
-{
-    if number < 10 {
-        b'0' + number as u8
-    } else {
-        b'a' + (number - 10) as u8
-    }
 }

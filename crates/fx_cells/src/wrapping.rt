@@ -1,10 +1,10 @@
 //! The lines of a text that wraps at a number of cells.
 //! It stands on the columns, below the layout of controls.
-ghost use Rattle.std.specs.Prelude.{◌≡◌, ℕ, ◌+◌, ◌<◌, ◌≤◌, ◌==◌, ◌&&◌, nat_lt, if◌then◌else◌, IfNone, All, IfOk, IfSome, List, Some, chars, drop, length};
+ghost use Rattle.std.specs.Prelude.{◌≡◌, ℕ, ◌+◌, ◌<◌, ◌≤◌, ◌&&◌, nat_lt, if◌then◌else◌, IfNone, All, IfOk, IfSome, List, Some, chars, drop, length};
 ghost use Rattle.std.specs.Char.{len_utf8};
-ghost use Rattle.std.specs.List.{prefix_len};
 ghost use Rattle.std.specs.Option.{ForSome};
-ghost use Rattle.fx_cells.specs.Wrapping.{CutsFirstLine, IsLine, IsWrapping};
+ghost use Rattle.fx_text.specs.Classes.{is_space};
+ghost use Rattle.fx_cells.specs.Wrapping.{CutsFirstLine, IsLine, IsWrapping, leading_spaces};
 
 use crate::columns::width_of;
 use std::alloc::{AllocError, Global};
@@ -63,7 +63,7 @@ fn first_line(text: &str, columns: u64) -> Cut
 
 /// The last place so far where a space follows other characters, where `c` stands at `at`.
 fn last_space(c: char, at: usize, before: Option<usize>) -> Option<usize>
-    ensures { result ≡ (if (c == 32) && nat_lt 0 at then Some at else before) }
+    ensures { result ≡ (if is_space c && nat_lt 0 at then Some at else before) }
 {
     if c == ' ' && at > 0 { Some(at) } else { before }
 }
@@ -72,7 +72,7 @@ fn last_space(c: char, at: usize, before: Option<usize>) -> Option<usize>
 fn cut_before(text: &str, c: char, at: usize, space: Option<usize>) -> Cut
     requires { ForSome space (λ end. end ≤ length text.now) }
     ensures at_space { IfSome space (λ end.
-        result ≡ record { end = end; next = end + prefix_len (λ b. b == 32) (drop end text.now) }) }
+        result ≡ record { end = end; next = end + leading_spaces (drop end text.now) }) }
     ensures inside_word { IfNone space (0 < at → result ≡ record { end = at; next = at }) }
     ensures too_wide { IfNone space (at ≡ 0 → result ≡ record { end = len_utf8 c; next = len_utf8 c }) }
 {
@@ -92,7 +92,7 @@ fn cut_before(text: &str, c: char, at: usize, space: Option<usize>) -> Cut
 }
 
 fn leading_spaces(bytes: &[u8]) -> usize
-    ensures value { result ≡ prefix_len (λ b. b == 32) bytes.now }
+    ensures value { result ≡ leading_spaces bytes.now }
     ensures bound { result ≤ length bytes.now }
 {
     bytes.iter().take_while(|b| **b == b' ').count()

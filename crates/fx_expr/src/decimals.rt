@@ -2,6 +2,7 @@
 ghost use Rattle.std.specs.Char.{is_ascii_digit};
 ghost use Rattle.std.specs.List.{prefix_len};
 ghost use Rattle.std.specs.Prelude.{◌≡◌, ◌-◌, ◌^◌, ◌+◌, min, pos, if◌then◌else◌, length, drop, ◌<◌, ◌≤◌};
+ghost use Rattle.fx_text.specs.Characters.{digit_zero};
 ghost use Rattle.fx_text.specs.Digits.{number_behind};
 ghost use Rattle.fx_base.specs.declared.values.Value.TheVariants as value;
 ghost use Rattle.fx_text.specs.Fronts.{front, behind};
@@ -89,7 +90,7 @@ pub fn is_digit(c: char) -> bool
 }
 
 fn digit(c: char) -> u64
-    ensures { result ≡ c - 48 }
+    ensures { result ≡ c - digit_zero }
 {
     (c as u64).saturating_sub(48)
 }

@@ -4,6 +4,7 @@ ghost use Rattle.std.specs.Prelude.{◌≡◌, ◌+◌, ◌*◌, ◌^◌, ◌-�
 ghost use Rattle.std.specs.List.{list_all, list_any};
 ghost use Rattle.std.specs.Char.{is_ascii_digit};
 ghost use Rattle.std.specs.Option.{option_map};
+ghost use Rattle.fx_text.specs.Characters.{digit_zero};
 ghost use Rattle.fx_look.specs.Numbers.{IsNumber, IsSize, number_at, size_at, power_at, exponent_at, few_digits, number_of, saturated};
 ghost use Rattle.fx_look.specs.Rounding.{digits_of, leading, rounds_away, rounded_at, size_of};
 ghost use Rattle.fx_look.specs.Written.{written, power_of_ten};
@@ -125,7 +126,7 @@ fn few_digits(digits: &[u8]) -> Option<u16>
 }
 
 fn digit(c: u8) -> u16
-    ensures value { result ≡ c - 48 }
+    ensures value { result ≡ c - digit_zero }
     ensures small { result < 256 }
 {
     u16::from(c.saturating_sub(b'0'))
@@ -189,7 +190,7 @@ fn rounds_away(decimal: &Decimal<'_>, place: usize) -> bool
 
 /// Is a digit from this place on above `0`?
 fn has_more(decimal: &Decimal<'_>, place: usize) -> bool
-    ensures { result ≡ list_any (nat_lt 48) (drop place (digits_of (written decimal.now))) }
+    ensures { result ≡ list_any (nat_lt digit_zero) (drop place (digits_of (written decimal.now))) }
 {
     let behind = place.saturating_sub(decimal.whole.len());
     is_above_zero(from(decimal.whole, place)) || is_above_zero(from(decimal.fraction, behind))
@@ -206,7 +207,7 @@ fn from(digits: &[u8], place: usize) -> &[u8]
 }
 
 fn is_above_zero(digits: &[u8]) -> bool
-    ensures { result ≡ list_any (nat_lt 48) digits.now }
+    ensures { result ≡ list_any (nat_lt digit_zero) digits.now }
 {
     digits.iter().any(|c| b'0' < *c)
 }
@@ -225,7 +226,7 @@ pub fn leading(decimal: &Decimal<'_>, places: usize) -> u64
 
 /// The digit at this place, or `0` behind the last one.
 fn digit_at(decimal: &Decimal<'_>, place: usize) -> u8
-    ensures { result ≡ slice_index_or (digits_of (written decimal.now)) place 48 }
+    ensures { result ≡ slice_index_or (digits_of (written decimal.now)) place digit_zero }
 {
     let whole = decimal.whole;
     let fraction = decimal.fraction;

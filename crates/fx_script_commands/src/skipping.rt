@@ -1,7 +1,8 @@
 //! Lines that are told before they are read: blank ones, comments, and the `end` of an action.
 ghost use Rattle.std.specs.Prelude.{◌≡◌, ◌==◌, IsTrue, false};
 ghost use Rattle.std.specs.List.{list_all};
-ghost use Rattle.fx_text.specs.Classes.{is_blank};
+ghost use Rattle.fx_text.specs.Characters.{small_e};
+ghost use Rattle.fx_text.specs.Classes.{is_blank, is_space};
 ghost use Rattle.fx_script_commands.specs.Commands as spec;
 
 use fx_script_lines::Words;
@@ -32,8 +33,8 @@ fn begins_otherwise(text: &[u8]) -> bool
 }
 
 fn is_other(first: u8) -> bool
-    ensures other { IsTrue result → (first == 101) ≡ false }
-    ensures space { IsTrue result → (first == 32) ≡ false }
+    ensures other { IsTrue result → (first == small_e) ≡ false }
+    ensures space { IsTrue result → is_space first ≡ false }
 {
     first != b'e' && first != b' '
 }

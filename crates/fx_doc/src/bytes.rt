@@ -42,12 +42,13 @@ pub fn place_behind(bytes: &[u8]) -> Position
     ensures { result ≡ after_all start (document_text bytes.now) }
 {
     match text_in(bytes) {
-        Ok(text) => behind(text),
+        Ok(text) => position_behind(text),
         Err(_) => Position::START,
     }
 }
 
-fn behind(text: &str) -> Position
+/// The position behind the text.
+pub fn position_behind(text: &str) -> Position
     requires { length text.now ≤ 4194304 }
     ensures { result ≡ after_all start (chars text.now) }
 {

@@ -16,6 +16,6 @@ mod reading;
 mod tags;
 mod values;
 
-pub use bytes::place_behind;
+pub use bytes::{place_behind, position_behind};
 pub use document::{Attribute, Content, DocError, Document, Element};
 pub use reader::read_document;

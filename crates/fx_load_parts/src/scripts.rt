@@ -11,6 +11,7 @@ ghost use Rattle.fx_script_commands.specs.declared.commands.Line.{Line};
 
 use crate::files::{FileFault, LoadError};
 use fx_base::Position;
+use fx_doc::position_behind;
 use fx_scene_flaws::{FaultKind, Flaw};
 use fx_script_commands::{Line, ScriptError};
 use std::alloc::Global;
@@ -66,18 +67,7 @@ pub(crate) fn place_behind(bytes: &[u8]) -> Position
     ensures { result ≡ after_all start (chars bytes.now) }
 {
     match str::from_utf8(bytes) {
-        Ok(text) => behind(text),
+        Ok(text) => position_behind(text),
         Err(_) => Position::START,
     }
-}
-
-fn behind(text: &str) -> Position
-    requires { length text.now ≤ 4194304 }
-    ensures { result ≡ after_all start (chars text.now) }
-{
-    let mut position = Position::START;
-    for c in text.chars() {
-        position = position.after(c);
-    }
-    position
 }

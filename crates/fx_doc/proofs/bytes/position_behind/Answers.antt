@@ -7,7 +7,7 @@ use Rattle.fx_base.specs.Positions.{start, after_all}
 use Rattle.fx_doc_grammar.proofs.Turns.{place_more}
 use Rattle.fx_doc_drafts.proofs.Texts.{chars_fewer}
 use Rattle.fx_doc.proofs.Loops.{line_small, column_small}
-use Rattle.fx_load_parts.proofs.scripts.behind.Goals as goal
+use Rattle.fx_doc.proofs.bytes.position_behind.Goals as goal
 
 pub after-position-requires-clause-line : goal.after-position-requires-clause-line
 after-position-requires-clause-line c =

@@ -10,7 +10,7 @@ use fx_doc::{Attribute, Element};
 use fx_scene_acts::{Act, Deed};
 use fx_scene_literals::{Found, Made};
 use fx_scene_plan::PlannedStep;
-use fx_scene_values::behind_sign;
+use fx_script_commands::behind_sign;
 use std::alloc::{AllocError, Global};
 
 /// What the items of a list of texts are.

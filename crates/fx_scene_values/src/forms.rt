@@ -1,9 +1,9 @@
 //! What the text of an attribute is by the signs in front of it.
-ghost use Rattle.std.specs.Prelude.{◌≡◌, ◌<◌};
-ghost use Rattle.std.specs.Option.{option_map};
-ghost use Rattle.fx_script_commands.specs.Braces.{before_sign, behind_sign};
+ghost use Rattle.std.specs.Prelude.{◌≡◌};
 ghost use Rattle.fx_scene_values.specs.Forms as spec;
 ghost use Rattle.fx_scene_values.specs.Views.{form_view};
+
+use fx_script_commands::{before_sign, behind_sign};
 
 /// What the text of an attribute is.
 #[derive(Clone, Copy)]
@@ -70,19 +70,4 @@ fn brace_form(inside: &str) -> Form<'_>
         Some(text) => Form::Bound(text),
         None => Form::Refused,
     }
-}
-
-/// What stands behind the sign at the front.
-pub fn behind_sign(text: &str, sign: char) -> Option<&str>
-    requires { sign < 128 }
-    ensures { option_map (λ rest. rest.now) result ≡ behind_sign sign text.now }
-{
-    text.strip_prefix(sign)
-}
-
-fn before_sign(text: &str, sign: char) -> Option<&str>
-    requires { sign < 128 }
-    ensures { option_map (λ front. front.now) result ≡ before_sign sign text.now }
-{
-    text.strip_suffix(sign)
 }

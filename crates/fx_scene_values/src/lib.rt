@@ -12,7 +12,7 @@ mod statics;
 mod styles;
 mod values;
 
-pub use forms::{Form, behind_sign, form_of};
+pub use forms::{Form, form_of};
 pub use kinds::is_same_kind;
 pub use properties::{property_deed, property_given, property_named};
 pub use roles::{Role, role_of};

@@ -5,7 +5,7 @@ ghost use Rattle.fx_scene_values.specs.Styles as spec;
 ghost use Rattle.fx_scene_things.specs.Known.{known};
 ghost use Rattle.fx_scene_values.specs.Views.{scope_view};
 
-use crate::forms::{behind_sign, form_of};
+use crate::forms::form_of;
 use crate::scopes::Scope;
 use crate::values::{Given, value_in};
 use fx_base::{Kind, Text, Value};
@@ -14,6 +14,7 @@ use fx_scene_acts::Deed;
 use fx_scene_flaws::Flaw;
 use fx_scene_plan::PlannedStep;
 use fx_scene_things::Names;
+use fx_script_commands::behind_sign;
 use fx_stage_words::read_style;
 use fx_text::{is_identifier, trimmed_text};
 use std::alloc::{AllocError, Global};

@@ -16,14 +16,16 @@ pub(crate) fn between_braces(text: &str) -> Option<&str>
     before_sign(behind_brace, '}')
 }
 
-fn behind_sign(text: &str, sign: char) -> Option<&str>
+/// What stands behind the sign at the front.
+pub fn behind_sign(text: &str, sign: char) -> Option<&str>
     requires { sign < 128 }
     ensures { option_map (λ rest. rest.now) result ≡ spec.behind_sign sign text.now }
 {
     text.strip_prefix(sign)
 }
 
-fn before_sign(text: &str, sign: char) -> Option<&str>
+/// What stands before the sign at the end.
+pub fn before_sign(text: &str, sign: char) -> Option<&str>
     requires { sign < 128 }
     ensures { option_map (λ front. front.now) result ≡ spec.before_sign sign text.now }
 {

@@ -14,6 +14,7 @@ mod scripts;
 mod skipping;
 mod standing;
 
+pub use braces::{before_sign, behind_sign};
 pub use commands::{Command, Line};
 pub use errors::ScriptError;
 pub use laws::{expressions_are_written, lines_are_bad_by_a_cause};

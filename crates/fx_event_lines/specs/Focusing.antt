@@ -4,7 +4,8 @@ use Rattle.std.specs.Prelude.{ℕ, Bool, not, ◌&&◌, List, Option, Some, Resu
 use Rattle.std.specs.List.{list_any}
 use Rattle.fx_base.specs.declared.keys.NodeKey.{NodeKey}
 use Rattle.fx_focus.specs.Attached.{is_attached}
-use Rattle.fx_focus.specs.Focus.{next_focus, or_else}
+use Rattle.fx_base.specs.Answers.{or_else}
+use Rattle.fx_focus.specs.Focus.{next_focus}
 use Rattle.fx_picture.specs.declared.entries.Entry.{Entry}
 use Rattle.fx_stage_model.specs.Answers.{and_then}
 use Rattle.fx_stage_model.specs.Looking.{find_node}

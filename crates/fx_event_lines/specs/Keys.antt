@@ -4,7 +4,7 @@ use Rattle.std.specs.Prelude.{ℕ, Bool, true, false, List, ◌++◌, codes, Opt
 use Rattle.std.specs.Str.{bytes_eq}
 use Rattle.fx_base.specs.declared.keys.NodeKey.{NodeKey}
 use Rattle.fx_events.specs.declared.kinds.EventKind.TheVariants.{Action, KeyPressed}
-use Rattle.fx_focus.specs.Focus.{or_else}
+use Rattle.fx_base.specs.Answers.{or_else}
 use Rattle.fx_kinds.specs.declared.classes.Class.{Class}
 use Rattle.fx_kinds.specs.declared.classes.Class.TheVariants as class
 use Rattle.fx_stage_model.specs.Graphs.{Graph}

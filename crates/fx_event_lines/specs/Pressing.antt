@@ -5,7 +5,7 @@ use Rattle.std.specs.Prelude.{Bool, true, false, not, ◌&&◌, List, [], ◌∷
 use Rattle.std.specs.List.{find, list_any}
 use Rattle.fx_base.specs.declared.keys.NodeKey.{NodeKey}
 use Rattle.fx_events.specs.declared.kinds.EventKind.TheVariants.{Action, MouseClicked, MousePressed, MouseReleased}
-use Rattle.fx_focus.specs.Focus.{or_else}
+use Rattle.fx_base.specs.Answers.{or_else}
 use Rattle.fx_picture.specs.declared.entries.Entry.{Entry}
 use Rattle.fx_stage_model.specs.Answers.{unless}
 use Rattle.fx_stage_model.specs.Graphs.{Graph}

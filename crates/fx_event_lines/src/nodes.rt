@@ -4,7 +4,7 @@ ghost use Rattle.std.specs.Option.{option_copied};
 ghost use Rattle.fx_tree.specs.Scene.{is_alive, is_same, path};
 ghost use Rattle.fx_tree.specs.Refusals.{is_held};
 ghost use Rattle.fx_tree.specs.declared.TreeError.TheVariants.{Memory};
-ghost use Rattle.fx_focus.specs.Focus.{or_else};
+ghost use Rattle.fx_base.specs.Answers.{or_else};
 ghost use Rattle.fx_event_lines.specs.Hovering as spec;
 ghost use Rattle.fx_event_lines.specs.Keys.{button_at, is_button, is_button_class};
 

@@ -4,7 +4,8 @@ use Rattle.std.specs.List.{find}
 use Rattle.std.specs.Option.{option_map}
 use Rattle.fx_tree.specs.Scene.{Scene}
 use Rattle.fx_picture.specs.declared.entries.Entry.{Entry}
-use Rattle.fx_focus.specs.Focus.{first_key, or_else, takes_focus}
+use Rattle.fx_base.specs.Answers.{or_else}
+use Rattle.fx_focus.specs.Focus.{first_key, takes_focus}
 
 pub first-append : (scene : Scene) (front behind : List Entry)
     → first_key scene (front ++ behind) ≡ or_else (first_key scene front) (first_key scene behind)

@@ -29,11 +29,6 @@ backward entries (Some place) = reverse (take place entries) ++ reverse (drop pl
 abbrev pub first_key : Scene → List Entry → Option NodeKey
 first_key scene entries = option_map (λ (entry : Entry). entry.key) (find (takes_focus scene) entries)
 
--- what was found, or else what is found further on
-abbrev pub or_else : Option NodeKey → Option NodeKey → Option NodeKey
-or_else None further = further
-or_else (Some key) further = Some key
-
 abbrev pub next_focus : Scene → List Entry → Option NodeKey → Bool → Option NodeKey
 next_focus scene entries now back =
     first_key scene (if back then backward entries (place_of entries now) else onward entries (place_of entries now))

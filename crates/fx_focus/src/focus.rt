@@ -2,7 +2,8 @@
 ghost use Rattle.std.specs.Prelude.{◌≡◌, ◌<◌, IfSome, length, reverse};
 ghost use Rattle.std.specs.List.{find};
 ghost use Rattle.std.specs.Option.{option_map};
-ghost use Rattle.fx_focus.specs.Focus.{backward, first_key, next_focus, onward, or_else, place_of, takes_focus};
+ghost use Rattle.fx_base.specs.Answers.{or_else};
+ghost use Rattle.fx_focus.specs.Focus.{backward, first_key, next_focus, onward, place_of, takes_focus};
 
 use crate::attached::{is_attached, is_same};
 use fx_base::NodeKey;

@@ -6,7 +6,8 @@ use Rattle.std.proofs.lemmas.Bool.{cases_eq, cases_lt, ne_eqb}
 use Rattle.std.proofs.lemmas.List.{get_or-replicate, get_or-set_other, get_or-set_same, get_or_past, length-replicate, length-set}
 use Rattle.fx_style.specs.declared.kept.Entry.{Entry}
 use Rattle.fx_style.specs.declared.kept.Fresh.{Fresh}
-use Rattle.fx_style.specs.Kept.{fresh_at, if_at, is_among, or_else}
+use Rattle.fx_base.specs.Answers.{or_else}
+use Rattle.fx_style.specs.Kept.{fresh_at, if_at, is_among}
 use Rattle.fx_style.specs.Plans.{AreSteps, made_fresh, put_step, step_entry}
 
 or_none : {X : Type 0} (o : Option X) → or_else o None ≡ o

@@ -10,7 +10,8 @@ use Rattle.fx_node_style.specs.declared.node_styles.NodeStyle.{NodeStyle}
 use Rattle.fx_style.specs.declared.kept.Entry.{Entry}
 use Rattle.fx_style.specs.declared.kept.Fresh.{Fresh}
 use Rattle.fx_style.specs.declared.kept.Rest.{Rest}
-use Rattle.fx_style.specs.Kept.{AreDifferent, HaveDifferentKeys, Kept, entry, entry_in, fresh_at, if_at, joined, or_else, planned_at, put_looks, put_rest, rest_of}
+use Rattle.fx_base.specs.Answers.{or_else}
+use Rattle.fx_style.specs.Kept.{AreDifferent, HaveDifferentKeys, Kept, entry, entry_in, fresh_at, if_at, joined, planned_at, put_looks, put_rest, rest_of}
 use Rattle.fx_style.specs.Turns.{ArePut, HaveKeysOf}
 use Rattle.fx_style.proofs.FreshLemmas.{or_assoc}
 use Rattle.fx_style.proofs.KeyLemmas.{key_is, same_key}

@@ -14,7 +14,8 @@ use Rattle.fx_node_style.specs.declared.node_styles.NodeStyle.{NodeStyle}
 use Rattle.fx_style.specs.declared.kept.Entry.{Entry}
 use Rattle.fx_style.specs.declared.kept.Fresh.{Fresh}
 use Rattle.fx_style.specs.declared.kept.Rest.{Rest}
-use Rattle.fx_style.specs.Kept.{entry, entry_in, fresh_at, is_among, or_else, planned_at, style_of_entry}
+use Rattle.fx_base.specs.Answers.{or_else}
+use Rattle.fx_style.specs.Kept.{entry, entry_in, fresh_at, is_among, planned_at, style_of_entry}
 use Rattle.fx_style.specs.Places.{parent_at, places_up}
 use Rattle.fx_style.specs.Plans.{made_fresh}
 use Rattle.fx_style.specs.Rules.{anew, renewed, renewed_by, style_of, updated_style}

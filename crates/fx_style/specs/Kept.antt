@@ -2,6 +2,7 @@
 use Rattle.std.specs.Prelude.{ℕ, ◌≡◌, ◌==◌, Bool, true, ◌&&◌, List, [], ◌∷◌, slice_get, slice_set, Option, Some, None, option_and_then, if◌then◌else◌}
 use Rattle.std.specs.List.{list_any, position}
 use Rattle.std.specs.Option.{option_map}
+use Rattle.fx_base.specs.Answers.{or_else}
 use Rattle.fx_base.specs.declared.keys.NodeKey.{NodeKey}
 use Rattle.fx_look.specs.declared.looks.Look.{Look}
 use Rattle.fx_kinds.specs.declared.facts.StyleFacts.{StyleFacts}
@@ -63,10 +64,6 @@ abbrev pub is_among : List ℕ → ℕ → Bool
 is_among places at = list_any (λ (place : ℕ). place == at) places
 
 -- entries made anew, each for a place
-
-abbrev pub or_else : {X : Type 0} → Option X → Option X → Option X
-or_else (Some x) other = Some x
-or_else None other = other
 
 abbrev pub if_at : Fresh → ℕ → Option Entry
 if_at f at = if f.at == at then Some f.entry else None

@@ -1,5 +1,6 @@
 use Rattle.std.proofs.Common.{take, drop, reverse, ap, sym, ◌∙◌}
-use Rattle.fx_focus.specs.Focus.{backward, first_key, or_else}
+use Rattle.fx_base.specs.Answers.{or_else}
+use Rattle.fx_focus.specs.Focus.{backward, first_key}
 use Rattle.fx_focus.proofs.FocusLemmas.{first-append}
 use Rattle.fx_focus.proofs.focus.first_backward.Goals as goal
 

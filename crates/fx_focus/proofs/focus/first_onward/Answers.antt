@@ -1,5 +1,6 @@
 use Rattle.std.proofs.Common.{◌+◌, take, drop, ap, sym, ◌∙◌}
-use Rattle.fx_focus.specs.Focus.{first_key, onward, or_else}
+use Rattle.fx_base.specs.Answers.{or_else}
+use Rattle.fx_focus.specs.Focus.{first_key, onward}
 use Rattle.fx_focus.proofs.FocusLemmas.{first-append}
 use Rattle.fx_focus.proofs.focus.first_onward.Goals as goal
 

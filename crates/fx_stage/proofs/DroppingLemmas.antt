@@ -40,7 +40,7 @@ use Rattle.fx_store_model.proofs.Leaving.{loses_names, memory_or_not}
 use Rattle.fx_store_model.proofs.Readers.{among_from, among_in, outside_found, outside_none}
 use Rattle.fx_tree.specs.declared.TreeError.{TreeError}
 use Rattle.fx_tree.specs.declared.TreeError.TheVariants as tree
-use Rattle.fx_tree.specs.Refusals.{IsAnswer as IsTreeAnswer, drop_refusal, is_held, refused as refused_tree, stale}
+use Rattle.fx_tree.specs.Refusals.{IsExactAnswer, drop_refusal, is_held, refused as refused_tree, stale}
 use Rattle.fx_tree.specs.Scene.{Scene, is_alive, parent_of}
 use Rattle.fx_stage_types.specs.declared.answers.StageError.TheVariants.{Memory}
 use Rattle.fx_stage_types.specs.declared.node_data.NodeData.{NodeData}
@@ -519,8 +519,8 @@ not_stale scene key e =
 
 pub subtree_failed : (T : Type 0) (scene : Scene) (key : NodeKey) (refusal : Option TreeError) (error : TreeError)
     → refusal ≡ drop_refusal scene key → ((e : TreeError) → refusal ≡ Some e → ⊥)
-    → IsTreeAnswer {T = T} (stale scene key) (Err error) → of_tree error ≡ Memory
+    → IsExactAnswer {T = T} (stale scene key) (Err error) → of_tree error ≡ Memory
 subtree_failed T scene key refusal error is not answer =
     ap of_tree
-    (subst (λ (o : Option TreeError). IsTreeAnswer {T = T} o (Err error))
+    (subst (λ (o : Option TreeError). IsExactAnswer {T = T} o (Err error))
     (not_stale scene key (sym is ∙ none_there refusal not)) answer)

@@ -13,11 +13,11 @@ IsFirmAnswer (Some refusal) (Ok value) = ⊥
 IsFirmAnswer (Some refusal) (Err error) = error ≡ refusal
 
 -- the call is refused just as said; where it isn't, memory may be wanting
-abbrev pub IsAnswer : {T : Type 0} → Option TreeError → Result T TreeError → Type 0
-IsAnswer None (Ok value) = Unit {0}
-IsAnswer None (Err error) = error ≡ Memory
-IsAnswer (Some refusal) (Ok value) = ⊥
-IsAnswer (Some refusal) (Err error) = error ≡ refusal
+abbrev pub IsExactAnswer : {T : Type 0} → Option TreeError → Result T TreeError → Type 0
+IsExactAnswer None (Ok value) = Unit {0}
+IsExactAnswer None (Err error) = error ≡ Memory
+IsExactAnswer (Some refusal) (Ok value) = ⊥
+IsExactAnswer (Some refusal) (Err error) = error ≡ refusal
 
 -- this error where the test holds, and else what else there is
 abbrev pub refused : Bool → TreeError → Option TreeError → Option TreeError

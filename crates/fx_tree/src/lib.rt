@@ -6,7 +6,7 @@ mod nodes;
 
 ghost use Rattle.std.specs.Prelude.{◌≡◌, ◌↔◌, ◌⊎◌, ◌+◌, ◌==◌, ◌||◌, ◌++◌, [], Some, length, reverse, is_some, IfOk, OnOk, OnErr};
 ghost use Rattle.fx_tree.specs.History.{DeadStayDead, EachBirthOnce, PathsMeetOnce, SubtreesMeetOnce};
-ghost use Rattle.fx_tree.specs.Refusals.{IsAnswer, IsFirmAnswer, attach_refusal, detach_refusal, drop_refusal, root_refusal, stale};
+ghost use Rattle.fx_tree.specs.Refusals.{IsExactAnswer, IsFirmAnswer, attach_refusal, detach_refusal, drop_refusal, root_refusal, stale};
 ghost use Rattle.fx_tree.specs.Scene as spec;
 ghost use Rattle.fx_tree.specs.declared.TreeError.TheVariants.{Memory};
 ghost use Rattle.std.specs.Option.{option_copied};
@@ -158,7 +158,7 @@ impl Tree {
         child: NodeKey,
         place: usize,
     ) -> Result<(), TreeError>
-        ensures answer { IsAnswer (attach_refusal self.old parent child place) result }
+        ensures answer { IsExactAnswer (attach_refusal self.old parent child place) result }
         ensures ok { OnOk result (self.new ≡ spec.after_attach self.old parent child place) }
         ensures err { OnErr result (self.new ≡ self.old) }
     {
@@ -232,7 +232,7 @@ impl Tree {
 
     /// The nodes from the topmost ancestor to this one.
     pub fn path(&self, alloc: Global, key: NodeKey) -> Result<Vec<NodeKey>, TreeError>
-        ensures answer { IsAnswer (stale self.now key) result }
+        ensures answer { IsExactAnswer (stale self.now key) result }
         ensures ok { IfOk result (λ keys. keys.items ≡ spec.path self.now.nodes key) }
     {
         if !nodes::is_live(&self.nodes, key) {
@@ -246,7 +246,7 @@ impl Tree {
 
     /// A node and all that stand below it, in pre-order.
     pub fn subtree(&self, alloc: Global, key: NodeKey) -> Result<Vec<NodeKey>, TreeError>
-        ensures answer { IsAnswer (stale self.now key) result }
+        ensures answer { IsExactAnswer (stale self.now key) result }
         ensures ok { IfOk result (λ keys. keys.items ≡ spec.subtree self.now.nodes key) }
     {
         if !nodes::is_live(&self.nodes, key) {

@@ -4,7 +4,7 @@ use Rattle.fx_base.specs.declared.keys.NodeKey.{NodeKey}
 use Rattle.fx_stage_types.specs.declared.answers.StageError.{StageError}
 use Rattle.fx_stage_model.specs.Nodes as spec
 use Rattle.fx_stage_model.specs.Taking.{IsTaken}
-use Rattle.fx_tree.specs.Refusals.{IsAnswer, stale}
+use Rattle.fx_tree.specs.Refusals.{IsExactAnswer, stale}
 use Rattle.fx_tree.specs.Scene.{Scene}
 use Rattle.fx_stage.proofs.DeclaringLemmas.{memory_first}
 use Rattle.fx_stage.proofs.DroppingLemmas.{subtree_failed}
@@ -15,7 +15,7 @@ returns-in-Err-subtree-clause-taken g c =
     let world = c.args.self.now in
     let path = c.args.path.now in
     let answer =
-    subst (λ (scene : Scene). IsAnswer {T = Vec NodeKey Global} (stale scene c.in-Ok.key) (Err c.in-Err-subtree.error)) c.tree.ensures
+    subst (λ (scene : Scene). IsExactAnswer {T = Vec NodeKey Global} (stale scene c.in-Ok.key) (Err c.in-Err-subtree.error)) c.tree.ensures
     c.in-Err-subtree.ensures.answer in
     let memory =
     c.from-in-Err-subtree.ensures

@@ -27,6 +27,3 @@ pub use same::Same;
 pub use texts::{Str, Text, TextError};
 pub use values::Value;
 pub use work::{Evaluated, Laid, Ledgers, Painted, Steps, Styled, Work};
-
-#[cfg(test)]
-mod tests;

@@ -9,6 +9,3 @@ mod names;
 pub use ahead::{Ahead, attribute_ahead};
 pub use drafts::{Draft, Halt, Word};
 pub use names::Names;
-
-#[cfg(test)]
-mod tests;

@@ -112,33 +112,3 @@ fn read_within<R: Read>(alloc: Global, reader: &mut R, most: usize) -> Result<Fe
         bytes.extend_from_slice(&window[..count])?;
     }
 }
-
-#[cfg(test)]
-mod tests {
-    use super::*;
-    use std::test::Fail;
-
-    #[test]
-    fn fetches_real_files(rt: HostRuntime) -> Result<(), Fail> {
-        let alloc = rt.alloc();
-        let held = vec![in alloc; 7u8; 20_000]?;
-        fs::write(&rt, "held.bin", held.as_slice())?;
-        fs::write(&rt, "empty.bin", "")?;
-        let mut shelf = FileShelf::new(&rt);
-        assert_eq!(rt;
-            shelf.fetch(alloc, "held.bin", 20_000)?,
-            Fetched::Whole(held)
-        );
-        assert_eq!(rt; shelf.fetch(alloc, "held.bin", 19_999)?, Fetched::Longer);
-        assert_eq!(rt;
-            shelf.fetch(alloc, "empty.bin", 0)?,
-            Fetched::Whole(Vec::new(alloc))
-        );
-        assert_eq!(rt; shelf.fetch(alloc, "absent.bin", 9)?, Fetched::Absent);
-        assert_eq!(rt; shelf.fetch(alloc, ".", 9), Err(FetchError::Failed));
-        assert_eq!(rt; shelf.faults, 1);
-        fs::remove_file(&rt, "held.bin")?;
-        fs::remove_file(&rt, "empty.bin")?;
-        Ok(())
-    }
-}

@@ -11,6 +11,3 @@ pub use entries::{Definition, Entry, Operands, Origin, are_same};
 pub use errors::GraphError;
 pub use formulas::Formula;
 pub use laws::{marks_stay_closed, ranks_forbid_cycles, values_have_their_kinds, values_unfold};
-
-#[cfg(test)]
-mod tests;

@@ -95,22 +95,3 @@ fn count_before_failure(failing: &[(u64, usize)], call: u64) -> Option<usize>
         .find(|entry| entry.0 == call)
         .map(|entry| entry.1)
 }
-
-#[cfg(test)]
-mod tests {
-    use super::*;
-    use std::test::Fail;
-
-    #[test]
-    fn puts(rt: HostRuntime) -> Result<(), Fail> {
-        let alloc = rt.alloc();
-        let mut sink = MemorySink::new(alloc, vec![in alloc; (2, 3), (4, 9), (2, 1)]?);
-        assert_eq!(rt; sink.put(b"one "), Ok(()));
-        assert_eq!(rt; sink.put(b"two "), Err(PutError::Failed));
-        assert_eq!(rt; sink.put(b""), Ok(()));
-        assert_eq!(rt; sink.put(b" four"), Err(PutError::Failed));
-        assert_eq!(rt; sink.written(), b"one two four".as_slice());
-        assert_eq!(rt; sink.faults, 2);
-        Ok(())
-    }
-}

@@ -15,6 +15,3 @@ pub use fronts::{all_digits, all_white, behind_white, digit_count, white_count};
 pub use identifiers::{is_identifier, is_letter, is_letter_or_digit, is_style_identifier};
 pub use laws::texts_are_trimmed_in_one_way;
 pub use trimming::{trim_front, trimmed, trimmed_text};
-
-#[cfg(test)]
-mod tests;

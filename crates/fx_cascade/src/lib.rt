@@ -14,6 +14,3 @@ pub use one_property::{best, declarations_at};
 pub use ranks::is_below;
 pub use sources::{Source, Winner};
 pub use tables::{Winners, style_node};
-
-#[cfg(test)]
-mod tests;

@@ -14,6 +14,3 @@ pub use laws::texts_are_marked_in_one_way;
 pub use marks::Mark;
 pub use saying::{Said, spoken};
 pub use walking::{places, position};
-
-#[cfg(test)]
-mod tests;

@@ -99,19 +99,3 @@ fn letter(name: &[u8], at: usize) -> u8 {
         None => 0,
     }
 }
-
-#[cfg(test)]
-mod tests {
-    use super::*;
-    use fx_look::style_table;
-    use std::test::Fail;
-
-    #[test]
-    fn tells_each_row_by_its_name(rt: HostRuntime) -> Result<(), Fail> {
-        for (place, style) in style_table().iter().enumerate() {
-            let key = guessed(style.name.as_bytes()).ok_or("no row")?;
-            assert_eq!(rt; key as usize, place, "{}", style.name);
-        }
-        Ok(())
-    }
-}

@@ -2,6 +2,10 @@
 #![tactic(auto)]
 
 #[cfg(test)]
+mod marks;
+#[cfg(test)]
 mod parts;
 #[cfg(test)]
 mod sheets;
+#[cfg(test)]
+mod types;

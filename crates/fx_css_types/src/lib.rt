@@ -12,6 +12,3 @@ pub use declarations::{Declaration, Declared, Found, FoundValue, Paint};
 pub use laws::sheets_within_limits_are_short;
 pub use selectors::{Combinator, Compound, Selector};
 pub use sheets::{Candidate, Rule, Sheet, SheetAt, SheetOrigin};
-
-#[cfg(test)]
-mod tests;

@@ -9,6 +9,3 @@ mod resolving;
 pub use laws::{more_steps_change_nothing, one_color, resolving_is_finding};
 pub use named::{NamedPaint, nearest};
 pub use resolving::resolve;
-
-#[cfg(test)]
-mod tests;

@@ -1,10 +1,8 @@
-//! Tests of looks, of what wins a property, and of colours that are looked up. They stand apart, so that a test that
-//! changes has nothing else proved anew.
+//! Tests of what wins a property, and of colours that are looked up. They stand apart, so that a test that changes has
+//! nothing else proved anew.
 #![tactic(auto)]
 
 #[cfg(test)]
 mod parts;
 #[cfg(test)]
 mod scenes;
-#[cfg(test)]
-mod updates;

@@ -1,14 +1,15 @@
-//! What wins on one node, its style, and the paints that are looked up on it.
+//! What wins on one node, its style, and the paints that are looked up on it. Looks after updates are stored cases of
+//! style_cases.
 ghost use Rattle.std.specs.Prelude.{◌≡◌};
+ghost use Rattle.fx_css_types.specs.Limits.{AreWithinLimits};
 
-use crate::scenes::{BLUE, even, sheets};
+use crate::scenes::{BLUE, sheets};
 use fx_base::{Ledgers, Text, Work};
-use fx_cascade::{Source, Winner, Winners, best, declarations_at, is_below, style_node};
-use fx_css_types::{Candidate, Paint, SheetOrigin};
-use fx_look::{StyleKey, style_named};
-use fx_lookup::{nearest, resolve};
-use fx_node_style::{Ground, style_by};
-use std::alloc::Global;
+use fx_cascade::{Source, Winner, best, declarations_at, is_below};
+use fx_css_types::{Candidate, SheetAt, SheetOrigin};
+use fx_lookup::{NamedPaint, nearest, resolve};
+use fx_node_style::{Ground, NodeStyle, style_by};
+use std::alloc::{AllocError, Global};
 use std::marker::Brand;
 use std::process::Abort;
 use std::sync::ledger::Blank;
@@ -24,60 +25,47 @@ const MATCHED: [Candidate; 1] = [Candidate {
 
 const TEXT: &str = "Button{-fx-padding:1;-c:red;-c:blue;-d:-c}";
 
-/// What wins for a name that is no row of the style table.
-fn other(winners: &Winners, name: &Text) -> Option<Source> {
-    match style_named(name.as_str()) {
-        None => winners.other(name),
-        Some(_) => None,
-    }
-}
-
-fn win<L: Ledgers, R: Abort + AllocGlobal>(
-    rt: &R,
-    evaluated: Blank,
-    styled: Blank,
-    laid: Blank,
-    painted: Blank,
-) -> Result<(), Fail>
-    requires evaluated { (evaluated.name ≡ L.evaluated_name) × (evaluated.parts ≡ 1) }
-    requires styled { (styled.name ≡ L.styled_name) × (styled.parts ≡ 1) }
-    requires laid { (laid.name ≡ L.laid_name) × (laid.parts ≡ 1) }
-    requires painted { (painted.name ≡ L.painted_name) × (painted.parts ≡ 1) }
-{
-    let alloc = rt.alloc();
-    let mut work: Work<L> = Work::new(evaluated, styled, laid, painted);
-    let sheets = sheets(alloc, TEXT, "")?;
-    let winners = style_node(alloc, sheets.as_slice(), &MATCHED, &[], &mut work)?;
-    let padding = winners.row(StyleKey::Padding as usize);
-    assert_eq!(rt; padding, Some(Source::Declared(0, 0)));
-    let name = Text::from_str(alloc, "-c")?;
-    assert_eq!(rt; other(&winners, &name), Some(Source::Declared(0, 2)));
-    Ok(())
-}
-
-#[test]
-fn all_winners_are_found_at_once(rt: HostRuntime) -> Result<(), Fail> {
-    win::<Brand, HostRuntime>(
-        &rt,
-        Blank::new(1),
-        Blank::new(1),
-        Blank::new(1),
-        Blank::new(1),
-    )
+/// Does the second of the colours win?
+fn does_blue_win(sheets: &[SheetAt]) -> bool {
+    let (red, blue) = (Source::Declared(0, 1), Source::Declared(0, 2));
+    declarations_at(sheets, &MATCHED[0]).len() == 4
+        && best(sheets, &MATCHED, &[], "-c") == Some(Winner::Declared(0, 2))
+        && is_below(&MATCHED, red, blue)
+        && !is_below(&MATCHED, blue, red)
 }
 
 #[test]
 fn the_later_declaration_wins(rt: HostRuntime) -> Result<(), Fail> {
-    let sheets = sheets(rt.alloc(), TEXT, "")?;
-    let sheets = sheets.as_slice();
-    assert_eq!(rt; declarations_at(sheets, &MATCHED[0]).len(), 4);
-    assert_eq!(rt;
-        best(sheets, &MATCHED, &[], "-c"),
-        Some(Winner::Declared(0, 2))
-    );
-    let (red, blue) = (Source::Declared(0, 1), Source::Declared(0, 2));
-    assert!(rt; is_below(&MATCHED, red, blue) && !is_below(&MATCHED, blue, red));
+    let sheets = sheets(rt.alloc(), TEXT)?;
+    assert!(rt; does_blue_win(sheets.as_slice()));
     Ok(())
+}
+
+/// The style of a button.
+fn button<L: Ledgers>(
+    alloc: Global,
+    sheets: &[SheetAt],
+    work: &mut Work<L>,
+) -> Result<NodeStyle, AllocError>
+    requires { AreWithinLimits sheets.now }
+{
+    let ground = Ground {
+        sheets,
+        matched: &MATCHED,
+        codes: &[],
+        alignment: 4,
+        parent: None,
+        above: &[],
+    };
+    style_by(alloc, ground, work)
+}
+
+/// Is the second of the colours found, by the name of its name?
+fn is_found(alloc: Global, paints: &[NamedPaint]) -> Result<bool, Fail> {
+    let chain = [paints];
+    let name = Text::from_str(alloc, "-d")?;
+    let color = resolve(alloc, &name, &chain)?;
+    Ok(nearest(&chain, "-d").is_some() && color == Some(BLUE))
 }
 
 fn paint<L: Ledgers, R: Abort + AllocGlobal>(
@@ -94,26 +82,10 @@ fn paint<L: Ledgers, R: Abort + AllocGlobal>(
 {
     let alloc = rt.alloc();
     let mut work: Work<L> = Work::new(evaluated, styled, laid, painted);
-    let sheets = sheets(alloc, TEXT, "")?;
-    let ground = Ground {
-        sheets: sheets.as_slice(),
-        matched: &MATCHED,
-        codes: &[],
-        alignment: 4,
-        parent: None,
-        above: &[],
-    };
-    let style = style_by(alloc, ground, &mut work)?;
-    assert!(rt; style.look.padding == even(1));
-    let chain = [style.paints.as_slice()];
-    assert!(rt; nearest(&chain, "-d").is_some());
-    let name = Text::from_str(alloc, "-d")?;
-    assert_eq!(rt; resolve(alloc, &name, &chain)?, Some(BLUE));
-    let copy = style.paints.copy(alloc)?;
-    let Some(first) = copy.as_slice().first() else {
-        return Err(Fail::from("no paint is kept"));
-    };
-    assert!(rt; first.copy(alloc)?.name.equals("-c"));
+    let sheets = sheets(alloc, TEXT)?;
+    let style = button(alloc, sheets.as_slice(), &mut work)?;
+    assert!(rt; style.look.padding.top == 1);
+    assert!(rt; is_found(alloc, style.paints.as_slice())?);
     Ok(())
 }
 

@@ -4,9 +4,11 @@
 //! A line begins with a word. `case` forgets all, `sheets` all sheets, and `nodes` all nodes. `sheet agent` lists the
 //! sheet of the user agent, `sheet scene TEXT` one of the scene, `sheet parent 2 TEXT` one of a node of this depth, and
 //! `style TEXT` an inline style. `node` lists a node (reading.rt), and `update` styles the nodes of these places.
+//! `matches SELECTORS` says which nodes each selector matches, and `rules` which rules match each node (matching.rt).
 #![tactic(auto)]
 
 mod looks;
+mod matching;
 mod reading;
 mod scenes;
 

@@ -6,6 +6,7 @@ ghost use Rattle.fx_style.specs.Rules.{AreIndexed, HaveRows};
 ghost use Rattle.fx_css_types.specs.Limits.{AreWithinLimits, IsWithinLimits};
 
 use crate::looks::looks_text;
+use crate::matching::{matches_text, rules_text};
 use crate::reading::{read_node, read_place};
 use anyhow::bail;
 use fx_base::{Ledgers, Work};
@@ -55,6 +56,12 @@ impl Scenery {
         let (word, rest) = line.split_once(' ').unwrap_or((line, ""));
         if word == "update" {
             return self.update(alloc, rest, work);
+        }
+        if word == "matches" {
+            return matches_text(alloc, rest, self.facts.as_slice());
+        }
+        if word == "rules" {
+            return rules_text(alloc, self.sheets.as_slice(), self.facts.as_slice());
         }
         self.change(alloc, word, rest)?;
         Ok(String::new(alloc))

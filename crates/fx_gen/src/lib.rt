@@ -31,6 +31,3 @@ pub fn make(alloc: Global, number: u32) -> Result<(Vec<u8>, Vec<u8>, Vec<u8>), A
     put_script(&mut script, number, &mut draws)?;
     Ok((scene.into_bytes(), sheet.into_bytes(), script.into_bytes()))
 }
-
-#[cfg(test)]
-mod tests;

@@ -226,6 +226,3 @@ impl Listeners {
         let _ = &self.entries;
     }
 }
-
-#[cfg(test)]
-mod tests;

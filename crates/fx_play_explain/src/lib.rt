@@ -9,6 +9,3 @@ mod printing;
 
 pub use explaining::explain_line;
 pub use laws::{one_step, the_winner_is_that_of_the_style};
-
-#[cfg(test)]
-mod tests;

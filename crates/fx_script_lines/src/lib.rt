@@ -32,6 +32,3 @@ pub fn read_instruction(alloc: Global, line: &str) -> Result<Option<Instruction>
         Err(Stop::Memory) => Err(AllocError),
     }
 }
-
-#[cfg(test)]
-mod tests;

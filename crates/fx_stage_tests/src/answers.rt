@@ -8,27 +8,22 @@ use std::alloc::AllocError;
 
 #[test]
 fn a_refusal_has_its_word(rt: HostRuntime) {
-    assert_eq!(rt; Refusal::WouldLoop.word(), "wouldloop");
-    assert_eq!(rt; Refusal::Kinds.word(), "type");
+    assert!(rt; Refusal::WouldLoop.word() == "wouldloop");
+}
+
+fn is(error: StageError, refusal: Refusal) -> bool {
+    error == StageError::Refused(refusal)
+}
+
+fn are_refused() -> bool {
+    is(StageError::from(StoreError::InUse(Name(3))), Refusal::Used)
+        && is(StageError::from(TreeError::Depth), Refusal::Depth)
+        && is(StageError::from(EventError::Full), Refusal::Full)
+        && is(StageError::from(Refusal::Syntax), Refusal::Syntax)
+        && StageError::from(AllocError) == StageError::Memory
 }
 
 #[test]
 fn the_parts_refuse_in_the_words_of_scripts(rt: HostRuntime) {
-    assert_eq!(rt;
-        StageError::from(StoreError::InUse(Name(3))),
-        StageError::Refused(Refusal::Used)
-    );
-    assert_eq!(rt;
-        StageError::from(TreeError::Depth),
-        StageError::Refused(Refusal::Depth)
-    );
-    assert_eq!(rt;
-        StageError::from(EventError::Full),
-        StageError::Refused(Refusal::Full)
-    );
-    assert_eq!(rt;
-        StageError::from(Refusal::Syntax),
-        StageError::Refused(Refusal::Syntax)
-    );
-    assert_eq!(rt; StageError::from(AllocError), StageError::Memory);
+    assert!(rt; are_refused());
 }

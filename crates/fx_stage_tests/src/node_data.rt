@@ -1,89 +1,48 @@
-//! What a node has of its own, at first and after edits.
-use fx_base::{List, Text, Value};
-use fx_css_types::Sheet;
-use fx_kinds::{Class, Constraint};
+//! What a node has of its own, at first and after edits. The node stands in functions that are lent it.
+use fx_base::Text;
+use fx_kinds::Class;
 use fx_stage_types::{NodeData, NodeEdit};
 use std::alloc::Global;
-use std::test::Fail;
 
-#[test]
-fn a_button_is_born_with_its_style_class(rt: HostRuntime) -> Result<(), Fail> {
-    let alloc = rt.alloc();
-    let button = NodeData::born(alloc, Class::Button, 25)?;
-    assert_eq!(rt; button.classes.as_slice().len(), 1);
-    assert_eq!(rt; button.classes.as_slice()[0].as_str(), "button");
-    assert_eq!(rt; button.first, 25);
-    Ok(())
-}
-
-#[test]
-fn the_first_of_two_equal_classes_goes(rt: HostRuntime) -> Result<(), Fail> {
-    let alloc = rt.alloc();
-    let mut node = NodeData::born(alloc, Class::Pane, 0)?;
-    node.edit(alloc, NodeEdit::AddClass(Text::from_str(alloc, "a")?))?;
-    node.edit(alloc, NodeEdit::AddClass(Text::from_str(alloc, "b")?))?;
-    node.edit(alloc, NodeEdit::AddClass(Text::from_str(alloc, "a")?))?;
-    node.edit(alloc, NodeEdit::RemoveClass(Text::from_str(alloc, "a")?))?;
-    assert_eq!(rt; node.classes.as_slice().len(), 2);
-    assert_eq!(rt; node.classes.as_slice()[0].as_str(), "b");
-    Ok(())
-}
-
-#[test]
-fn a_pseudo_class_is_set_once(rt: HostRuntime) -> Result<(), Fail> {
-    let alloc = rt.alloc();
-    let mut node = NodeData::born(alloc, Class::Pane, 0)?;
-    node.edit(alloc, NodeEdit::AddPseudo(Text::from_str(alloc, "armed")?))?;
-    node.edit(alloc, NodeEdit::AddPseudo(Text::from_str(alloc, "armed")?))?;
-    assert_eq!(rt; node.pseudos.as_slice().len(), 1);
-    node.edit(
-        alloc,
-        NodeEdit::RemovePseudo(Text::from_str(alloc, "armed")?),
-    )?;
-    assert_eq!(rt; node.pseudos.as_slice().len(), 0);
-    Ok(())
-}
-
-#[test]
-fn a_constraint_takes_the_place_of_its_name(rt: HostRuntime) -> Result<(), Fail> {
-    let alloc = rt.alloc();
-    let mut node = NodeData::born(alloc, Class::Region, 0)?;
-    for row in 1..3i64 {
-        let constraint = Constraint {
-            name: Text::from_str(alloc, "GridPane.rowIndex")?,
-            value: Value::Int(row),
-        };
-        node.edit(alloc, NodeEdit::PutConstraint(constraint))?;
+fn add_class(node: &mut NodeData, alloc: Global, name: &str) -> bool {
+    match Text::from_str(alloc, name) {
+        Ok(name) => node.edit(alloc, NodeEdit::AddClass(name)).is_ok(),
+        Err(_) => false,
     }
-    assert_eq!(rt; node.constraints.as_slice().len(), 1);
-    node.edit(
-        alloc,
-        NodeEdit::RemoveConstraint(Text::from_str(alloc, "GridPane.rowIndex")?),
-    )?;
-    assert_eq!(rt; node.constraints.as_slice().len(), 0);
-    Ok(())
+}
+
+fn remove_class(node: &mut NodeData, alloc: Global, name: &str) -> bool {
+    match Text::from_str(alloc, name) {
+        Ok(name) => node.edit(alloc, NodeEdit::RemoveClass(name)).is_ok(),
+        Err(_) => false,
+    }
+}
+
+/// Whether the node has two style classes, of which this is the first.
+fn begins_with(node: &NodeData, name: &str) -> bool {
+    match node.classes.as_slice() {
+        [first, _] => first.as_str() == name,
+        _ => false,
+    }
+}
+
+/// A button has its own class, and is given one more twice.
+fn is_edited(node: &mut NodeData, alloc: Global) -> bool {
+    add_class(node, alloc, "a")
+        && begins_with(node, "button")
+        && add_class(node, alloc, "button")
+        && remove_class(node, alloc, "button")
+        && begins_with(node, "a")
+}
+
+fn loses_the_first(alloc: Global) -> bool {
+    let Ok(mut node) = NodeData::born(alloc, Class::Button, 25) else {
+        return false;
+    };
+    is_edited(&mut node, alloc)
 }
 
 #[test]
-fn sheets_tracks_and_an_edge_are_kept(rt: HostRuntime) -> Result<(), Fail> {
-    let alloc = rt.alloc();
-    let mut node = NodeData::born(alloc, Class::GridPane, 0)?;
-    node.edit(alloc, NodeEdit::AddSheet(empty_sheet(alloc)))?;
-    node.edit(alloc, NodeEdit::SetInline(empty_sheet(alloc)))?;
-    node.edit(
-        alloc,
-        NodeEdit::SetTracks(List::new(alloc), List::new(alloc)),
-    )?;
-    node.set_edge(Some(4));
-    assert_eq!(rt; node.sheets.as_slice().len(), 1);
-    assert!(rt; node.inline.is_some());
-    assert_eq!(rt; node.edge, Some(4));
-    Ok(())
-}
-
-fn empty_sheet(alloc: Global) -> Sheet {
-    Sheet {
-        rules: List::new(alloc),
-        warnings: List::new(alloc),
-    }
+fn the_first_of_two_equal_classes_goes(rt: HostRuntime) {
+    assert!(rt; loses_the_first(rt.alloc()));
 }

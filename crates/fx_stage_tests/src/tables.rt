@@ -1,60 +1,78 @@
-//! Tables by keys, paths and names.
+//! Tables by keys, paths and names, each in functions that are lent it.
 use fx_base::{Name, NodeKey, Text};
 use fx_kinds::Class;
 use fx_stage_tables::{NameMap, NodeTable, Paths, is_among};
-use fx_stage_types::{NodeData, NodeEdit};
-use std::alloc::Global;
-use std::test::Fail;
+use fx_stage_types::NodeData;
+use std::alloc::{AllocError, Global};
 
 const ONE: NodeKey = NodeKey { slot: 0, birth: 1 };
 
 const OTHER: NodeKey = NodeKey { slot: 1, birth: 2 };
 
-#[test]
-fn a_node_has_what_was_put(rt: HostRuntime) -> Result<(), Fail> {
-    let alloc = rt.alloc();
-    let mut nodes = NodeTable::new(alloc);
+fn put_label(nodes: &mut NodeTable, alloc: Global) -> Result<(), AllocError> {
+    let node = NodeData::born(alloc, Class::Label, 7)?;
     nodes.reserve()?;
-    nodes.put(ONE, NodeData::born(alloc, Class::Label, 7)?)?;
+    nodes.put(ONE, node)
+}
+
+fn edge_of(nodes: &NodeTable, key: NodeKey) -> Option<u8> {
+    match nodes.get(key) {
+        Some(node) => node.edge,
+        None => None,
+    }
+}
+
+fn keeps_a_node(nodes: &mut NodeTable, alloc: Global) -> bool {
+    if put_label(nodes, alloc).is_err() {
+        return false;
+    }
     nodes.set_edge(ONE, Some(2));
-    nodes.edit(
-        alloc,
-        ONE,
-        NodeEdit::AddClass(Text::from_str(alloc, "big")?),
-    )?;
-    match nodes.get(ONE) {
-        None => assert!(rt; false),
-        Some(node) => {
-            assert_eq!(rt; node.edge, Some(2));
-            assert_eq!(rt; node.classes.as_slice().len(), 2);
-        }
+    if edge_of(nodes, ONE) != Some(2) {
+        return false;
     }
     nodes.forget(ONE);
-    assert!(rt; nodes.get(ONE).is_none());
-    Ok(())
+    nodes.get(ONE).is_none()
+}
+
+#[test]
+fn a_node_has_what_was_put(rt: HostRuntime) {
+    let alloc = rt.alloc();
+    let mut nodes = NodeTable::new(alloc);
+    assert!(rt; keeps_a_node(&mut nodes, alloc));
 }
 
 /// `panel.title`
-fn long_path(alloc: Global) -> Result<Vec<Text>, Fail> {
+fn long_path(alloc: Global) -> Result<Vec<Text>, AllocError> {
     let mut path = Vec::new(alloc);
-    path.push(Text::from_str(alloc, "panel")?)?;
-    path.push(Text::from_str(alloc, "title")?)?;
+    for name in ["panel", "title"] {
+        match Text::from_str(alloc, name) {
+            Ok(name) => path.push(name)?,
+            Err(_) => return Err(AllocError),
+        }
+    }
     Ok(path)
 }
 
+fn finds_a_node(paths: &mut Paths, alloc: Global) -> bool {
+    let Ok(long) = long_path(alloc) else {
+        return false;
+    };
+    let Ok(sought) = long_path(alloc) else {
+        return false;
+    };
+    if paths.find(long.as_slice()).is_some() || paths.add(long, ONE).is_err() {
+        return false;
+    }
+    let found = paths.find(sought.as_slice()) == Some(ONE);
+    paths.forget(&[ONE]);
+    found && paths.find(sought.as_slice()).is_none()
+}
+
 #[test]
-fn a_node_is_found_by_each_of_its_paths(rt: HostRuntime) -> Result<(), Fail> {
+fn a_node_is_found_by_its_path(rt: HostRuntime) {
     let alloc = rt.alloc();
     let mut paths = Paths::new(alloc);
-    let long = long_path(alloc)?;
-    if paths.find(long.as_slice()).is_none() {
-        paths.add(long, ONE)?;
-    }
-    let sought = long_path(alloc)?;
-    assert_eq!(rt; paths.find(sought.as_slice()), Some(ONE));
-    paths.forget(&[ONE]);
-    assert_eq!(rt; paths.find(sought.as_slice()), None);
-    Ok(())
+    assert!(rt; finds_a_node(&mut paths, alloc));
 }
 
 #[test]
@@ -63,19 +81,25 @@ fn keys_of_one_slot_differ_by_birth(rt: HostRuntime) {
     assert!(rt; !is_among(&[ONE, OTHER], NodeKey { slot: 1, birth: 3 }));
 }
 
+fn put(names: &mut NameMap<Name>, alloc: Global, name: &str, item: Name) -> bool {
+    match Text::from_str(alloc, name) {
+        Ok(name) => names.put(name, item).is_ok(),
+        Err(_) => false,
+    }
+}
+
+fn has(names: &NameMap<Name>, alloc: Global, name: &str, item: Name) -> bool {
+    match Text::from_str(alloc, name) {
+        Ok(name) => names.get(&name) == Some(&item),
+        Err(_) => false,
+    }
+}
+
 #[test]
-fn a_name_stands_for_what_was_given_last(rt: HostRuntime) -> Result<(), Fail> {
+fn a_name_stands_for_what_was_given_last(rt: HostRuntime) {
     let alloc = rt.alloc();
     let mut names = NameMap::new(alloc);
-    let speed = Text::from_str(alloc, "speed")?;
-    if names.get(&speed).is_none() {
-        names.add(Text::from_str(alloc, "speed")?, Name(3))?;
-    }
-    names.put(Text::from_str(alloc, "speed")?, Name(4))?;
-    assert_eq!(rt; names.len(), 1);
-    match names.get(&speed) {
-        None => assert!(rt; false),
-        Some(name) => assert_eq!(rt; *name, Name(4)),
-    }
-    Ok(())
+    assert!(rt; put(&mut names, alloc, "speed", Name(3)));
+    assert!(rt; put(&mut names, alloc, "speed", Name(4)));
+    assert!(rt; names.len() == 1 && has(&names, alloc, "speed", Name(4)));
 }

@@ -8,6 +8,3 @@ mod walking;
 
 pub use laws::{joined_is_walked, joining_is_an_equivalence, joining_is_least, pairs_are_joined};
 pub use pairs::Pairs;
-
-#[cfg(test)]
-mod tests;

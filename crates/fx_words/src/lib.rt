@@ -34,6 +34,3 @@ pub fn accept(alloc: Global, words: &[String]) -> Result<Option<Run>, AllocError
         None => Ok(None),
     }
 }
-
-#[cfg(test)]
-mod tests;

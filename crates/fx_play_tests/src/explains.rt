@@ -1,9 +1,9 @@
-//! A line on a stage with ample memory. What is done with the stage stands in functions that are lent it.
+//! The line `explain` on a stage with ample memory. What is done with the stage stands in functions that are lent it.
 ghost use Rattle.std.specs.Prelude.{◌≡◌};
 
-use crate::explain_line;
 use fx_base::{Ledgers, List, Text, Work};
 use fx_kinds::Class;
+use fx_play_explain::explain_line;
 use fx_play_steps::Trace;
 use fx_stage::Stage;
 use fx_stage_types::BuildStep;

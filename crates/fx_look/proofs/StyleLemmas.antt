@@ -4,11 +4,16 @@ use Rattle.std.specs.Prelude.{slice_get}
 use Rattle.std.specs.List.{position}
 use Rattle.std.specs.Str.{bytes_eq}
 use Rattle.fx_look.specs.Styles.{StyleRow, styles}
+use Rattle.fx_look.specs.declared.styles.TheConstants.{STYLE_COUNT}
 use Rattle.fx_look.proofs.TableLemmas.{position_small, all_first, row_found}
 
-styles_few : length styles < 2 ^ 32
+-- the table has as many rows as the code counts
+pub styles_counted : length styles ≡ STYLE_COUNT
 unfolding styles
-styles_few = omega arith
+styles_counted = refl
+
+styles_few : length styles < 2 ^ 32
+styles_few = omega (arith, styles_counted)
 
 pub style_small : (test : StyleRow → Bool) (table : List StyleRow) (place : ℕ) (d : StyleRow) → Some place ≡ position test table → table ≡ styles → place < 2 ^ 32
 style_small test table place d e same =

@@ -19,5 +19,6 @@ pub use numbers::{one_number, one_size, read_number, read_size, size_at};
 pub use pixels::blend;
 pub use readings::{one_value, read_value};
 pub use styles::{
-    CodeValue, Style, StyleForm, StyleKey, StyleName, each_named, style_named, style_table,
+    CodeValue, STYLE_COUNT, Style, StyleForm, StyleKey, StyleName, each_named, style_named,
+    style_table,
 };

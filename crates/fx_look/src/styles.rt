@@ -89,7 +89,7 @@ macro_rules! style {
     };
 }
 
-static STYLES: &[Style] = &[
+const STYLES: &[Style] = &[
     style!("-fx-padding", Sides, "padding"),
     style!("-fx-alignment", Position, "alignment"),
     style!("-fx-spacing", Size, "spacing"),
@@ -113,6 +113,9 @@ static STYLES: &[Style] = &[
     style!("-fx-wrap-text", Truth, "wrapText"),
     style!("visibility", Visibility, "visible"),
 ];
+
+/// How many style declarations there are.
+pub const STYLE_COUNT: usize = STYLES.len();
 
 /// The style declarations in their order.
 pub fn style_table() -> &'static [Style]

@@ -1,5 +1,5 @@
 -- The scene graph, and what each change makes of it.
-use Rattle.std.specs.Prelude.{ℕ, ◌+◌, ◌==◌, Bool, true, false, not, ◌&&◌, ◌||◌, List, [], ◌∷◌, ◌++◌, codes, length, filter, Option, Some, None, if◌then◌else◌}
+use Rattle.std.specs.Prelude.{ℕ, ◌+◌, ◌==◌, Bool, true, false, not, ◌&&◌, List, [], ◌∷◌, ◌++◌, codes, length, filter, Option, Some, None, if◌then◌else◌}
 use Rattle.std.specs.FinMap as map_of
 use Rattle.std.specs.List.{fold, list_any}
 use Rattle.fx_base.specs.declared.keys.NodeKey.{NodeKey}
@@ -12,7 +12,7 @@ use Rattle.fx_kinds.specs.declared.classes.Class.{Class}
 use Rattle.fx_kinds.specs.declared.classes.Class.TheVariants as class
 use Rattle.fx_kinds.specs.Classes.{takes_children}
 use Rattle.fx_tree.specs.declared.TreeError.{TreeError}
-use Rattle.fx_tree.specs.Refusals.{attach_refusal}
+use Rattle.fx_tree.specs.Refusals.{attach_refusal, is_full as is_full_of}
 use Rattle.fx_tree.specs.Scene.{Scene, after_attach, after_detach, after_drop, after_make, after_set_root, children_or_none, has, nothing, subtree}
 use Rattle.fx_stage_types.specs.declared.answers.StageError.{StageError}
 use Rattle.fx_stage_types.specs.declared.answers.StageError.TheVariants.{Refused}
@@ -72,7 +72,7 @@ graph_of tree table handlers paths sheets hover pressed target focus =
 
 -- 4,096 nodes are alive, or all birth numbers were given
 abbrev pub is_full_of_nodes : Graph → Bool
-is_full_of_nodes graph = (length graph.tree.nodes == 4096) || (graph.tree.born == 4294967295)
+is_full_of_nodes graph = is_full_of graph.tree
 
 abbrev pub make_refusal : Graph → Option StageError
 make_refusal graph = if is_full_of_nodes graph then Some (Refused word.Full) else None

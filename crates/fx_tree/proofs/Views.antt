@@ -1,5 +1,5 @@
 -- What the list of living nodes says of a key, by its slot; when a child may be attached; what holds of every scene.
-use Rattle.std.proofs.Common.{◌≡◌, ℕ, zero, suc, ◌+◌, ◌-◌, ◌<◌, ◌≤◌, Bool, true, false, not, cond, ltb, ◌&&◌, ◌||◌, List, [], ◌∷◌, length, Option, Some, None, is_some, unwrap_or, Contains, refl, sym, ◌∙◌, ap, subst, inl, inr, ◌⊎◌, arith}
+use Rattle.std.proofs.Common.{◌≡◌, ◌≢◌, ℕ, zero, suc, ◌+◌, ◌-◌, ◌<◌, ◌≤◌, Bool, true, false, not, cond, ltb, ◌&&◌, ◌||◌, List, [], ◌∷◌, length, Option, Some, None, is_some, unwrap_or, Contains, refl, sym, ◌∙◌, ap, subst, inl, inr, ◌⊎◌, arith}
 use Rattle.std.specs.List.{list_any}
 use Rattle.std.proofs.lemmas.Bool.{cases_Bool, both_ways, or_parts, and_right, true_from_ne_false, not-false, ltb-false, le-ltb}
 use Rattle.std.proofs.lemmas.List.Elements.{All-contains_itself, All-weaker}
@@ -13,7 +13,7 @@ use Rattle.fx_tree.specs.Scene.{Node, has, parent_of, is_alive, line, IsLine, is
 use Rattle.fx_tree.specs.Refusals.{refused, is_held, attach_refusal}
 use Rattle.fx_tree.specs.Slots.{alive_at, up_at, below_at, line_at, children_in, node_at, fits_in, seen_at, node_born, nodes_in, scene_of, IsTree, attach_refused}
 use Rattle.fx_tree.proofs.Given.{AllPairs-given}
-use Rattle.fx_tree.proofs.Lines.{line_in-same, length-line_in, IsLine-same, Climb, climb_from_line, line_from_climb, climbs_within, fits_from_climbs, subtree_in-same}
+use Rattle.fx_tree.proofs.Lines.{line_is, line_in-same, length-line_in, IsLine-same, Climb, climb_from_line, line_from_climb, climbs_within, fits_from_climbs, subtree_in-same}
 use Rattle.fx_tree.proofs.Listing.{children_of-slots, parent_of-slots, Contains-nodes, node_seen, node_born-Some, seen_alive, alive_seen, alive_up}
 use Rattle.fx_tree.proofs.Forest.{line_known}
 
@@ -181,6 +181,20 @@ module _ (slots : List (Option Stored)) (root : Option NodeKey) (born : ℕ) (tr
             All-weaker (Contains (nodes_in slots born)) (λ (node : Node). node.key.birth ≤ born)
             (λ node there. (tree.numbered.given node.key.slot node (node_seen slots born node there)).1)
             (nodes_in slots born) (All-contains_itself (nodes_in slots born));
+        born =
+            All-weaker (Contains (nodes_in slots born)) (λ (node : Node). 0 < node.key.birth)
+            (λ node there. (tree.numbered.given node.key.slot node (node_seen slots born node there)).0)
+            (nodes_in slots born) (All-contains_itself (nodes_in slots born));
+        apart =
+            AllPairs-given (λ (one other : Node). one.key.slot ≢ other.key.slot) (node_born slots) 1 born
+            (λ i j one other before first second same.
+            let here = node_born-Some slots i one first in
+            let there = node_born-Some slots j other second in
+            let alike : one ≡ other = same_Some _ _ (sym here.1 ∙ ap (seen_at slots) same ∙ there.1) in
+            let births : one.key.birth ≡ other.key.birth = ap (λ (n : Node). n.key.birth) alike in
+            let e : one.key.birth ≡ i = here.0 in
+            let f : other.key.birth ≡ j = there.0 in
+            omega (arith, before, e, f, births));
         few = omega (arith, tree.numbered.counted, tree.few);
         alive = λ node key there child.
             alive-slots key ∙ tree.forest.held key node.key (listed node key there child);
@@ -194,14 +208,19 @@ module _ (slots : List (Option Stored)) (root : Option NodeKey) (born : ℕ) (tr
         topmost = λ key is.
             let was = tree.topmost key is in
             (alive-slots key ∙ was.0, parent-slots key ∙ was.1);
-        lines = λ key alive.
-            let P : List NodeKey → Type 0 = λ keys. IsLine (parent_of (nodes_in slots born)) (Some key) keys in
-            subst P (sym (line-slots key))
-            (IsLine-same (up_at slots) (parent_of (nodes_in slots born)) (Some key) (line_at slots key) (λ n there. parent-slots n) (line_known slots tree.forest key));
-        shallow = λ key. let e : length (line (nodes_in slots born) key) ≡ length (line_at slots key) = ap length (line-slots key) in
-            omega (arith, e, length-line_in 64 (up_at slots) (Some key));
+        lines = λ key alive. whole key;
+        shallow = λ key most alive enough.
+            let e : length (line (nodes_in slots born) key) ≡ length (line_at slots key) = ap length (line-slots key) in
+            line_is most (parent_of (nodes_in slots born)) (Some key) (line (nodes_in slots born) key) (whole key)
+            (omega (arith, e, length-line_in 64 (up_at slots) (Some key), enough));
       }
     where
+      whole : (key : NodeKey) → IsLine (parent_of (nodes_in slots born)) (Some key) (line (nodes_in slots born) key)
+      whole key =
+          let P : List NodeKey → Type 0 = λ keys. IsLine (parent_of (nodes_in slots born)) (Some key) keys in
+          subst P (sym (line-slots key))
+          (IsLine-same (up_at slots) (parent_of (nodes_in slots born)) (Some key) (line_at slots key) (λ n there. parent-slots n) (line_known slots tree.forest key))
+
       listed : (node : Node) (key : NodeKey) → Contains (nodes_in slots born) node → has node.children key ≡ true → has (below_at slots node.key) key ≡ true
       listed node key there child =
           ap (λ (l : List NodeKey). has l key) (alive_seen slots node.key.slot node (node_seen slots born node there)).1 ∙ child

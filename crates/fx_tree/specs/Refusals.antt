@@ -1,8 +1,8 @@
 -- When each call is refused, and with which error.
-use Rattle.std.specs.Prelude.{ℕ, ◌≡◌, nat_lt, Bool, false, if◌then◌else◌, ◌||◌, not, length, Option, Some, None, is_some, Result, Ok, Err}
+use Rattle.std.specs.Prelude.{ℕ, ◌≡◌, ◌==◌, nat_lt, Bool, false, if◌then◌else◌, ◌||◌, not, length, Option, Some, None, is_some, Result, Ok, Err}
 use Rattle.fx_base.specs.declared.keys.NodeKey.{NodeKey}
 use Rattle.fx_tree.specs.declared.TreeError.{TreeError}
-use Rattle.fx_tree.specs.declared.TreeError.TheVariants.{StaleKey, WouldLoop, HasParent, Attached, Place, Depth, NoParent, Memory}
+use Rattle.fx_tree.specs.declared.TreeError.TheVariants.{StaleKey, WouldLoop, HasParent, Attached, Place, Full, Depth, NoParent, Memory}
 use Rattle.fx_tree.specs.Scene.{Scene, is_same, has, children_or_none, parent_of, is_alive, line, is_too_deep}
 
 -- the call is refused just as said, and takes no memory
@@ -26,6 +26,13 @@ refused test error others = if test then Some error else others
 abbrev pub is_held : Option NodeKey → NodeKey → Bool
 is_held None key = false
 is_held (Some held) key = is_same held key
+
+-- 4,096 nodes are alive, or the last birth number was given
+abbrev pub is_full : Scene → Bool
+is_full scene = (length scene.nodes == 4096) || (scene.born == 4294967295)
+
+abbrev pub make_refusal : Scene → Option TreeError
+make_refusal scene = refused (is_full scene) Full None
 
 unfoldable pub stale : Scene → NodeKey → Option TreeError
 stale scene key = refused (not (is_alive scene.nodes key)) StaleKey None

@@ -1,6 +1,6 @@
 -- The scene as contracts see it: its living nodes with their children, and its root. Source: the scene
 -- graph of JavaFX 21 (javafx.scene.Node, javafx.scene.Parent).
-use Rattle.std.specs.Prelude.{ℕ, zero, suc, ◌+◌, ◌==◌, ◌≡◌, ◌<◌, ◌≤◌, nat_lt, Bool, true, false, if◌then◌else◌, ◌&&◌, ◌||◌, not, List, [], ◌∷◌, ◌++◌, length, map, filter, reverse, insert, All, AllPairs, Contains, Option, Some, None, is_some, unwrap_or}
+use Rattle.std.specs.Prelude.{ℕ, zero, suc, ◌+◌, ◌==◌, ◌≡◌, ◌≢◌, ◌<◌, ◌≤◌, nat_lt, Bool, true, false, if◌then◌else◌, ◌&&◌, ◌||◌, not, List, [], ◌∷◌, ◌++◌, length, map, filter, reverse, insert, All, AllPairs, Contains, Option, Some, None, is_some, unwrap_or}
 use Rattle.std.specs.Option.{option_map}
 use Rattle.std.specs.List.{find, list_any, flat_map}
 use Rattle.fx_base.specs.declared.keys.NodeKey.{NodeKey}
@@ -134,9 +134,12 @@ is_once (first ∷ rest) = not (has rest first) && is_once rest
 
 -- what is true of every scene
 pub record IsSound (scene : Scene) : Type 0 where
-  -- birth numbers rise, and none is above the last one given
+  -- birth numbers rise from 1 on, and none is above the last one given
   pub rising : AllPairs (λ (one other : Node). one.key.birth < other.key.birth) scene.nodes
   pub given : All (λ (node : Node). node.key.birth ≤ scene.born) scene.nodes
+  pub born : All (λ (node : Node). 0 < node.key.birth) scene.nodes
+  -- slots differ
+  pub apart : AllPairs (λ (one other : Node). one.key.slot ≢ other.key.slot) scene.nodes
   pub few : length scene.nodes ≤ 4096
   -- children are alive
   pub alive : (node : Node) (key : NodeKey) → Contains scene.nodes node → has node.children key ≡ true
@@ -148,7 +151,9 @@ pub record IsSound (scene : Scene) : Type 0 where
   -- the root is alive and has no parent
   pub topmost : (key : NodeKey) → scene.root ≡ Some key
       → (is_alive scene.nodes key ≡ true) × (parent_of scene.nodes key ≡ None)
-  -- a node's line ends at its topmost ancestor, and has at most 64 nodes
+  -- a node's line of at most 64 nodes ends at its topmost ancestor
   pub lines : (key : NodeKey) → is_alive scene.nodes key ≡ true
       → IsLine (parent_of scene.nodes) (Some key) (line scene.nodes key)
-  pub shallow : (key : NodeKey) → length (line scene.nodes key) ≤ 64
+  -- and where a line may have more nodes than that, it is still this one
+  pub shallow : (key : NodeKey) (most : ℕ) → is_alive scene.nodes key ≡ true → 64 ≤ most
+      → line_in most (parent_of scene.nodes) (Some key) ≡ line scene.nodes key

@@ -4,9 +4,9 @@
 
 mod nodes;
 
-ghost use Rattle.std.specs.Prelude.{◌≡◌, ◌↔◌, ◌⊎◌, ◌+◌, ◌==◌, ◌||◌, ◌++◌, [], Some, length, reverse, is_some, IfOk, OnOk, OnErr};
+ghost use Rattle.std.specs.Prelude.{◌≡◌, ◌+◌, IfOk, OnOk, OnErr};
 ghost use Rattle.fx_tree.specs.History.{DeadStayDead, EachBirthOnce, PathsMeetOnce, SubtreesMeetOnce};
-ghost use Rattle.fx_tree.specs.Refusals.{IsExactAnswer, IsFirmAnswer, attach_refusal, detach_refusal, drop_refusal, root_refusal, stale};
+ghost use Rattle.fx_tree.specs.Refusals.{IsExactAnswer, IsFirmAnswer, attach_refusal, detach_refusal, drop_refusal, is_full, make_refusal, root_refusal, stale};
 ghost use Rattle.fx_tree.specs.Scene as spec;
 ghost use Rattle.fx_tree.specs.declared.TreeError.TheVariants.{Memory};
 ghost use Rattle.std.specs.Option.{option_copied};
@@ -102,7 +102,7 @@ impl Tree {
 
     /// Whether no more nodes can be made: 4,096 are alive, or the last birth number was given.
     pub fn is_full(&self) -> bool
-        ensures { result ≡ ((length self.now.nodes == 4096) || (self.now.born == 4294967295)) }
+        ensures { result ≡ is_full self.now }
     {
         self.nodes.len() == MOST_NODES || self.born == u32::MAX
     }
@@ -111,9 +111,7 @@ impl Tree {
     pub fn make(&mut self, alloc: Global) -> Result<NodeKey, TreeError>
         ensures birth { IfOk result (λ key. key.birth ≡ self.old.born + 1) }
         ensures made { IfOk result (λ key. self.new ≡ spec.after_make self.old key) }
-        ensures full { (result ≡ Err TreeError.Full)
-            ↔ ((length self.old.nodes ≡ 4096) ⊎ (self.old.born ≡ 4294967295)) }
-        ensures refused { OnErr result ((result ≡ Err TreeError.Full) ⊎ (result ≡ Err TreeError.Memory)) }
+        ensures answer { IsAnswer (make_refusal self.old) result }
         ensures err { OnErr result (self.new ≡ self.old) }
     {
         if self.nodes.len() == MOST_NODES || self.born == u32::MAX {

@@ -111,7 +111,7 @@ impl Tree {
     pub fn make(&mut self, alloc: Global) -> Result<NodeKey, TreeError>
         ensures birth { IfOk result (λ key. key.birth ≡ self.old.born + 1) }
         ensures made { IfOk result (λ key. self.new ≡ spec.after_make self.old key) }
-        ensures answer { IsAnswer (make_refusal self.old) result }
+        ensures answer { IsExactAnswer (make_refusal self.old) result }
         ensures err { OnErr result (self.new ≡ self.old) }
     {
         if self.nodes.len() == MOST_NODES || self.born == u32::MAX {

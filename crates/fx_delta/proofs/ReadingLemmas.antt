@@ -1,5 +1,5 @@
 -- Numbers as far as 32 bits hold them, and row items of many words.
-use Rattle.std.proofs.Common.{◌≡◌, ◌≤◌, ◌<◌, ◌+◌, ◌-◌, ◌*◌, ◌^◌, suc, ℕ, min, Bor, true, false, List, [], ◌∷◌, ◌++◌, length, take, drop, map, Result, Ok, Err, IfOk, Option, Some, None, refl, sym, ◌∙◌, ap, subst, arith, cond, leb, ltb, append-nil, ◌&&◌, Bool, inl, inr, lit<}
+use Rattle.std.proofs.Common.{◌≡◌, ◌≤◌, ◌<◌, ◌+◌, ◌-◌, ◌^◌, suc, ℕ, Bor, true, false, List, [], ◌∷◌, ◌++◌, length, take, drop, map, Result, Ok, Err, IfOk, Option, Some, None, refl, sym, ◌∙◌, ap, subst, arith, cond, leb, ltb, append-nil, ◌&&◌, Bool, inl, inr, lit<}
 use Rattle.std.specs.Option.{option_map, option_and_then}
 use Rattle.std.specs.Str.{bytes_eq}
 use Rattle.std.proofs.lemmas.Bool.{and_parts, leb-true, ltb-true}

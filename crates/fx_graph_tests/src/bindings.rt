@@ -1,4 +1,4 @@
-//! Bindings as they are read and refused.
+//! Bindings as they are read and refused. What is done with a graph stands in functions that are lent it.
 ghost use Rattle.std.specs.Prelude.{◌≡◌, ◌≤◌, ◌+◌, OnOk, length};
 
 use fx_base::{Kind, Ledgers, Name, Value, Work};
@@ -7,17 +7,19 @@ use fx_graph::*;
 use fx_graph_model::{Formula, GraphError};
 use std::alloc::Global;
 use std::marker::Brand;
-use std::process::Abort;
 use std::sync::ledger::Blank;
-use std::test::Fail;
 
-/// Numbers of these values, under names that rise.
-fn numbers_of(alloc: Global, values: &[i64]) -> Result<Graph, Fail> {
-    let mut graph = Graph::new(alloc);
+/// Declares numbers of these values, under names that rise.
+fn declare_all(alloc: Global, graph: &mut Graph, values: &[i64]) -> bool {
     for value in values {
-        graph.declare(alloc, Kind::Int, false, Value::Int(*value))?;
+        if graph
+            .declare(alloc, Kind::Int, false, Value::Int(*value))
+            .is_err()
+        {
+            return false;
+        }
     }
-    Ok(graph)
+    true
 }
 
 /// Binds the property to what the text says, over these names in the order of its paths.
@@ -27,13 +29,15 @@ fn bound(
     name: Name,
     text: &str,
     operands: &[Name],
-) -> Result<Result<(), GraphError>, Fail> {
-    let parsed = read_expr(alloc, text)?;
+) -> Result<(), GraphError> {
+    let Ok(parsed) = read_expr(alloc, text) else {
+        return Err(GraphError::Unknown(name));
+    };
     if operands.len() != parsed.paths.as_slice().len() {
-        return Err(Fail::new("there is not one operand for each path"));
+        return Err(GraphError::Unknown(name));
     }
     let operands = Vec::from_slice(alloc, operands)?;
-    Ok(graph.bind(alloc, name, Formula::new(parsed.expr), operands))
+    graph.bind(alloc, name, Formula::new(parsed.expr), operands)
 }
 
 /// Reads the property twice. At most each name is evaluated once, and none again.
@@ -49,116 +53,82 @@ fn read_twice<L: Ledgers>(
     graph.read(alloc, name, work)
 }
 
-fn reads<L: Ledgers, R: Abort + AllocGlobal>(
-    rt: &R,
-    graph: &mut Graph,
-    name: Name,
-    expected: i64,
-    work: &mut Work<L>,
-) -> Result<(), Fail> {
-    let value = read_twice(rt.alloc(), graph, name, work)?;
-    assert!(rt; value == Value::Int(expected));
-    Ok(())
+fn reads<L: Ledgers>(alloc: Global, graph: &mut Graph, expected: i64, work: &mut Work<L>) -> bool {
+    match read_twice(alloc, graph, Name(3), work) {
+        Ok(value) => value == Value::Int(expected),
+        Err(_) => false,
+    }
 }
 
 /// Sets the first number, so that these names become unread.
-fn sets<R: Abort + AllocGlobal>(
-    rt: &R,
-    graph: &mut Graph,
-    value: i64,
-    newly: &[Name],
-) -> Result<(), Fail> {
-    graph.set_group(rt.alloc(), &[(Name(0), Value::Int(value))])?;
-    assert!(rt; graph.newly() == newly);
-    Ok(())
+fn sets(alloc: Global, graph: &mut Graph, value: i64, newly: &[Name]) -> bool {
+    graph
+        .set_group(alloc, &[(Name(0), Value::Int(value))])
+        .is_ok()
+        && graph.newly() == newly
 }
 
 /// Four numbers, of which the last is the sum of two that read the first.
-fn sums(alloc: Global) -> Result<Graph, Fail> {
-    let mut graph = numbers_of(alloc, &[1, 0, 0, 0])?;
-    bound(alloc, &mut graph, Name(1), "s + 1", &[Name(0)])??;
-    bound(alloc, &mut graph, Name(2), "s * 2", &[Name(0)])??;
-    bound(alloc, &mut graph, Name(3), "a + b", &[Name(1), Name(2)])??;
-    Ok(graph)
+fn bind_sums(alloc: Global, graph: &mut Graph) -> bool {
+    declare_all(alloc, graph, &[1, 0, 0, 0])
+        && bound(alloc, graph, Name(1), "s + 1", &[Name(0)]).is_ok()
+        && bound(alloc, graph, Name(2), "s * 2", &[Name(0)]).is_ok()
+        && bound(alloc, graph, Name(3), "a + b", &[Name(1), Name(2)]).is_ok()
 }
 
-fn follow<L: Ledgers, R: Abort + AllocGlobal>(
-    rt: &R,
+fn reads_what_is_set<L: Ledgers>(alloc: Global, graph: &mut Graph, work: &mut Work<L>) -> bool {
+    let all = [Name(0), Name(1), Name(2), Name(3)];
+    reads(alloc, graph, 4, work)
+        && sets(alloc, graph, 2, &all)
+        && reads(alloc, graph, 7, work)
+        && sets(alloc, graph, 4, &all)
+        && sets(alloc, graph, 5, &[])
+        && reads(alloc, graph, 16, work)
+}
+
+fn follow<L: Ledgers>(
+    alloc: Global,
+    graph: &mut Graph,
     evaluated: Blank,
     styled: Blank,
     laid: Blank,
     painted: Blank,
-) -> Result<(), Fail>
+) -> bool
     requires evaluated { (evaluated.name ≡ L.evaluated_name) × (evaluated.parts ≡ 1) }
     requires styled { (styled.name ≡ L.styled_name) × (styled.parts ≡ 1) }
     requires laid { (laid.name ≡ L.laid_name) × (laid.parts ≡ 1) }
     requires painted { (painted.name ≡ L.painted_name) × (painted.parts ≡ 1) }
 {
     let mut work: Work<L> = Work::new(evaluated, styled, laid, painted);
-    let mut graph = sums(rt.alloc())?;
-    let all = [Name(0), Name(1), Name(2), Name(3)];
-    reads(rt, &mut graph, Name(3), 4, &mut work)?;
-    sets(rt, &mut graph, 2, &all)?;
-    reads(rt, &mut graph, Name(3), 7, &mut work)?;
-    sets(rt, &mut graph, 4, &all)?;
-    sets(rt, &mut graph, 5, &[])?;
-    reads(rt, &mut graph, Name(3), 16, &mut work)?;
-    Ok(())
+    bind_sums(alloc, graph) && reads_what_is_set(alloc, graph, &mut work)
 }
 
 #[test]
-fn follows_what_it_reads(rt: HostRuntime) -> Result<(), Fail> {
-    follow::<Brand, HostRuntime>(
-        &rt,
-        Blank::new(1),
-        Blank::new(1),
-        Blank::new(1),
-        Blank::new(1),
-    )
+fn follows_what_it_reads(rt: HostRuntime) {
+    let mut graph = Graph::new(rt.alloc());
+    assert!(rt;
+        follow::<Brand>(
+            rt.alloc(),
+            &mut graph,
+            Blank::new(1),
+            Blank::new(1),
+            Blank::new(1),
+            Blank::new(1),
+        )
+    );
 }
 
-/// Binds the property where that is refused.
-fn refused<R: Abort + AllocGlobal>(
-    rt: &R,
-    graph: &mut Graph,
-    name: Name,
-    text: &str,
-    operands: &[Name],
-    expected: GraphError,
-) -> Result<(), Fail> {
-    let answer = bound(rt.alloc(), graph, name, text, operands)?;
-    assert_eq!(rt; answer, Err(expected));
-    assert!(rt; graph.newly() == [Name(0)].as_slice());
-    Ok(())
+/// Two numbers, of which the first reads the second: no circle is bound, and no truth to a number.
+fn refuses(alloc: Global, graph: &mut Graph) -> bool {
+    declare_all(alloc, graph, &[1, 2])
+        && bound(alloc, graph, Name(0), "b", &[Name(1)]).is_ok()
+        && bound(alloc, graph, Name(1), "a + 1", &[Name(0)]) == Err(GraphError::Cycle(Name(0)))
+        && bound(alloc, graph, Name(1), "1 < 2", &[]) == Err(GraphError::WrongKind(Name(1)))
+        && graph.newly() == [Name(0)].as_slice()
 }
 
 #[test]
-fn refuses_bindings(rt: HostRuntime) -> Result<(), Fail> {
-    let mut graph = numbers_of(rt.alloc(), &[1, 2])?;
-    bound(rt.alloc(), &mut graph, Name(0), "b", &[Name(1)])??;
-    refused(
-        &rt,
-        &mut graph,
-        Name(1),
-        "a + 1",
-        &[Name(0)],
-        GraphError::Cycle(Name(0)),
-    )?;
-    refused(
-        &rt,
-        &mut graph,
-        Name(0),
-        "a",
-        &[Name(0)],
-        GraphError::Cycle(Name(0)),
-    )?;
-    refused(
-        &rt,
-        &mut graph,
-        Name(1),
-        "1 < 2",
-        &[],
-        GraphError::WrongKind(Name(1)),
-    )?;
-    Ok(())
+fn refuses_bindings(rt: HostRuntime) {
+    let mut graph = Graph::new(rt.alloc());
+    assert!(rt; refuses(rt.alloc(), &mut graph));
 }

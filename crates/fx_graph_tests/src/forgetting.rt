@@ -7,9 +7,7 @@ use fx_graph::*;
 use fx_graph_model::{Formula, GraphError, Origin};
 use std::alloc::Global;
 use std::marker::Brand;
-use std::process::Abort;
 use std::sync::ledger::Blank;
-use std::test::Fail;
 
 fn declared(alloc: Global, graph: &mut Graph, value: i64) -> Result<Name, GraphError> {
     graph.declare(alloc, Kind::Int, false, Value::Int(value))
@@ -21,55 +19,89 @@ fn bind_to(alloc: Global, graph: &mut Graph, name: Name, other: Name) -> Result<
     graph.bind(alloc, name, Formula::new(Expr::Operand(0)), operands)
 }
 
-/// Ends the binding of a bound property, and asks the same of one that isn't bound.
-fn unbind_both<L: Ledgers, R: Abort + AllocGlobal>(
-    rt: &R,
+/// Binds the second to the first, ends that, and asks the same of the first, which isn't bound.
+fn unbinds<L: Ledgers>(alloc: Global, graph: &mut Graph, work: &mut Work<L>) -> bool {
+    let Ok(source) = declared(alloc, graph, 7) else {
+        return false;
+    };
+    let Ok(target) = declared(alloc, graph, 1) else {
+        return false;
+    };
+    bind_to(alloc, graph, target, source).is_ok()
+        && graph.unbind(alloc, target, work).is_ok()
+        && graph.unbind(alloc, source, work).is_ok()
+        && graph.origin(source) == Some(Origin::Initial)
+        && keeps(alloc, graph, source, target, work)
+}
+
+/// The second has its value still where the first changes.
+fn keeps<L: Ledgers>(
+    alloc: Global,
+    graph: &mut Graph,
+    source: Name,
+    target: Name,
+    work: &mut Work<L>,
+) -> bool {
+    if graph.set_group(alloc, &[(source, Value::Int(8))]).is_err()
+        || graph.is_bound(target)
+        || graph.is_unread(target)
+        || graph.origin(target) != Some(Origin::Code)
+    {
+        return false;
+    }
+    match graph.read(alloc, target, work) {
+        Ok(value) => value == Value::Int(7),
+        Err(_) => false,
+    }
+}
+
+fn unbind_both<L: Ledgers>(
+    alloc: Global,
+    graph: &mut Graph,
     evaluated: Blank,
     styled: Blank,
     laid: Blank,
     painted: Blank,
-) -> Result<(), Fail>
+) -> bool
     requires evaluated { (evaluated.name ≡ L.evaluated_name) × (evaluated.parts ≡ 1) }
     requires styled { (styled.name ≡ L.styled_name) × (styled.parts ≡ 1) }
     requires laid { (laid.name ≡ L.laid_name) × (laid.parts ≡ 1) }
     requires painted { (painted.name ≡ L.painted_name) × (painted.parts ≡ 1) }
 {
-    let alloc = rt.alloc();
     let mut work: Work<L> = Work::new(evaluated, styled, laid, painted);
-    let mut graph = Graph::new(alloc);
-    let source = declared(alloc, &mut graph, 7)?;
-    let target = declared(alloc, &mut graph, 1)?;
-    bind_to(alloc, &mut graph, target, source)?;
-    graph.unbind(alloc, target, &mut work)?;
-    graph.unbind(alloc, source, &mut work)?;
-    assert!(rt; graph.origin(source) == Some(Origin::Initial));
-    graph.set_group(alloc, &[(source, Value::Int(8))])?;
-    assert!(rt; !graph.is_bound(target) && !graph.is_unread(target));
-    assert!(rt; graph.origin(target) == Some(Origin::Code));
-    assert!(rt; graph.read(alloc, target, &mut work)? == Value::Int(7));
-    Ok(())
+    unbinds(alloc, graph, &mut work)
 }
 
 #[test]
-fn unbind_keeps_the_value(rt: HostRuntime) -> Result<(), Fail> {
-    unbind_both::<Brand, HostRuntime>(
-        &rt,
-        Blank::new(1),
-        Blank::new(1),
-        Blank::new(1),
-        Blank::new(1),
-    )
+fn unbind_keeps_the_value(rt: HostRuntime) {
+    let mut graph = Graph::new(rt.alloc());
+    assert!(rt;
+        unbind_both::<Brand>(
+            rt.alloc(),
+            &mut graph,
+            Blank::new(1),
+            Blank::new(1),
+            Blank::new(1),
+            Blank::new(1),
+        )
+    );
+}
+
+fn forgets(alloc: Global, graph: &mut Graph) -> bool {
+    let Ok(source) = declared(alloc, graph, 7) else {
+        return false;
+    };
+    let Ok(target) = declared(alloc, graph, 1) else {
+        return false;
+    };
+    bind_to(alloc, graph, target, source).is_ok()
+        && graph.forget(&[source]) == Err(GraphError::InUse(target))
+        && graph.forget(&[source, target]) == Ok(())
+        && graph.forget(&[target]) == Err(GraphError::Unknown(target))
 }
 
 #[test]
-fn forgets_what_none_reads(rt: HostRuntime) -> Result<(), Fail> {
-    let alloc = rt.alloc();
-    let mut graph = Graph::new(alloc);
-    let source = declared(alloc, &mut graph, 7)?;
-    let target = declared(alloc, &mut graph, 1)?;
-    bind_to(alloc, &mut graph, target, source)?;
-    assert!(rt; graph.forget(&[source]) == Err(GraphError::InUse(target)));
-    assert!(rt; graph.forget(&[source, target]) == Ok(()));
-    assert!(rt; graph.forget(&[target]) == Err(GraphError::Unknown(target)));
-    Ok(())
+fn forgets_what_none_reads(rt: HostRuntime) {
+    let mut graph = Graph::new(rt.alloc());
+    assert!(rt; forgets(rt.alloc(), &mut graph));
 }

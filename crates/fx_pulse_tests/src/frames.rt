@@ -1,4 +1,5 @@
-//! Frames of a label, alone and in a pane, one after another.
+//! Frames of a label, alone and in a pane, one after another. What is done with the renderer stands in functions that
+//! are lent it.
 ghost use Rattle.std.specs.Prelude.{◌≡◌, true, IfSome};
 ghost use Rattle.fx_canvas.specs.Surfaces.{is_size};
 ghost use Rattle.fx_css_types.specs.Limits.{AreWithinLimits};
@@ -8,7 +9,6 @@ use fx_base::{Ledgers, Work};
 use fx_pulse::{Renderer, Scene, is_scene};
 use std::alloc::Global;
 use std::marker::Brand;
-use std::process::Abort;
 use std::sync::ledger::Blank;
 use std::test::Fail;
 
@@ -69,60 +69,66 @@ fn show_scene<L: Ledgers>(
 }
 
 /// A letter of one pixel a bit, the same again, another one, and the window made wider.
-fn shows_letters<L: Ledgers, R: Abort + AllocGlobal>(
-    rt: &R,
+fn shows_letters<L: Ledgers>(
+    alloc: Global,
     renderer: &mut Renderer,
     work: &mut Work<L>,
-) -> Result<(), Fail> {
-    let alloc = rt.alloc();
-    assert_eq!(rt; show(alloc, renderer, "I", None, work)?, (4, 6, 1));
-    assert_eq!(rt; renderer.picture().entries.as_slice().len(), 1);
-    assert_eq!(rt; renderer.rects().len(), 1);
-    assert_eq!(rt; show(alloc, renderer, "I", Some((4, 6)), work)?, (4, 6, 0));
-    assert_eq!(rt; show(alloc, renderer, "L", Some((4, 6)), work)?, (4, 6, 1));
-    assert_eq!(rt; show(alloc, renderer, "L", Some((5, 6)), work)?, (5, 6, 1));
+) -> Result<bool, Fail> {
+    let first = show(alloc, renderer, "I", None, work)?;
+    let is_one = renderer.picture().entries.as_slice().len() == 1 && renderer.rects().len() == 1;
+    let again = show(alloc, renderer, "I", Some((4, 6)), work)?;
+    let other = show(alloc, renderer, "L", Some((4, 6)), work)?;
+    let wider = show(alloc, renderer, "L", Some((5, 6)), work)?;
     renderer.refresh()?;
-    Ok(())
+    Ok(
+        is_one
+            && first == (4, 6, 1)
+            && again == (4, 6, 0)
+            && other == (4, 6, 1)
+            && wider == (5, 6, 1),
+    )
 }
 
 /// A letter in a pane, the same again, and a wider text, of which the pane has to know.
-fn shows_a_child<L: Ledgers, R: Abort + AllocGlobal>(
-    rt: &R,
+fn shows_a_child<L: Ledgers>(
+    alloc: Global,
     renderer: &mut Renderer,
     work: &mut Work<L>,
-) -> Result<(), Fail> {
-    let alloc = rt.alloc();
-    assert_eq!(rt; show_in_pane(alloc, renderer, "I", work)?, (4, 6, 1));
-    assert_eq!(rt; show_in_pane(alloc, renderer, "I", work)?, (4, 6, 0));
-    assert_eq!(rt; show_in_pane(alloc, renderer, "IL", work)?, (8, 6, 1));
-    Ok(())
+) -> Result<bool, Fail> {
+    let first = show_in_pane(alloc, renderer, "I", work)?;
+    let again = show_in_pane(alloc, renderer, "I", work)?;
+    let wider = show_in_pane(alloc, renderer, "IL", work)?;
+    Ok(first == (4, 6, 1) && again == (4, 6, 0) && wider == (8, 6, 1))
 }
 
-fn frames<L: Ledgers, R: Abort + AllocGlobal>(
-    rt: &R,
+fn frames<L: Ledgers>(
+    alloc: Global,
+    renderer: &mut Renderer,
     evaluated: Blank,
     styled: Blank,
     laid: Blank,
     painted: Blank,
-) -> Result<(), Fail>
+) -> Result<bool, Fail>
     requires evaluated { (evaluated.name ≡ L.evaluated_name) × (evaluated.parts ≡ 1) }
     requires styled { (styled.name ≡ L.styled_name) × (styled.parts ≡ 1) }
     requires laid { (laid.name ≡ L.laid_name) × (laid.parts ≡ 1) }
     requires painted { (painted.name ≡ L.painted_name) × (painted.parts ≡ 1) }
 {
     let mut work: Work<L> = Work::new(evaluated, styled, laid, painted);
-    let mut renderer = Renderer::new(rt.alloc());
-    shows_letters(rt, &mut renderer, &mut work)?;
-    shows_a_child(rt, &mut renderer, &mut work)
+    Ok(shows_letters(alloc, renderer, &mut work)? && shows_a_child(alloc, renderer, &mut work)?)
 }
 
 #[test]
 fn frames_follow_the_text(rt: HostRuntime) -> Result<(), Fail> {
-    frames::<Brand, HostRuntime>(
-        &rt,
+    let mut renderer = Renderer::new(rt.alloc());
+    let are_so = frames::<Brand>(
+        rt.alloc(),
+        &mut renderer,
         Blank::new(1),
         Blank::new(1),
         Blank::new(1),
         Blank::new(1),
-    )
+    )?;
+    assert!(rt; are_so);
+    Ok(())
 }

@@ -3,7 +3,8 @@ ghost use Rattle.std.specs.Prelude.{◌≤◌};
 
 use fx_cells::{cells, glyph, lines};
 use fx_text::{
-    all_white, behind_white, digit_count, hex_pair, is_identifier, is_quote, trim_front, trimmed,
+    all_digits, all_white, behind_white, capped_number, digit_count, hex_digit, hex_pair,
+    is_identifier, is_quote, is_style_identifier, trim_front, trimmed, trimmed_text,
 };
 use std::alloc::Global;
 
@@ -12,6 +13,11 @@ fn tells_classes(rt: HostRuntime) {
     assert!(rt; is_identifier("a_1") && is_identifier("_"));
     assert!(rt; !is_identifier("") && !is_identifier("1a") && !is_identifier("a-b"));
     assert!(rt; hex_pair(b'f', b'E') == Some(254) && hex_pair(b'g', b'0').is_none());
+    assert!(rt; hex_digit(9) == b'9' && hex_digit(10) == b'a');
+    assert!(rt; all_digits(b"0129") && !all_digits(b"1a"));
+    assert!(rt; capped_number(b"4294967297") == 4_294_967_295);
+    assert!(rt; is_style_identifier(b"-fx-a_1") && !is_style_identifier(b"--a"));
+    assert!(rt; trimmed_text(" \t a b\n") == "a b");
     assert!(rt; is_quote(b'"') && is_quote(b'\'') && !is_quote(b'`'));
 }
 

@@ -13,8 +13,9 @@ use Rattle.fx_look.specs.Styles.{StyleRow, styles}
 use Rattle.fx_look.specs.StyleRows.{style_named}
 use Rattle.fx_look.specs.declared.styles.StyleForm.TheVariants as form
 use Rattle.fx_look.specs.declared.styles.StyleName.{StyleName}
+use Rattle.fx_look.specs.declared.styles.TheConstants.{STYLE_COUNT}
 use Rattle.fx_css_types.specs.Limits.{row_of}
-use Rattle.fx_look.proofs.StyleLemmas.{style_found}
+use Rattle.fx_look.proofs.StyleLemmas.{style_found, styles_counted}
 use Rattle.fx_look.proofs.TableLemmas.{position_small}
 
 pub same_name : (a b : List ℕ) → bytes_eq a b ≡ true → a ≡ b
@@ -23,17 +24,12 @@ same_name a b e = (bytes_eq-Decides a b).0 e
 pub equal_name : (a : List ℕ) → bytes_eq a a ≡ true
 equal_name a = (bytes_eq-Decides a a).1 refl
 
--- the table has 22 rows
-table_length : length styles ≡ 22
-unfolding styles
-table_length = refl
-
 no_row : StyleRow
 no_row = record { name = []; form = form.Size; property = None }
 
-pub row_small : (name : List ℕ) (row : ℕ) → style_named name ≡ Some row → row < 22
+pub row_small : (name : List ℕ) (row : ℕ) → style_named name ≡ Some row → row < STYLE_COUNT
 row_small name row e =
-    subst (λ (n : ℕ). row < n) table_length
+    subst (λ (n : ℕ). row < n) styles_counted
     (position_small (λ (r : StyleRow). bytes_eq r.name name) styles no_row row e)
 
 name_at : (name : List ℕ) (row : ℕ) → style_named name ≡ Some row → (get_or styles row no_row).name ≡ name
@@ -52,15 +48,15 @@ apart a b differ = elim (cases_Bool (bytes_eq a b)) [
   | inr other ↦ other
 ]
 
-row_found_named : (o : Option StyleRow) (row : ℕ) → slice_get styles row ≡ o → row < 22
+row_found_named : (o : Option StyleRow) (row : ℕ) → slice_get styles row ≡ o → row < STYLE_COUNT
     → style_named (option_map_or (λ (r : StyleRow). r.name) o []) ≡ Some row
 row_found_named None row e within = absurd (
-    let g = slice_get-get_or styles row no_row (subst (λ (n : ℕ). row < n) (sym table_length) within) in
+    let g = slice_get-get_or styles row no_row (subst (λ (n : ℕ). row < n) (sym styles_counted) within) in
     let f : None ≡ Some (get_or styles row no_row) = sym e ∙ g in cc)
 row_found_named (Some r) row e within = style_found row r e
 
 -- each row is found by its name
-pub row_named : (row : ℕ) → row < 22 → style_named (row_name row) ≡ Some row
+pub row_named : (row : ℕ) → row < STYLE_COUNT → style_named (row_name row) ≡ Some row
 row_named row within = row_found_named (slice_get styles row) row refl within
 
 place_of_name : (o : Option ℕ) (row : StyleName) → option_map (λ (place : ℕ). record { 0 = place }) o ≡ Some row

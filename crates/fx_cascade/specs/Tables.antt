@@ -3,6 +3,7 @@ use Rattle.std.specs.Prelude.{ℕ, ◌≡◌, ◌<◌, All, slice_set, List, [],
 use Rattle.std.specs.Str.{bytes_eq}
 use Rattle.fx_look.specs.StyleRows.{style_named}
 use Rattle.fx_look.specs.declared.styles.CodeValue.{CodeValue}
+use Rattle.fx_look.specs.declared.styles.TheConstants.{STYLE_COUNT}
 use Rattle.fx_css_types.specs.declared.sheets.Candidate.{Candidate}
 use Rattle.fx_cascade.specs.declared.others.NamedSource.{NamedSource}
 use Rattle.fx_cascade.specs.declared.sources.Source.{Source}
@@ -29,7 +30,7 @@ source_of table name = source_at table.rows table.others name (style_named name)
 
 -- code values of rows that the style table has
 abbrev pub AreRows : List CodeValue → Type 0
-AreRows codes = All (λ (v : CodeValue). v.style.0 < 22) codes
+AreRows codes = All (λ (v : CodeValue). v.style.0 < STYLE_COUNT) codes
 
 abbrev pub with_greater : List Candidate → NamedSource → Source → NamedSource
 with_greater matched o said = record { name = o.name; source = greater_of matched o.source said }

@@ -13,7 +13,7 @@ use crate::ranks::{greater, greater_of};
 use crate::sources::Source;
 use fx_base::{Ledgers, Text, Work};
 use fx_css_types::{Candidate, Declaration, SheetAt};
-use fx_look::{CodeValue, StyleName};
+use fx_look::{CodeValue, STYLE_COUNT, StyleName};
 use std::alloc::{AllocError, Global};
 use std::marker::Model;
 
@@ -21,7 +21,7 @@ use std::marker::Model;
 /// for a name.
 #[derive(Drop)]
 pub struct Winners {
-    rows: [Option<Source>; 22],
+    rows: [Option<Source>; STYLE_COUNT],
     others: Vec<NamedSource>,
 }
 
@@ -74,14 +74,14 @@ impl Winners {
         ensures { (name : List ℕ) → source_of result name ≡ None }
     {
         Winners {
-            rows: [None; 22],
+            rows: [None; STYLE_COUNT],
             others: Vec::new(alloc),
         }
     }
 
     /// What wins the row of the style table at this place.
     pub fn row(&self, row: usize) -> Option<Source>
-        requires { row < 22 }
+        requires { row < STYLE_COUNT }
         ensures { (name : List ℕ) → style_named name ≡ Some row → result ≡ source_of self.now name }
     {
         self.rows[row]
@@ -97,7 +97,7 @@ impl Winners {
     }
 
     fn hear_row(&mut self, matched: &[Candidate], row: usize, source: Source)
-        requires { row < 22 }
+        requires { row < STYLE_COUNT }
         ensures { (said name : List ℕ) → style_named said ≡ Some row
             → source_of self.new name ≡ hear matched.now name (source_of self.old name) (voice said source) }
     {
@@ -161,7 +161,7 @@ impl Winners {
     }
 
     fn hear_code(&mut self, matched: &[Candidate], code: &CodeValue)
-        requires { code.now.style.0 < 22 }
+        requires { code.now.style.0 < STYLE_COUNT }
         ensures { (name : List ℕ)
             → source_of self.new name ≡ hear matched.now name (source_of self.old name) (code_voice code.now) }
     {

@@ -1,21 +1,22 @@
 -- The map that contracts see, and the entries that are kept.
-use Rattle.std.proofs.Common.{◌≡◌, ℕ, ◌==◌, Bool, true, false, cond, ◌&&◌, List, [], ◌∷◌, ◌++◌, unwrap_or, Option, Some, None, Result, Ok, Err, IsTrue, ◌↔◌, true≢false, refl, sym, ◌∙◌, ap}
+use Rattle.std.proofs.Common.{◌≡◌, ℕ, ◌==◌, Bool, true, false, cond, ◌&&◌, List, [], ◌∷◌, ◌++◌, unwrap_or, Option, Some, None, Result, Ok, Err, refl, sym, ◌∙◌, ap, subst}
 use Rattle.std.specs.declared.cmp.Ordering.{Ordering}
 use Rattle.std.specs.declared.cmp.Ordering.TheVariants.{Less, Equal, Greater}
 use Rattle.std.specs.Ordering.{nat_cmp, eq_by_cmp, ordering_then}
 use Rattle.std.specs.Cmp.{IsTotalOrder, on_total, then_total, nat_cmp_total, unsigned_ties, both_tied, eq_by_cmp_equiv}
 use Rattle.std.specs.FinMap.{IsAntisymmetric, nat_cmp-IsAntisymmetric, find, from_entries, get, insert, remove, get-from_entries, get-insert, get-remove, same_map}
 use Rattle.std.specs.Map.{lookup}
+use Rattle.fx_base.specs.Answers.{IsAnswer}
 use Rattle.fx_base.specs.declared.keys.NodeKey.{NodeKey}
 use Rattle.std.specs.List.{flat_map}
 use Rattle.fx_events.specs.declared.kinds.EventKind.{EventKind}
 use Rattle.fx_events.specs.declared.kinds.Phase.{Phase}
 use Rattle.fx_events.specs.declared.kinds.Phase.TheVariants.{Convenience}
 use Rattle.fx_events.specs.declared.EventError.{EventError}
-use Rattle.fx_events.specs.declared.EventError.TheVariants.{Full, Memory}
+use Rattle.fx_events.specs.declared.EventError.TheVariants.{Memory}
 use Rattle.fx_events.specs.declared.registrations.Registration.{Registration}
 use Rattle.fx_events.specs.Events.{is_same_phase, parts_of, types_of}
-use Rattle.fx_events.specs.Handlers.{HandlerMap, registrations_of, calls_as, calls_at, put_at, is_full, with_registration}
+use Rattle.fx_events.specs.Handlers.{HandlerMap, registrations_of, calls_as, calls_at, put_at, add_refusal, with_registration}
 use Rattle.fx_events.specs.Keyed.{key_cmp}
 
 -- both keys are of one node, as the kept keys tell it
@@ -114,13 +115,16 @@ first_alone new = ap (λ (o : Option ℕ). put_at o new []) (none_there (is_same
     none_there false = refl
 
 -- a node without registrations has room
-pub never_full : (new : Registration) (registrations : List Registration) → registrations ≡ []
-    → (result : Result (Unit {0}) EventError) → (result ≡ Err Full → ⊥) → (result ≡ Err Full) ↔ IsTrue (is_full new registrations)
-never_full new registrations none result other =
-    (λ e. absurd (other e), λ full. absurd (true≢false (sym full ∙ ap (is_full new) none)))
+never_refused : (new : Registration) (registrations : List Registration) → registrations ≡ [] → add_refusal new registrations ≡ None
+never_refused new registrations none = ap (add_refusal new) none
 
-pub memory_is_another : (result : Result (Unit {0}) EventError) → result ≡ Err Memory → result ≡ Err Full → ⊥
-memory_is_another result wanting full = cc
+pub admitted : (new : Registration) (registrations : List Registration) → registrations ≡ []
+    → IsAnswer {T = Unit {0}} Memory (add_refusal new registrations) (Ok tt)
+admitted new registrations none =
+    subst (λ (o : Option EventError). IsAnswer {T = Unit {0}} Memory o (Ok tt)) (sym (never_refused new registrations none)) tt
 
-pub success_is_another : ◌≡◌ {A = Result (Unit {0}) EventError} (Ok tt) (Err Full) → ⊥
-success_is_another full = cc
+pub wanting : (new : Registration) (registrations : List Registration) → registrations ≡ []
+    → (result : Result (Unit {0}) EventError) → result ≡ Err Memory → IsAnswer Memory (add_refusal new registrations) result
+wanting new registrations none result is =
+    subst (λ (o : Option EventError). IsAnswer Memory o result) (sym (never_refused new registrations none))
+    (subst (λ (r : Result (Unit {0}) EventError). IsAnswer Memory None r) (sym is) refl)

@@ -3,6 +3,8 @@ use Rattle.std.specs.Prelude.{ℕ, ◌==◌, ◌≡◌, ◌≤◌, Bool, false, 
 use Rattle.std.specs.List.{flat_map}
 use Rattle.std.specs.FinMap as map_of
 use Rattle.fx_base.specs.declared.keys.NodeKey.{NodeKey}
+use Rattle.fx_events.specs.declared.EventError.{EventError}
+use Rattle.fx_events.specs.declared.EventError.TheVariants.{Full}
 use Rattle.fx_events.specs.declared.kinds.EventKind.{EventKind}
 use Rattle.fx_events.specs.declared.kinds.Phase.{Phase}
 use Rattle.fx_events.specs.declared.kinds.Phase.TheVariants.{Convenience}
@@ -55,6 +57,9 @@ with_registration new registrations = put_at (replaced_by new registrations) new
 abbrev pub is_full : Registration → List Registration → Bool
 is_full new registrations =
     (count_by (is_in new.phase) registrations == 64) && not (is_some (replaced_by new registrations))
+
+abbrev pub add_refusal : Registration → List Registration → Option EventError
+add_refusal new registrations = if is_full new registrations then Some Full else None
 
 abbrev pub nobody : HandlerMap
 nobody = map_of.empty

@@ -6,9 +6,10 @@ mod kinds;
 mod registrations;
 mod routes;
 
-ghost use Rattle.std.specs.Prelude.{◌≡◌, ◌↔◌, ◌⊎◌, IsTrue, IfOk, OnOk, OnErr};
+ghost use Rattle.std.specs.Prelude.{◌≡◌, IfOk, OnOk, OnErr};
+ghost use Rattle.fx_base.specs.Answers.{IsAnswer};
 ghost use Rattle.fx_events.specs.declared.EventError.TheVariants.{Memory};
-ghost use Rattle.fx_events.specs.Handlers.{AtMost64, OneConvenience, after_add, after_forget, calls_of, is_full, nobody, registrations_of};
+ghost use Rattle.fx_events.specs.Handlers.{AtMost64, OneConvenience, add_refusal, after_add, after_forget, calls_of, nobody, registrations_of};
 
 use fx_base::{NodeKey, Text};
 use indexmap::IndexMap;
@@ -88,9 +89,8 @@ impl Handlers {
     ) -> Result<(), EventError>
         ensures added { OnOk result (self.new
             ≡ after_add self.old key (record { on = on; phase = phase; action = action })) }
-        ensures full { (result ≡ Err EventError.Full)
-            ↔ IsTrue (is_full (record { on = on; phase = phase; action = action }) (registrations_of self.old key)) }
-        ensures refused { OnErr result ((result ≡ Err EventError.Full) ⊎ (result ≡ Err EventError.Memory)) }
+        ensures answer { IsAnswer EventError.Memory
+            (add_refusal (record { on = on; phase = phase; action = action }) (registrations_of self.old key)) result }
         ensures err { OnErr result (self.new ≡ self.old) }
     {
         let registration = Registration { on, phase, action };

@@ -1,6 +1,7 @@
 //! What is registered at one node. `Handlers` keeps one such list for each node that has registrations.
-ghost use Rattle.std.specs.Prelude.{◌≡◌, ◌↔◌, ◌⊎◌, ◌++◌, ◌∷◌, ◌<◌, [], count_by, length, position, IsTrue, IfOk, IfSome, OnOk, OnErr};
-ghost use Rattle.fx_events.specs.Handlers.{actions_for, calls_as, calls_at, is_for, is_full, is_in, replaced_by, with_registration};
+ghost use Rattle.std.specs.Prelude.{◌≡◌, ◌++◌, ◌∷◌, ◌<◌, [], count_by, length, position, IfOk, IfSome, OnOk, OnErr};
+ghost use Rattle.fx_base.specs.Answers.{IsAnswer};
+ghost use Rattle.fx_events.specs.Handlers.{actions_for, add_refusal, calls_as, calls_at, is_for, is_in, replaced_by, with_registration};
 
 use crate::{EventError, EventKind, Phase};
 use fx_base::Text;
@@ -60,8 +61,7 @@ impl NodeHandlers {
     /// Registers, in place of a convenience handler of the type if this is one too.
     pub fn add(&mut self, registration: Registration) -> Result<(), EventError>
         ensures added { OnOk result (self.new ≡ with_registration registration self.old) }
-        ensures full { (result ≡ Err EventError.Full) ↔ IsTrue (is_full registration self.old) }
-        ensures refused { OnErr result ((result ≡ Err EventError.Full) ⊎ (result ≡ Err EventError.Memory)) }
+        ensures answer { IsAnswer EventError.Memory (add_refusal registration self.old) result }
         ensures err { OnErr result (self.new ≡ self.old) }
     {
         if let Some(place) = self.replaced_by(&registration) {

@@ -341,5 +341,9 @@ IsSound-owners slots born kept =
           All-weaker (Contains (owners_in slots born)) (λ (owner : Owner). owner.birth ≤ born)
           (λ owner there. (kept.given owner.slot owner.birth (owner_held slots born owner there)).1)
           (owners_in slots born) (All-contains_itself (owners_in slots born));
+      born =
+          All-weaker (Contains (owners_in slots born)) (λ (owner : Owner). 0 < owner.birth)
+          (λ owner there. (kept.given owner.slot owner.birth (owner_held slots born owner there)).0)
+          (owners_in slots born) (All-contains_itself (owners_in slots born));
       few = omega (arith, kept.counted, kept.few);
     }

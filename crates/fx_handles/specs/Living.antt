@@ -25,11 +25,12 @@ abbrev pub after_release : Register → Owner → Register
 after_release register owner =
     record { living = filter (λ other. not (is_same other owner)) register.living; born = register.born }
 
--- what is true of the living owners: birth numbers rise, slots differ, and no number is above the last one given
+-- what is true of the living owners: birth numbers rise from 1 on, slots differ, and no number is above the last one given
 pub record IsSound (register : Register) : Type 0 where
   pub rising : AllPairs (λ (one other : Owner). one.birth < other.birth) register.living
   pub apart : AllPairs (λ (one other : Owner). one.slot ≢ other.slot) register.living
   pub given : All (λ (owner : Owner). owner.birth ≤ register.born) register.living
+  pub born : All (λ (owner : Owner). 0 < owner.birth) register.living
   pub few : length register.living ≤ 10000
 
 -- calls lead from the first register to this one, and these owners were made on the way

@@ -4,7 +4,9 @@
 #![tactic(auto)]
 
 ghost use Rattle.std.specs.Prelude.{◌≡◌, ◌↔◌, ◌⊎◌, ◌+◌, length, Contains, IsTrue, IfOk, OnErr};
+ghost use Rattle.fx_base.specs.Answers.{IsAnswer};
 ghost use Rattle.fx_handles.specs.Living.{DeadStayDead, EachBirthOnce, IsSound, after_make, after_release, nobody};
+ghost use Rattle.fx_handles.specs.Refusals.{make_refusal};
 ghost use Rattle.fx_handles.specs.declared.OwnerError.TheVariants.{Memory};
 
 use slab::Slab;
@@ -77,6 +79,7 @@ impl Owners {
     pub fn make(&mut self, _alloc: Global) -> Result<Owner, OwnerError>
         ensures birth { IfOk result (λ owner. owner.birth ≡ self.old.born + 1) }
         ensures made { IfOk result (λ owner. self.new ≡ after_make self.old owner) }
+        ensures answer { IsAnswer OwnerError.Memory (make_refusal self.old) result }
         ensures full { (result ≡ Err OwnerError.Full)
             ↔ ((length self.old.living ≡ 10000) ⊎ (self.old.born ≡ u32.MAX)) }
         ensures err { OnErr result (self.new ≡ self.old) }

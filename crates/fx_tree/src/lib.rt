@@ -211,6 +211,13 @@ impl Tree {
         self.root
     }
 
+    /// Whether the node is alive.
+    pub fn is_alive(&self, key: NodeKey) -> bool
+        ensures { result ≡ spec.is_alive self.now.nodes key }
+    {
+        nodes::is_live(&self.nodes, key)
+    }
+
     /// The children of a living node in their order.
     pub fn children(&self, key: NodeKey) -> Option<&[NodeKey]>
         ensures { option_copied result ≡ spec.children_of self.now.nodes key }

@@ -1,14 +1,15 @@
-use Rattle.std.proofs.Common.{refl, ◌≡◌, ◌↔◌, ◌∙◌, List, [], ◌∷◌, None, Some, cond, is_some, Err, IsTrue, ap, sym, subst}
+use Rattle.std.proofs.Common.{refl, ◌≡◌, ◌∙◌, List, [], ◌∷◌, None, Some, cond, is_some, Err, ap, sym, subst}
 use Rattle.std.specs.FinMap.{from_entries, insert}
 use Rattle.std.specs.Map.{lookup, set_value}
 use Rattle.std.proofs.lemmas.Map.Steps.{set_value_same}
 use Rattle.std.proofs.lemmas.Result.{err_from_is_err_and, on_ok_weaker, on_err_weaker}
+use Rattle.fx_base.specs.Answers.{IsAnswer}
 use Rattle.fx_base.specs.declared.keys.NodeKey.{NodeKey}
-use Rattle.fx_events.specs.declared.EventError.TheVariants.{Full}
+use Rattle.fx_events.specs.declared.EventError.TheVariants.{Memory}
 use Rattle.fx_events.specs.declared.registrations.Registration.{Registration}
-use Rattle.fx_events.specs.Handlers.{HandlerMap, is_full, registrations_of, with_registration}
+use Rattle.fx_events.specs.Handlers.{HandlerMap, add_refusal, registrations_of, with_registration}
 use Rattle.fx_events.specs.Keyed.{key_cmp}
-use Rattle.fx_events.proofs.Maps.{same_key, first_alone, inserted, listed, memory_is_another, never_full, success_is_another}
+use Rattle.fx_events.proofs.Maps.{same_key, admitted, first_alone, inserted, listed, wanting}
 use Rattle.fx_events.proofs.Handlers.add.Goals as goal
 
 there : (c : goal.After-self-in-Some-1) → registrations_of c.args.self.now c.args.key ≡ c.in-Some.node.now
@@ -31,10 +32,10 @@ returns-in-Some-clause-added c =
     (λ is. put ∙ ap (insert c.args.self.now key) (is ∙ ap (with_registration new) (sym (there c))))
     c.add.ensures.added
 
-pub returns-in-Some-clause-full : goal.returns-in-Some-clause-full
-returns-in-Some-clause-full c =
+pub returns-in-Some-clause-answer : goal.returns-in-Some-clause-answer
+returns-in-Some-clause-answer c =
     let new : Registration = record { on = c.args.on; phase = c.args.phase; action = c.args.action } in
-    subst (λ (l : List Registration). (c.add.result ≡ Err Full) ↔ IsTrue (is_full new l)) (sym (there c)) c.add.ensures.full
+    subst (λ (l : List Registration). IsAnswer Memory (add_refusal new l) c.add.result) (sym (there c)) c.add.ensures.answer
 
 pub returns-in-Some-clause-err : goal.returns-in-Some-clause-err
 returns-in-Some-clause-err c =
@@ -50,20 +51,19 @@ returns-in-Some-clause-err c =
     ∙ c.self.view_is)
     c.add.ensures.err
 
-pub returns-in_err-node-clause-full : goal.returns-in_err-node-clause-full
-returns-in_err-node-clause-full c =
+pub returns-in_err-node-clause-answer : goal.returns-in_err-node-clause-answer
+returns-in_err-node-clause-answer c =
     let new : Registration = record { on = c.args.on; phase = c.args.phase; action = c.args.action } in
     let none = listed c.self.inside.nodes.entries c.args.self.now c.self.view_is c.args.key c.args.key refl None c.in_default.ensures.value in
     let p = err_from_is_err_and c.from_residual.result c.from_residual.ensures.1 in
-    never_full new (registrations_of c.args.self.now c.args.key) none c.from_residual.result (memory_is_another c.from_residual.result (p.1 ∙ ap Err p.2))
+    wanting new (registrations_of c.args.self.now c.args.key) none c.from_residual.result (p.1 ∙ ap Err p.2)
 
-pub returns-in_err-insert-clause-full : goal.returns-in_err-insert-clause-full
-returns-in_err-insert-clause-full c =
+pub returns-in_err-insert-clause-answer : goal.returns-in_err-insert-clause-answer
+returns-in_err-insert-clause-answer c =
     let new : Registration = record { on = c.args.on; phase = c.args.phase; action = c.args.action } in
     let none = listed c.self.inside.nodes.entries c.args.self.now c.self.view_is c.args.key c.args.key refl None c.in_default.ensures.value in
     let p = err_from_is_err_and c.from_residual-in_err-insert.result c.from_residual-in_err-insert.ensures.1 in
-    never_full new (registrations_of c.args.self.now c.args.key) none c.from_residual-in_err-insert.result
-    (memory_is_another c.from_residual-in_err-insert.result (p.1 ∙ ap Err p.2))
+    wanting new (registrations_of c.args.self.now c.args.key) none c.from_residual-in_err-insert.result (p.1 ∙ ap Err p.2)
 
 pub returns-clause-added : goal.returns-clause-added
 returns-clause-added c =
@@ -81,8 +81,8 @@ returns-clause-added c =
     ∙ ap (λ (m : HandlerMap). insert m key alone) c.self.view_is
     ∙ ap (insert c.args.self.now key) (sym (ap (with_registration new) none ∙ first_alone new))
 
-pub returns-clause-full : goal.returns-clause-full
-returns-clause-full c =
+pub returns-clause-answer : goal.returns-clause-answer
+returns-clause-answer c =
     let new : Registration = record { on = c.args.on; phase = c.args.phase; action = c.args.action } in
     let none = listed c.self.inside.nodes.entries c.args.self.now c.self.view_is c.args.key c.args.key refl None c.in_default.ensures.value in
-    never_full new (registrations_of c.args.self.now c.args.key) none _ success_is_another
+    admitted new (registrations_of c.args.self.now c.args.key) none

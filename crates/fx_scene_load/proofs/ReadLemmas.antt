@@ -30,6 +30,7 @@ use Rattle.fx_scene_load.specs.declared.asking.Asked.TheVariants.{Misplaced, Ref
 use Rattle.fx_scene_load.specs.declared.desks.Desk.{Desk as Held}
 use Rattle.fx_scene_outline.specs.Defined.{Defined, defined_nodes}
 use Rattle.fx_scene_outline.specs.Outlines.{aside_outline, outline}
+use Rattle.fx_scene_read.specs.Opening.{AreCounted}
 use Rattle.fx_scene_outline.specs.Pieces.{Piece as PlainPiece, Include}
 use Rattle.fx_scene_outline.specs.Views.{defined_shown, defined_view, piece_view, shown}
 use Rattle.fx_scene_outline.specs.declared.pieces.Piece.{Piece}
@@ -63,6 +64,14 @@ shown_more : (pieces : List Piece) (i : ℕ) (x : Piece) → i < length pieces �
 shown_more pieces i x h is =
     ap shown (take_more pieces i x h ∙ ap (λ (y : Piece). take i pieces ++ (y ∷ [])) (sym is))
     ∙ map-append piece_view (take i pieces) (x ∷ [])
+
+-- the pieces in front of one and this one are counted
+pub counted_on : (pieces earlier : List Piece) (i : ℕ) (x : Piece) (counts : List ℕ) → i < length pieces
+    → x ≡ get_or pieces i x → earlier ≡ take i pieces → AreCounted (shown earlier ++ (piece_view x ∷ [])) counts
+    → AreCounted (shown (take (i + 1) pieces)) counts
+counted_on pieces earlier i x counts h is front are =
+    subst (λ (before : List PlainPiece). AreCounted before counts)
+    (ap (λ (ps : List Piece). shown ps ++ (piece_view x ∷ [])) front ∙ sym (shown_more pieces i x h is)) are
 
 -- the pieces in front of one are those that were taken
 pub steps_on : (files : Files) (here : Open) (room : ℕ) (first_desk : Desk) (desk more : Held) (first now next : Course)

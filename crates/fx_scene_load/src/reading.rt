@@ -13,7 +13,7 @@ ghost use Rattle.fx_scene_course.specs.Views.{course_view, open_view};
 ghost use Rattle.fx_scene_load.specs.Views.{desk_view};
 ghost use Rattle.fx_scene_outline.specs.Pieces.{Include, Piece as PlainPiece};
 ghost use Rattle.fx_scene_outline.specs.Views.{defined_shown, defined_view, head_of, piece_view, shown};
-ghost use Rattle.fx_scene_read.specs.Opening.{stand_at};
+ghost use Rattle.fx_scene_read.specs.Opening.{owner_in, rank_in, rank_of, stand_at};
 ghost use Rattle.fx_scene_things.specs.Known.{known, settled_view};
 ghost use Rattle.fx_scene_things.specs.Settled.{settled_of};
 
@@ -34,7 +34,7 @@ use fx_scene_course::{
 use fx_scene_flaws::Flaw;
 use fx_scene_names::class_named;
 use fx_scene_outline::{Piece, Seat, aside_outline, defined_nodes, outline};
-use fx_scene_read::{Stand, add_piece, add_root_attributes, stand_at};
+use fx_scene_read::{Stand, add_piece, add_root_attributes, no_counts, rank_of, stand_at};
 use fx_scene_things::{Named, Names, Settled};
 use std::alloc::{AllocError, Global};
 
@@ -95,12 +95,14 @@ fn read_pieces<F: Shelf>(
         (open_view here.now) room (desk_view [] desk.old) (course_view course.old) (shown pieces.now)
         (known desk.new.names) (course_view course.new)) }
 {
+    let mut counts = no_counts(alloc, pieces.len())?;
     for (index, piece) in pieces.iter().enumerate() {
         if course.at_fault {
             return Ok(());
         }
         let before = pieces.split_at(index).0;
-        read_piece(alloc, shelf, here, room, before, piece, desk, course)?;
+        let rank = rank_of(&mut counts, before, piece);
+        read_piece(alloc, shelf, here, room, before, piece, rank, desk, course)?;
     }
     Ok(())
 }
@@ -113,10 +115,12 @@ fn read_piece<F: Shelf>(
     room: usize,
     before: &[Piece<'_>],
     piece: &Piece<'_>,
+    rank: usize,
     desk: &mut Desk,
     course: &mut Course,
 ) -> Result<(), FetchError>
-    requires { length here.now.around.items ≤ 17 }
+    requires around { length here.now.around.items ≤ 17 }
+    requires rank { rank ≡ rank_of (shown before.now) (piece_view piece.now) }
     ensures held { F.held shelf.new ≡ F.held shelf.old }
     ensures cause { HasCause Failed (F.faults shelf.old) (F.faults shelf.new) result }
     ensures done { (files : Files) → F.held shelf.old ≡ Some files → OnOk result (IsPieceRead files
@@ -126,9 +130,11 @@ fn read_piece<F: Shelf>(
 {
     match piece {
         Piece::Include(seat, element) => {
-            read_included(alloc, shelf, here, before, *seat, element, desk, course)
+            read_included(
+                alloc, shelf, here, before, *seat, rank, element, desk, course,
+            )
         }
-        _ => read_plain(alloc, shelf, here, room, before, piece, desk, course),
+        _ => read_plain(alloc, shelf, here, room, before, piece, rank, desk, course),
     }
 }
 
@@ -141,10 +147,12 @@ fn read_plain<F: Shelf>(
     room: usize,
     before: &[Piece<'_>],
     piece: &Piece<'_>,
+    rank: usize,
     desk: &mut Desk,
     course: &mut Course,
 ) -> Result<(), FetchError>
     requires around { length here.now.around.items ≤ 17 }
+    requires rank { rank ≡ rank_of (shown before.now) (piece_view piece.now) }
     requires plain { spec.is_include (piece_view piece.now) ≡ false }
     ensures held { F.held shelf.new ≡ F.held shelf.old }
     ensures cause { HasCause Failed (F.faults shelf.old) (F.faults shelf.new) result }
@@ -163,12 +171,13 @@ fn read_plain<F: Shelf>(
         node,
         before,
         piece,
+        rank,
         defined.as_slice(),
         desk,
         course,
     )?;
     read_rest(
-        alloc, shelf, here, node, before, piece, progress, desk, course,
+        alloc, shelf, here, node, before, piece, rank, progress, desk, course,
     )?;
     add_class(course, class_of(piece))?;
     Ok(push_node(desk, node)?)
@@ -184,11 +193,13 @@ fn read_all_defined<F: Shelf>(
     node: usize,
     before: &[Piece<'_>],
     piece: &Piece<'_>,
+    rank: usize,
     defined: &[&Element],
     desk: &Desk,
     course: &mut Course,
 ) -> Result<Progress, FetchError>
-    requires { length here.now.around.items ≤ 17 }
+    requires around { length here.now.around.items ≤ 17 }
+    requires rank { rank ≡ rank_of (shown before.now) (piece_view piece.now) }
     ensures held { F.held shelf.new ≡ F.held shelf.old }
     ensures cause { HasCause Failed (F.faults shelf.old) (F.faults shelf.new) result }
     ensures done { (files : Files) → F.held shelf.old ≡ Some files → IfOk result (λ progress. AreDefinedRead files
@@ -209,6 +220,7 @@ fn read_all_defined<F: Shelf>(
             node,
             before,
             piece,
+            rank,
             element,
             desk,
             &mut progress,
@@ -228,12 +240,14 @@ fn read_next_defined<F: Shelf>(
     node: usize,
     before: &[Piece<'_>],
     piece: &Piece<'_>,
+    rank: usize,
     element: &Element,
     desk: &Desk,
     progress: &mut Progress,
     course: &mut Course,
 ) -> Result<(), FetchError>
-    requires { length here.now.around.items ≤ 17 }
+    requires around { length here.now.around.items ≤ 17 }
+    requires rank { rank ≡ rank_of (shown before.now) (piece_view piece.now) }
     ensures held { F.held shelf.new ≡ F.held shelf.old }
     ensures cause { HasCause Failed (F.faults shelf.old) (F.faults shelf.new) result }
     ensures done { (files : Files) → F.held shelf.old ≡ Some files → OnOk result (IsNextRead files
@@ -244,7 +258,7 @@ fn read_next_defined<F: Shelf>(
 {
     let mut trial = copy_desk(alloc, desk)?;
     let settled = progress.settled.as_slice();
-    let acts = tell_piece(alloc, here, settled, before, node, piece, &mut trial)?;
+    let acts = tell_piece(alloc, here, settled, before, node, piece, rank, &mut trial)?;
     let count = acts_before(acts.as_slice());
     let acts = acts_between(alloc, acts, progress.done, count)?;
     do_acts(alloc, shelf, here, acts, course)?;
@@ -312,10 +326,12 @@ fn read_rest<F: Shelf>(
     node: usize,
     before: &[Piece<'_>],
     piece: &Piece<'_>,
+    rank: usize,
     progress: Progress,
     desk: &mut Desk,
     course: &mut Course,
 ) -> Result<(), FetchError>
+    requires { rank ≡ rank_of (shown before.now) (piece_view piece.now) }
     ensures held { F.held shelf.new ≡ F.held shelf.old }
     ensures cause { HasCause Failed (F.faults shelf.old) (F.faults shelf.new) result }
     ensures names { OnOk result (known desk.new.names
@@ -331,7 +347,7 @@ fn read_rest<F: Shelf>(
         (piece_view piece.now)).acts) (course_view course.new)) }
 {
     let settled = progress.settled.as_slice();
-    let acts = tell_piece(alloc, here, settled, before, node, piece, desk)?;
+    let acts = tell_piece(alloc, here, settled, before, node, piece, rank, desk)?;
     let acts = acts_behind(alloc, acts, progress.done)?;
     do_acts(alloc, shelf, here, acts, course)
 }
@@ -345,8 +361,10 @@ fn tell_piece(
     before: &[Piece<'_>],
     node: usize,
     piece: &Piece<'_>,
+    rank: usize,
     desk: &mut Desk,
 ) -> Result<Vec<Act>, AllocError>
+    requires { rank ≡ rank_of (shown before.now) (piece_view piece.now) }
     ensures acts { IfOk result (λ acts. acts.items
         ≡ (spec.told_in (open_view here.now) (desk_view (shown before.now) desk.old)
         (map settled_view settled.now) node (piece_view piece.now)).acts) }
@@ -367,6 +385,7 @@ fn tell_piece(
         desk.nodes.as_slice(),
         node,
         piece,
+        rank,
         &mut desk.names,
         &mut desk.lanes,
         &mut acts,
@@ -401,11 +420,13 @@ fn read_included<F: Shelf>(
     here: &Open<'_>,
     before: &[Piece<'_>],
     seat: Seat,
+    rank: usize,
     element: &Element,
     desk: &mut Desk,
     course: &mut Course,
 ) -> Result<(), FetchError>
-    requires { length here.now.around.items ≤ 17 }
+    requires around { length here.now.around.items ≤ 17 }
+    requires rank { rank ≡ rank_in (shown before.now) (owner_in seat) }
     ensures held { F.held shelf.new ≡ F.held shelf.old }
     ensures cause { HasCause Failed (F.faults shelf.old) (F.faults shelf.new) result }
     ensures done { (files : Files) → F.held shelf.old ≡ Some files → (room : ℕ) → OnOk result (IsPieceRead files
@@ -414,7 +435,9 @@ fn read_included<F: Shelf>(
         (desk_view (shown before.now ++ Include seat (head_of element.now) ∷ []) desk.new) (course_view course.new)) }
 {
     let node = course.classes.len();
-    read_include(alloc, shelf, here, before, seat, element, desk, course)?;
+    read_include(
+        alloc, shelf, here, before, seat, rank, element, desk, course,
+    )?;
     Ok(push_node(desk, node)?)
 }
 
@@ -425,11 +448,13 @@ fn read_include<F: Shelf>(
     here: &Open<'_>,
     before: &[Piece<'_>],
     seat: Seat,
+    rank: usize,
     element: &Element,
     desk: &mut Desk,
     course: &mut Course,
 ) -> Result<(), FetchError>
-    requires { length here.now.around.items ≤ 17 }
+    requires around { length here.now.around.items ≤ 17 }
+    requires rank { rank ≡ rank_in (shown before.now) (owner_in seat) }
     ensures held { F.held shelf.new ≡ F.held shelf.old }
     ensures cause { HasCause Failed (F.faults shelf.old) (F.faults shelf.new) result }
     ensures kept { desk.new ≡ record desk.old { names = desk.new.names } }
@@ -441,12 +466,12 @@ fn read_include<F: Shelf>(
     match asked_of(alloc, here, seat, element, course.files.len())? {
         Asked::Misplaced(flaw) => Ok(add_flaw(course, place, flaw)?),
         Asked::Refused(flaw, source) => {
-            let stand = include_stand(here, before, desk.nodes.as_slice(), seat);
+            let stand = include_stand(here, before, desk.nodes.as_slice(), seat, rank);
             add_room(course, place, stand)?;
             Ok(add_flaw(course, place_in(here.file, source), flaw)?)
         }
         Asked::Wanted(target) => {
-            let stand = include_stand(here, before, desk.nodes.as_slice(), seat);
+            let stand = include_stand(here, before, desk.nodes.as_slice(), seat, rank);
             add_room(course, place, stand)?;
             read_wanted(alloc, shelf, here, stand, element, target, desk, course)
         }
@@ -454,10 +479,17 @@ fn read_include<F: Shelf>(
 }
 
 /// Where the root of an included document comes to stand.
-fn include_stand(here: &Open<'_>, before: &[Piece<'_>], nodes: &[usize], seat: Seat) -> Stand
+fn include_stand(
+    here: &Open<'_>,
+    before: &[Piece<'_>],
+    nodes: &[usize],
+    seat: Seat,
+    rank: usize,
+) -> Stand
+    requires { rank ≡ rank_in (shown before.now) (owner_in seat) }
     ensures { result ≡ spec.stand_in (open_view here.now) (stand_at (shown before.now) nodes.now seat) }
 {
-    stand_in(here, stand_at(before, nodes, seat))
+    stand_in(here, stand_at(before, nodes, seat, rank))
 }
 
 fn stand_in(here: &Open<'_>, stand: Stand) -> Stand

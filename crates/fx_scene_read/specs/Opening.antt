@@ -1,5 +1,5 @@
 -- How an instance comes to stand: what is wrong with its name or its place, or the steps by which its node is made.
-use Rattle.std.specs.Prelude.{ℕ, nat_le, Bool, true, false, ◌==◌, List, count_by, slice_get, unwrap_or, Option, Some, None, if◌then◌else◌}
+use Rattle.std.specs.Prelude.{◌≡◌, ◌<◌, ◌+◌, ℕ, nat_le, nat_lt, Bool, true, false, ◌==◌, List, length, count_by, slice_get, slice_index, slice_set, unwrap_or, Option, Some, None, if◌then◌else◌}
 use Rattle.fx_doc_grammar.specs.Grammar.{Attr, Head}
 use Rattle.fx_kinds.specs.declared.classes.Class.{Class}
 use Rattle.fx_scene_flaws.specs.declared.flaws.Flaw.{Flaw}
@@ -17,19 +17,46 @@ use Rattle.fx_stage_types.specs.declared.steps.Spot.TheVariants.{At, On}
 
 -- ordinals and places
 
-abbrev pub is_child_of : ℕ → Seat → Bool
-is_child_of owner (seat.Child parent) = parent == owner
-is_child_of owner _ = false
+-- where a piece stands; what is no instance stands nowhere
+abbrev pub seat_of : Piece → Seat
+seat_of (Instance seat head) = seat
+seat_of (Reference seat head) = seat
+seat_of (Include seat head) = seat
+seat_of _ = seat.Nowhere
+
+-- the piece whose child stands there
+abbrev pub owner_in : Seat → Option ℕ
+owner_in (seat.Child owner) = Some owner
+owner_in _ = None
+
+abbrev pub is_owner : ℕ → Option ℕ → Bool
+is_owner owner None = false
+is_owner owner (Some other) = other == owner
 
 abbrev pub is_child : ℕ → Piece → Bool
-is_child owner (Instance seat head) = is_child_of owner seat
-is_child owner (Reference seat head) = is_child_of owner seat
-is_child owner (Include seat head) = is_child_of owner seat
-is_child owner _ = false
+is_child owner piece = is_owner owner (owner_in (seat_of piece))
 
 -- how many children a piece has
 unfoldable pub children : ℕ → List Piece → ℕ
 children owner pieces = count_by (is_child owner) pieces
+
+-- the place of a child among those of its piece, behind these pieces
+abbrev pub rank_in : List Piece → Option ℕ → ℕ
+rank_in before None = 0
+rank_in before (Some owner) = children owner before
+
+-- where a piece is a child, its place among the children
+abbrev pub rank_of : List Piece → Piece → ℕ
+rank_of before piece = rank_in before (owner_in (seat_of piece))
+
+-- each of these counts is how many children the piece at its place has
+abbrev pub AreCounted : List Piece → List ℕ → Type 0
+AreCounted before counts = (owner : ℕ) → owner < length counts → slice_index counts owner ≡ children owner before
+
+-- one child more of the piece at this place, if it is counted
+abbrev pub one_more : ℕ → List ℕ → List ℕ
+one_more owner counts =
+    if nat_lt owner (length counts) then slice_set counts owner (slice_index counts owner + 1) else counts
 
 -- the ordinal of the node of the piece at this place, where each piece has that of the next node in front of it
 abbrev pub node_at : ℕ → List ℕ → ℕ

@@ -5,7 +5,7 @@ ghost use Rattle.fx_doc.specs.Views.{attr_view};
 ghost use Rattle.fx_scene_things.specs.Known.{known};
 ghost use Rattle.fx_scene_outline.specs.Views.{head_of, shown};
 ghost use Rattle.fx_scene_read.specs.Pieces as spec;
-ghost use Rattle.fx_scene_read.specs.Opening.{opening_flaw, seat_step};
+ghost use Rattle.fx_scene_read.specs.Opening.{opening_flaw, owner_in, rank_in, seat_step};
 ghost use Rattle.fx_scene_values.specs.Views.{scope_view};
 
 use crate::acting::add_deeds;
@@ -25,7 +25,8 @@ use fx_scene_things::Names;
 use fx_scene_values::Scope;
 use std::alloc::{AllocError, Global};
 
-/// Adds the acts of an instance behind these pieces, which is the node of an ordinal.
+/// Adds the acts of an instance behind these pieces, which is the node of an ordinal, and the child at this place if it
+/// is one.
 pub(crate) fn add_instance(
     alloc: Global,
     scope: &Scope<'_>,
@@ -34,15 +35,17 @@ pub(crate) fn add_instance(
     nodes: &[usize],
     node: usize,
     seat: Seat,
+    rank: usize,
     element: &Element,
     acts: &mut Vec<Act>,
 ) -> Result<(), AllocError>
+    requires { rank ≡ rank_in (shown before.now) (owner_in seat) }
     ensures ok { OnOk result (acts.new.items ≡ acts.old.items ++ spec.instance_acts (scope_view scope.now)
         (known names.now) (shown before.now) nodes.now node seat (head_of element.now)) }
 {
     match class_named(element.name.as_str()) {
         Some(class) => add_class(
-            alloc, scope, names, before, nodes, node, seat, element, class, acts,
+            alloc, scope, names, before, nodes, node, seat, rank, element, class, acts,
         ),
         None => push_flaw(acts, element.position, Flaw::Class),
     }
@@ -56,10 +59,12 @@ fn add_class(
     nodes: &[usize],
     node: usize,
     seat: Seat,
+    rank: usize,
     element: &Element,
     class: Class,
     acts: &mut Vec<Act>,
 ) -> Result<(), AllocError>
+    requires { rank ≡ rank_in (shown before.now) (owner_in seat) }
     ensures ok { OnOk result (acts.new.items ≡ acts.old.items ++ spec.opened_acts (scope_view scope.now)
         (known names.now) (shown before.now) nodes.now node seat (head_of element.now) class
         (opening_flaw (scope_view scope.now).imports node seat (head_of element.now) class)) }
@@ -71,7 +76,7 @@ fn add_class(
                 acts,
                 element.position,
                 class,
-                seat_step(before, nodes, node, seat),
+                seat_step(before, nodes, node, seat, rank),
             )?;
             let attributes = element.attributes.as_slice();
             add_attributes(alloc, scope, names, class, node, attributes, acts)

@@ -9,6 +9,7 @@ mod pieces;
 mod references;
 mod sheets;
 
+pub use counting::{no_counts, rank_of};
 pub use instances::add_root_attributes;
 pub use opening::{Stand, stand_at, stand_step};
 pub use pieces::add_piece;

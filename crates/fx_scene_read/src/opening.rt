@@ -4,7 +4,7 @@ ghost use Rattle.fx_doc.specs.Views.{attr_view};
 ghost use Rattle.fx_scene_outline.specs.Views.{head_of, shown};
 ghost use Rattle.fx_scene_read.specs.Opening as spec;
 
-use crate::counting::{children, node_at};
+use crate::counting::node_at;
 use fx_base::Text;
 use fx_doc::{Attribute, Element};
 use fx_kinds::Class;
@@ -79,16 +79,15 @@ fn limit_flaw(node: usize) -> Option<Flaw>
     }
 }
 
-/// Where a node comes to stand, behind these pieces with these ordinals.
-pub fn stand_at(before: &[Piece<'_>], nodes: &[usize], seat: Seat) -> Stand
+/// Where a node comes to stand, behind these pieces with these ordinals; as a child it is the one at this place.
+pub fn stand_at(before: &[Piece<'_>], nodes: &[usize], seat: Seat, rank: usize) -> Stand
+    requires { rank ≡ spec.rank_in (shown before.now) (spec.owner_in seat) }
     ensures { result ≡ spec.stand_at (shown before.now) nodes.now seat }
 {
+    let _before = before;
     match seat {
         Seat::Root => Stand::Root,
-        Seat::Child(owner) => {
-            let place = Spot::At(children(owner, before));
-            Stand::Below(node_at(owner, nodes), place)
-        }
+        Seat::Child(owner) => Stand::Below(node_at(owner, nodes), Spot::At(rank)),
         Seat::Edge(owner, edge) => Stand::Below(node_at(owner, nodes), Spot::On(edge)),
         Seat::Aside | Seat::Nowhere => Stand::Aside,
     }
@@ -105,14 +104,16 @@ pub fn stand_step(stand: Stand, node: usize) -> Option<PlannedStep>
     }
 }
 
-/// The step by which a node comes to stand in a seat.
+/// The step by which a node comes to stand in a seat; as a child it is the one at this place.
 pub(crate) fn seat_step(
     before: &[Piece<'_>],
     nodes: &[usize],
     node: usize,
     seat: Seat,
+    rank: usize,
 ) -> Option<PlannedStep>
+    requires { rank ≡ spec.rank_in (shown before.now) (spec.owner_in seat) }
     ensures { result ≡ spec.seat_step (shown before.now) nodes.now node seat }
 {
-    stand_step(stand_at(before, nodes, seat), node)
+    stand_step(stand_at(before, nodes, seat, rank), node)
 }

@@ -2,6 +2,7 @@
 ghost use Rattle.std.specs.Prelude.{◌≡◌, ◌++◌, Ok, OnOk};
 ghost use Rattle.fx_scene_elements.specs.Added.{flaw_in};
 ghost use Rattle.fx_scene_outline.specs.Views.{content_of, head_of, piece_view, shown};
+ghost use Rattle.fx_scene_read.specs.Opening.{rank_of};
 ghost use Rattle.fx_scene_read.specs.Pieces as spec;
 ghost use Rattle.fx_scene_things.specs.Known.{known};
 ghost use Rattle.fx_scene_values.specs.Views.{scope_view};
@@ -21,8 +22,8 @@ use fx_scene_values::Scope;
 use std::alloc::{AllocError, Global};
 
 /// Adds what a piece asks for behind these pieces, with the ordinals that they have: an element with its own name
-/// first, then its attributes from left to right. An instance is the node of this ordinal. Of an include nothing is
-/// added, since what it asks for is told where its document is read.
+/// first, then its attributes from left to right. An instance is the node of this ordinal, and the child at this place if
+/// it is one (`rank_of`). Of an include nothing is added, since what it asks for is told where its document is read.
 #[tactic(auto, unfolding(crate::specs::Pieces::piece_told))]
 pub fn add_piece(
     alloc: Global,
@@ -31,10 +32,12 @@ pub fn add_piece(
     nodes: &[usize],
     node: usize,
     piece: &Piece<'_>,
+    rank: usize,
     names: &mut Names,
     lanes: &mut Vec<Lane>,
     acts: &mut Vec<Act>,
 ) -> Result<(), AllocError>
+    requires { rank ≡ rank_of (shown before.now) (piece_view piece.now) }
     ensures acts { OnOk result (acts.new.items ≡ acts.old.items ++ (spec.piece_told (scope_view scope.now)
         (known names.old) lanes.old.items (shown before.now) nodes.now node (piece_view piece.now)).acts) }
     ensures lanes { OnOk result (lanes.new.items ≡ lanes.old.items ++ (spec.piece_told (scope_view scope.now)
@@ -45,12 +48,12 @@ pub fn add_piece(
     match piece {
         Piece::Instance(seat, element) => {
             add_instance(
-                alloc, scope, names, before, nodes, node, *seat, element, acts,
+                alloc, scope, names, before, nodes, node, *seat, rank, element, acts,
             )?;
             add_name(alloc, element, node, names)
         }
         Piece::Reference(seat, element) => {
-            add_reference(names, before, nodes, *seat, element, acts)
+            add_reference(names, before, nodes, *seat, rank, element, acts)
         }
         Piece::Include(_, _) => Ok(()),
         Piece::Value(element) => add_value(alloc, scope, element, names, acts),

@@ -4,6 +4,7 @@ ghost use Rattle.std.specs.List.{flat_map};
 ghost use Rattle.fx_doc.specs.Views.{attr_view};
 ghost use Rattle.fx_scene_things.specs.Known.{known};
 ghost use Rattle.fx_scene_outline.specs.Views.{head_of, shown};
+ghost use Rattle.fx_scene_read.specs.Opening.{owner_in, rank_in};
 ghost use Rattle.fx_scene_read.specs.References as spec;
 
 use crate::opening::seat_step;
@@ -26,14 +27,25 @@ pub(crate) fn add_reference(
     before: &[Piece<'_>],
     nodes: &[usize],
     seat: Seat,
+    rank: usize,
     element: &Element,
     acts: &mut Vec<Act>,
 ) -> Result<(), AllocError>
+    requires { rank ≡ rank_in (shown before.now) (owner_in seat) }
     ensures ok { OnOk result (acts.new.items ≡ acts.old.items ++ spec.reference_acts (known names.now)
         (shown before.now) nodes.now seat (head_of element.now)) }
 {
     match value_at(element.attributes.as_slice(), "source") {
-        Some(name) => add_open(names, before, nodes, seat, element, name.as_str(), acts),
+        Some(name) => add_open(
+            names,
+            before,
+            nodes,
+            seat,
+            rank,
+            element,
+            name.as_str(),
+            acts,
+        ),
         None => push_flaw(acts, element.position, Flaw::Value),
     }
 }
@@ -43,17 +55,19 @@ fn add_open(
     before: &[Piece<'_>],
     nodes: &[usize],
     seat: Seat,
+    rank: usize,
     element: &Element,
     name: &str,
     acts: &mut Vec<Act>,
 ) -> Result<(), AllocError>
+    requires { rank ≡ rank_in (shown before.now) (owner_in seat) }
     ensures ok { OnOk result (acts.new.items ≡ acts.old.items ++ spec.open_reference (known names.now)
         (shown before.now) nodes.now seat (head_of element.now) name.now) }
 {
     if is_closed(seat) {
         return push_flaw(acts, element.position, Flaw::Child);
     }
-    add_named(names, before, nodes, seat, element, name, acts)
+    add_named(names, before, nodes, seat, rank, element, name, acts)
 }
 
 fn is_closed(seat: Seat) -> bool
@@ -67,10 +81,12 @@ fn add_named(
     before: &[Piece<'_>],
     nodes: &[usize],
     seat: Seat,
+    rank: usize,
     element: &Element,
     name: &str,
     acts: &mut Vec<Act>,
 ) -> Result<(), AllocError>
+    requires { rank ≡ rank_in (shown before.now) (owner_in seat) }
     ensures ok { OnOk result (acts.new.items ≡ acts.old.items ++ spec.named_reference (known names.now)
         (shown before.now) nodes.now seat (head_of element.now) name.now) }
 {
@@ -79,6 +95,7 @@ fn add_named(
         before,
         nodes,
         seat,
+        rank,
         element.position,
         names.node(name),
         acts,
@@ -115,15 +132,21 @@ fn add_seated(
     before: &[Piece<'_>],
     nodes: &[usize],
     seat: Seat,
+    rank: usize,
     place: Position,
     known: Option<Named>,
     acts: &mut Vec<Act>,
 ) -> Result<(), AllocError>
+    requires { rank ≡ rank_in (shown before.now) (owner_in seat) }
     ensures ok { OnOk result (acts.new.items
         ≡ acts.old.items ++ spec.seated_acts (shown before.now) nodes.now seat place known) }
 {
     match known {
-        Some(known) => push_step(acts, place, seat_step(before, nodes, known.node, seat)),
+        Some(known) => push_step(
+            acts,
+            place,
+            seat_step(before, nodes, known.node, seat, rank),
+        ),
         None => push_flaw(acts, place, Flaw::Child),
     }
 }

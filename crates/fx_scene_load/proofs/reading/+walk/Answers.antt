@@ -30,7 +30,7 @@ use Rattle.fx_scene_things.specs.Names.{Names}
 use Rattle.fx_scene_things.specs.Settled.{Settled}
 use Rattle.fx_scene_things.specs.declared.settled.Settled.{Settled as HeldSettled}
 use Rattle.fx_scene_course.proofs.ActLemmas.{counted, on_both, on_ok}
-use Rattle.fx_scene_load.proofs.ReadLemmas.{asked_is_roomy, deep_read, defined_more, ends, files_roomed, included_read, inner_read, inner_whole, inside_read, next_read, none_defined, plain_read, steps_on, stops, told_included, told_misplaced, told_refused, told_unread_on, told_wanted, whole_read}
+use Rattle.fx_scene_load.proofs.ReadLemmas.{asked_is_roomy, counted_on, deep_read, defined_more, ends, files_roomed, included_read, inner_read, inner_whole, inside_read, next_read, none_defined, plain_read, steps_on, stops, told_included, told_misplaced, told_refused, told_unread_on, told_wanted, whole_read}
 use Rattle.fx_scene_load.proofs.reading.+walk.Goals as goal
 
 pub read_include-read_wanted-requires : goal.read_include-read_wanted-requires
@@ -153,6 +153,9 @@ read_pieces-loop-index-preserved g n c = record {
       c.args.pieces.now c.split_at.result.0.now c.loop-index.index c.index-pieces-index.result c.loop-index-test.true
       c.index-pieces-index.is c.split_at.ensures.front (c.loop-index.invariant.completes files e) c.if-course.false
       (c.in_ok-read_piece.ensures.done files (c.loop-index.invariant.same ∙ e));
+  counted = counted_on c.args.pieces.now c.split_at.result.0.now c.loop-index.index c.index-pieces-index.result
+      c.rank_of-rank.new.counts.items c.loop-index-test.true c.index-pieces-index.is c.split_at.ensures.front
+      c.rank_of-rank.ensures.counted;
 }
 
 pub read_pieces-returns-clause-done : goal.read_pieces-returns-clause-done

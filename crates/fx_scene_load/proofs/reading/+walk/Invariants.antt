@@ -7,6 +7,7 @@ use Rattle.fx_scene_elements.specs.Elements.{Told}
 use Rattle.fx_scene_course.specs.Courses.{Course}
 use Rattle.fx_scene_load.specs.Reading.{IsToldRead}
 use Rattle.fx_scene_outline.specs.Views.{defined_shown, piece_view, shown}
+use Rattle.fx_scene_read.specs.Opening.{AreCounted}
 use Rattle.fx_scene_things.specs.Known.{settled_view}
 use Rattle.fx_scene_load.proofs.ReadLemmas.{Completes}
 use Rattle.fx_scene_load.proofs.reading.+walk.Given as goal
@@ -53,6 +54,7 @@ invariant-read_pieces-loop-index g l =
       completes : (files : Files) → shelf.held l.fn.shelf ≡ Some files
           → Completes files (open_view l.here) l.room (desk_view [] l.fn.desk) (course_view l.fn.course) l.pieces
           (desk_view (shown (take l.index l.pieces)) l.desk) (course_view l.course) l.index;
+      counted : AreCounted (shown (take l.index l.pieces)) l.counts.items;
     }
 
 abbrev pub invariant-read_all_defined-loop-element : goal.invariant-read_all_defined-loop-element

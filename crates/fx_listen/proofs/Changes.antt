@@ -1,8 +1,8 @@
 -- What an addition, a removal and forgetting leave: sorted listeners whose numbers were given.
-use Rattle.std.proofs.Common.{◌≡◌, ◌==◌, ℕ, zero, suc, ◌+◌, ◌-◌, ◌*◌, ◌<◌, ◌≤◌, Bool, true, false, not, ◌||◌, ltb, List, [], ◌∷◌, ◌++◌, length, get_or, take, drop, filter, slice_range, position, Option, Some, None, All, AllPairs, refl, sym, ◌∙◌, ap, inl, inr, arith}
+use Rattle.std.proofs.Common.{◌≡◌, ◌==◌, ℕ, zero, suc, ◌+◌, ◌-◌, ◌*◌, ◌<◌, ◌≤◌, Bool, true, false, not, ◌||◌, leb, ltb, List, [], ◌∷◌, ◌++◌, length, get_or, take, drop, filter, slice_range, position, Option, Some, None, All, AllPairs, refl, sym, ◌∙◌, ap, inl, inr, arith}
 use Rattle.std.specs.List.{list_any, remove}
-use Rattle.std.proofs.lemmas.Bool.{and_left, cases_lt, cond_both, leb-true, lt-ltb, ltb-true, ne_eqb, or_parts}
-use Rattle.std.proofs.lemmas.List.{get_or-take, length-take-le}
+use Rattle.std.proofs.lemmas.Bool.{and_left, cases_lt, cond_both, leb-true, lt-leb, lt-ltb, ltb-true, ne_eqb, or_parts}
+use Rattle.std.proofs.lemmas.List.{get_or-take, length-take-le, take-append-drop}
 use Rattle.std.proofs.lemmas.List.Edits.{get_or-between, length-between, split_between}
 use Rattle.std.proofs.lemmas.List.Elements.{All-append, All-cons, All-filter, All-tail, All-head, All-weaker, filter_passes}
 use Rattle.std.proofs.lemmas.List.Filters.{length-filter_both}
@@ -29,10 +29,22 @@ pruned-crowded living all live counted crowded =
     let more : ltb (2 * length (living_in living all)) (length all) ≡ true = lt-ltb _ _ (omega (arith, counted, crowded)) in
     rw more refl
 
+-- the living are at most all
+pub not_full : (living : List Owner) (all : List Listener) → length all < 10000
+    → false ≡ leb 10000 (length (living_in living all))
+not_full living all few =
+    sym (lt-leb 10000 (length (living_in living all)) (omega (arith, few, length-living_in living all)))
+
 pub IsByName-pruned : (living : List Owner) (all : List Listener) → IsByName all → IsByName (pruned living all)
 IsByName-pruned living all sorted =
     cond_both (ltb (2 * length (living_in living all)) (length all)) (living_in living all) all IsByName
     (λ _. AllPairs-filter (λ (one other : Listener). one.name.0 ≤ other.name.0) (is_live living) all sorted) (λ _. sorted)
+
+-- nobody is taken out between a place and itself
+pub none_between : (all : List Listener) (first next : ℕ) → first ≤ next → next ≤ first → all ≡ take first all ++ drop next all
+none_between all first next order none =
+    let same : next ≡ first = omega (arith, order, none) in
+    sym (ap (λ (n : ℕ). take first all ++ drop n all) same ∙ take-append-drop first all)
 
 -- the first that passes
 

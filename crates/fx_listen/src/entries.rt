@@ -1,10 +1,11 @@
 //! One listener, and what is found among listeners that are sorted by property. `Listeners` keeps one such list.
-ghost use Rattle.std.specs.Prelude.{◌≡◌, ◌==◌, false, ◌&&◌, ◌++◌, ◌<◌, ◌≤◌, drop, filter, length, map, position, slice_range, take, vec_capacity, vec_len, IfNone, IfOk, IfSome, OnErr, OnOk};
+ghost use Rattle.std.specs.Prelude.{◌≡◌, ◌==◌, false, ◌&&◌, ◌++◌, ◌<◌, ◌≤◌, drop, filter, length, map, nat_le, position, slice_range, take, vec_capacity, vec_len, IfNone, IfOk, IfSome, OnErr, OnOk};
 ghost use Rattle.std.specs.List.{find, list_any};
 ghost use Rattle.std.specs.Option.{option_map};
 ghost use Rattle.fx_listen.specs.Listening as spec;
 ghost use Rattle.fx_listen.specs.Sorting.{IsByName, IsFirst, is_above, is_below, is_from, is_heard, is_on, is_upto};
 
+use crate::MOST_LIVE;
 use fx_base::Name;
 use fx_handles::{Owner, Owners};
 use std::alloc::{AllocError, Global};
@@ -190,6 +191,16 @@ pub fn count_live(owners: &Owners, listeners: &[Listener]) -> usize
         .count()
 }
 
+/// Whether so many live that no more may be added. Fewer than these are not looked at.
+pub fn is_full_of_living(owners: &Owners, listeners: &[Listener]) -> bool
+    ensures { result ≡ nat_le 10000 (length (spec.living_in owners.now.living listeners.now)) }
+{
+    if listeners.len() < MOST_LIVE {
+        return false;
+    }
+    count_live(owners, listeners) >= MOST_LIVE
+}
+
 /// The place of the first equal one among those of one property.
 fn place_among(
     listeners: &[Listener],
@@ -288,11 +299,13 @@ pub fn remove_first(
     }
 }
 
-/// Takes out all on the property.
+/// Takes out all on the property. Where there are none, nothing is moved.
 pub fn forget(listeners: &mut Vec<Listener>, name: Name)
     requires { IsByName listeners.old.items }
     ensures { listeners.new.items ≡ filter (spec.is_elsewhere name.0) listeners.old.items }
 {
     let (first, next) = places_on(listeners.as_slice(), name);
-    listeners.drain(first..next);
+    if first < next {
+        listeners.drain(first..next);
+    }
 }

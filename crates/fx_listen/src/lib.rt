@@ -12,7 +12,7 @@ ghost use Rattle.std.specs.List.{find, list_any};
 ghost use Rattle.std.specs.Option.{option_map};
 ghost use Rattle.std.specs.Prelude.{◌≡◌, ◌==◌, ◌&&◌, ◌+◌, filter, IfOk, OnErr, OnOk};
 
-use entries::{count_live, heard, is_any_heard, listeners_on, numbers_heard};
+use entries::{count_live, heard, is_any_heard, is_full_of_living, listeners_on, numbers_heard};
 pub use entries::{ListenKind, Listener, has_life};
 use fx_base::Name;
 use fx_handles::{Owner, Owners};
@@ -129,8 +129,7 @@ impl Listeners {
         if !has_life(owners, owner) {
             return Some(ListenError::StaleOwner);
         }
-        let live = count_live(owners, self.entries.as_slice());
-        if live >= MOST_LIVE || self.given == u32::MAX {
+        if is_full_of_living(owners, self.entries.as_slice()) || self.given == u32::MAX {
             return Some(ListenError::Full);
         }
         None

@@ -1,3 +1,4 @@
 pub mod Gathered
+pub mod Halving
 pub mod Joining
 pub mod Leaving

@@ -1,3 +1,4 @@
 pub mod Gathering
 pub mod Laws
 pub mod Pairs
+pub mod Rising

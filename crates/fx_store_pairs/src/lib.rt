@@ -4,6 +4,7 @@
 mod grouping;
 mod laws;
 mod pairs;
+mod searching;
 mod walking;
 
 pub use laws::{joined_is_walked, joining_is_an_equivalence, joining_is_least, pairs_are_joined};

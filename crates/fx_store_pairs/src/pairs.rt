@@ -82,7 +82,7 @@ impl Pairs {
         }
     }
 
-    /// Ends all pairs of these names.
+    /// Ends all pairs of these names. Where the names rise, each pair looks for its two by halves.
     pub fn forget(&mut self, names: &[Name])
         ensures { self.new ≡ filter (λ (pair : ℕ × ℕ). not (is_touched (numbers names.now) pair)) self.old }
     {

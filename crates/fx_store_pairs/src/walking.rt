@@ -3,8 +3,10 @@ ghost use Rattle.std.specs.Prelude.{◌≡◌, ℕ, filter, not};
 ghost use Rattle.std.specs.List.{position_or_len};
 ghost use Rattle.fx_base.specs.Names.{numbers};
 ghost use Rattle.fx_store_pairs.specs.Pairs.{is_pair, pairs_of, is_touched};
+ghost use Rattle.fx_store_pairs.specs.Rising.{DoRise};
 ghost use Rattle.fx_store_pairs.specs.Pairs.{is_among as stands_among, is_end as is_end_of, is_paired as has_partner};
 
+use crate::searching::{do_rise, has_name};
 use fx_base::Name;
 
 /// Whether the name is one of these.
@@ -54,10 +56,38 @@ fn touches(names: &[Name], pair: &(Name, Name)) -> bool
     is_among(names, pair.0) || is_among(names, pair.1)
 }
 
-/// Leaves the pairs of which neither name is one of these.
-pub fn drop_touched(pairs: &mut Vec<(Name, Name)>, names: &[Name])
+/// Leaves the pairs of which neither name is one of these, each looked for among all.
+fn drop_any(pairs: &mut Vec<(Name, Name)>, names: &[Name])
     ensures { pairs_of pairs.new.items ≡ filter (λ (pair : ℕ × ℕ). not (is_touched (numbers names.now) pair))
         (pairs_of pairs.old.items) }
 {
     pairs.retain(|pair| !touches(names, pair));
+}
+
+fn touches_rising(names: &[Name], pair: &(Name, Name)) -> bool
+    requires { DoRise names.now }
+    ensures { result ≡ is_touched (numbers names.now) (pair.now.0.0, pair.now.1.0) }
+{
+    has_name(names, pair.0) || has_name(names, pair.1)
+}
+
+/// Leaves the pairs of which neither name is one of these, each looked for by halves.
+fn drop_rising(pairs: &mut Vec<(Name, Name)>, names: &[Name])
+    requires { DoRise names.now }
+    ensures { pairs_of pairs.new.items ≡ filter (λ (pair : ℕ × ℕ). not (is_touched (numbers names.now) pair))
+        (pairs_of pairs.old.items) }
+{
+    pairs.retain(|pair| !touches_rising(names, pair));
+}
+
+/// Leaves the pairs of which neither name is one of these. Where the names rise, this costs little for each pair.
+pub fn drop_touched(pairs: &mut Vec<(Name, Name)>, names: &[Name])
+    ensures { pairs_of pairs.new.items ≡ filter (λ (pair : ℕ × ℕ). not (is_touched (numbers names.now) pair))
+        (pairs_of pairs.old.items) }
+{
+    if do_rise(names) {
+        drop_rising(pairs, names);
+    } else {
+        drop_any(pairs, names);
+    }
 }

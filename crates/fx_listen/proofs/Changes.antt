@@ -1,7 +1,7 @@
 -- What an addition, a removal and forgetting leave: sorted listeners whose numbers were given.
-use Rattle.std.proofs.Common.{◌≡◌, ◌==◌, ℕ, zero, suc, ◌+◌, ◌-◌, ◌*◌, ◌<◌, ◌≤◌, Bool, true, false, not, ◌||◌, leb, ltb, List, [], ◌∷◌, ◌++◌, length, get_or, take, drop, filter, slice_range, position, Option, Some, None, All, AllPairs, refl, sym, ◌∙◌, ap, inl, inr, arith}
+use Rattle.std.proofs.Common.{◌≡◌, ◌==◌, ℕ, zero, suc, ◌+◌, ◌-◌, ◌<◌, ◌≤◌, Bool, true, false, not, ◌||◌, leb, ltb, List, [], ◌∷◌, ◌++◌, length, get_or, take, drop, filter, slice_range, position, Option, Some, None, All, AllPairs, refl, sym, ◌∙◌, ap, inl, inr, arith}
 use Rattle.std.specs.List.{list_any, remove}
-use Rattle.std.proofs.lemmas.Bool.{and_left, cases_lt, cond_both, leb-true, lt-leb, lt-ltb, ltb-true, ne_eqb, or_parts}
+use Rattle.std.proofs.lemmas.Bool.{and_left, cases_lt, cond_both, le-leb, leb-true, lt-leb, ltb-true, ne_eqb, or_parts}
 use Rattle.std.proofs.lemmas.List.{get_or-take, length-take-le, take-append-drop}
 use Rattle.std.proofs.lemmas.List.Edits.{get_or-between, length-between, split_between}
 use Rattle.std.proofs.lemmas.List.Elements.{All-append, All-cons, All-filter, All-tail, All-head, All-weaker, filter_passes}
@@ -23,11 +23,12 @@ pub length-living_in : (living : List Owner) (all : List Listener) → length (l
 length-living_in living all =
     omega (arith, length-filter_both (is_live living) (λ (l : Listener). not (is_live living l)) (λ _. refl) all)
 
-pub pruned-crowded : (living : List Owner) (all : List Listener) (live : ℕ)
-    → live ≡ length (living_in living all) → live < length all - live → filter (is_live living) all ≡ pruned living all
-pruned-crowded living all live counted crowded =
-    let more : ltb (2 * length (living_in living all)) (length all) ≡ true = lt-ltb _ _ (omega (arith, counted, crowded)) in
-    rw more refl
+pub pruned-many : (living : List Owner) (all : List Listener) → 10000 ≤ length all
+    → filter (is_live living) all ≡ pruned living all
+pruned-many living all many = rw (le-leb 10000 (length all) many) refl
+
+pub pruned-few : (living : List Owner) (all : List Listener) → length all < 10000 → all ≡ pruned living all
+pruned-few living all few = rw (lt-leb 10000 (length all) few) refl
 
 -- the living are at most all
 pub not_full : (living : List Owner) (all : List Listener) → length all < 10000
@@ -37,7 +38,7 @@ not_full living all few =
 
 pub IsByName-pruned : (living : List Owner) (all : List Listener) → IsByName all → IsByName (pruned living all)
 IsByName-pruned living all sorted =
-    cond_both (ltb (2 * length (living_in living all)) (length all)) (living_in living all) all IsByName
+    cond_both (leb 10000 (length all)) (living_in living all) all IsByName
     (λ _. AllPairs-filter (λ (one other : Listener). one.name.0 ≤ other.name.0) (is_live living) all sorted) (λ _. sorted)
 
 -- nobody is taken out between a place and itself
@@ -165,12 +166,12 @@ All-placed P listener all holds each =
 
 All-pruned : (P : Listener → Type 0) (living : List Owner) (all : List Listener) → All P all → All P (pruned living all)
 All-pruned P living all each =
-    cond_both (ltb (2 * length (living_in living all)) (length all)) (living_in living all) all (All P)
+    cond_both (leb 10000 (length all)) (living_in living all) all (All P)
     (λ _. All-filter (is_live living) P all each) (λ _. each)
 
 AllPairs-pruned : (living : List Owner) (all : List Listener) → AllPairs IsBefore all → AllPairs IsBefore (pruned living all)
 AllPairs-pruned living all sorted =
-    cond_both (ltb (2 * length (living_in living all)) (length all)) (living_in living all) all (AllPairs IsBefore)
+    cond_both (leb 10000 (length all)) (living_in living all) all (AllPairs IsBefore)
     (λ _. AllPairs-filter IsBefore (is_live living) all sorted) (λ _. sorted)
 
 All-without_first : (P : Listener → Type 0) (test : Listener → Bool) (all : List Listener) → All P all → All P (without_first test all)

@@ -1,5 +1,5 @@
 -- Over every list of calls numbers are given once, and pruning changes nobody who is live later.
-use Rattle.std.proofs.Common.{◌≡◌, ℕ, ◌+◌, ◌*◌, ◌&&◌, ltb, List, [], ◌∷◌, ◌++◌, length, refl, sym, ◌∙◌, ap, inl, inr, add-one, arith, length-append}
+use Rattle.std.proofs.Common.{◌≡◌, ℕ, ◌+◌, ◌&&◌, leb, List, [], ◌∷◌, ◌++◌, length, refl, sym, ◌∙◌, ap, inl, inr, add-one, arith, length-append}
 use Rattle.std.specs.List.{range_with_len}
 use Rattle.std.proofs.lemmas.Bool.{and_from, and_right, cases_Bool, cond_both}
 use Rattle.fx_handles.proofs.Given.{range_with_len-suc}
@@ -34,7 +34,7 @@ each_number_once _ _ (forgotten {listeners} {table} name before) = each_number_o
 
 pub pruning_is_silent : PruningIsSilent
 pruning_is_silent living later entries lived =
-    cond_both (ltb (2 * length (living_in living entries)) (length entries)) (living_in living entries) entries
+    cond_both (leb 10000 (length entries)) (living_in living entries) entries
     (λ (l : List Listener). living_in later l ≡ living_in later entries)
     (λ _.
     filter-filter (is_live later) (is_live living) entries

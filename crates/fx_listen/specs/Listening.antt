@@ -1,7 +1,7 @@
 -- The listeners of properties: who is told of a change, by property and then by number. A listener may have an owner,
 -- and is dead where its owner is. Source: JavaFX 21 (`InvalidationListener`, `ChangeListener` and their weak forms),
 -- with release in the place of garbage collection.
-use Rattle.std.specs.Prelude.{ℕ, ◌*◌, ◌==◌, ◌≡◌, ◌<◌, ◌≤◌, ◌⊎◌, nat_lt, nat_le, Bool, true, false, if◌then◌else◌, not, ◌&&◌, ◌||◌, List, [], ◌∷◌, ◌++◌, length, map, filter, All, AllPairs, Option, Some, None}
+use Rattle.std.specs.Prelude.{ℕ, ◌==◌, ◌≡◌, ◌<◌, ◌≤◌, ◌⊎◌, nat_lt, nat_le, Bool, true, false, if◌then◌else◌, not, ◌&&◌, ◌||◌, List, [], ◌∷◌, ◌++◌, length, map, filter, All, AllPairs, Option, Some, None}
 use Rattle.std.specs.List.{list_any}
 use Rattle.fx_handles.specs.declared.Owner.{Owner}
 use Rattle.fx_handles.specs.Living.{is_same}
@@ -62,10 +62,10 @@ placed listener entries =
     filter (λ (other : Listener). nat_le other.name.0 listener.name.0) entries
     ++ listener ∷ filter (λ (other : Listener). nat_lt listener.name.0 other.name.0) entries
 
--- without the dead, where these are more than half
+-- without the dead, where there are 10,000 in all
 abbrev pub pruned : List Owner → List Listener → List Listener
 pruned living entries =
-    if nat_lt (2 * length (living_in living entries)) (length entries) then living_in living entries else entries
+    if nat_le 10000 (length entries) then living_in living entries else entries
 
 abbrev pub after_add : List Owner → Listener → Table → Table
 after_add living listener table =

@@ -182,7 +182,7 @@ fn tag_among(owners: &Owners, listeners: &[Listener], number: u32) -> Option<u32
 }
 
 /// How many of them live.
-pub fn count_live(owners: &Owners, listeners: &[Listener]) -> usize
+fn count_live(owners: &Owners, listeners: &[Listener]) -> usize
     ensures { result ≡ length (spec.living_in owners.now.living listeners.now) }
 {
     listeners
@@ -233,14 +233,13 @@ pub fn place_of(
     Some(first + place)
 }
 
-/// Takes the dead out where they are more than half.
-fn prune(listeners: &mut Vec<Listener>, owners: &Owners, live: usize)
-    requires { live ≡ length (spec.living_in owners.now.living listeners.old.items) }
+/// Takes the dead out where there are as many as may live.
+fn prune(listeners: &mut Vec<Listener>, owners: &Owners)
     ensures pruned { listeners.new.items ≡ spec.pruned owners.now.living listeners.old.items }
     ensures room { vec_capacity listeners.new ≡ vec_capacity listeners.old }
     ensures fewer { vec_len listeners.new ≤ vec_len listeners.old }
 {
-    if live < listeners.len() - live {
+    if listeners.len() >= MOST_LIVE {
         listeners.retain(|listener| listener.is_live(owners));
     }
 }
@@ -258,21 +257,19 @@ fn insert(listeners: &mut Vec<Listener>, listener: Listener)
     }
 }
 
-/// Adds the listener where so many live, or leaves all as it was.
+/// Adds the listener, or leaves all as it was.
 pub fn add(
     listeners: &mut Vec<Listener>,
     owners: &Owners,
-    live: usize,
     listener: Listener,
 ) -> Result<(), AllocError>
     requires sorted { IsByName listeners.old.items }
-    requires counted { live ≡ length (spec.living_in owners.now.living listeners.old.items) }
     ensures ok { OnOk result (listeners.new.items
         ≡ spec.placed listener (spec.pruned owners.now.living listeners.old.items)) }
     ensures err { OnErr result (listeners.new.items ≡ listeners.old.items) }
 {
     listeners.reserve(1)?;
-    prune(listeners, owners, live);
+    prune(listeners, owners);
     insert(listeners, listener);
     Ok(())
 }

@@ -12,7 +12,7 @@ ghost use Rattle.std.specs.List.{find, list_any};
 ghost use Rattle.std.specs.Option.{option_map};
 ghost use Rattle.std.specs.Prelude.{◌≡◌, ◌==◌, ◌&&◌, ◌+◌, filter, IfOk, OnErr, OnOk};
 
-use entries::{count_live, heard, is_any_heard, is_full_of_living, listeners_on, numbers_heard};
+use entries::{heard, is_any_heard, is_full_of_living, listeners_on, numbers_heard};
 pub use entries::{ListenKind, Listener, has_life};
 use fx_base::Name;
 use fx_handles::{Owner, Owners};
@@ -57,7 +57,8 @@ impl From<AllocError> for ListenError {
     }
 }
 
-/// The listeners of all properties, with the dead among them until there are more dead than living.
+/// The listeners of all properties. The dead stay among them until there are as many as may live, so that adding one
+/// counts nobody before.
 #[derive(Drop)]
 pub struct Listeners {
     entries: Vec<Listener>,
@@ -105,8 +106,7 @@ impl Listeners {
         if !has_life(owners, owner) {
             return Err(ListenError::StaleOwner);
         }
-        let live = count_live(owners, self.entries.as_slice());
-        if live >= MOST_LIVE || self.given == u32::MAX {
+        if is_full_of_living(owners, self.entries.as_slice()) || self.given == u32::MAX {
             return Err(ListenError::Full);
         }
         let number = self.given + 1;
@@ -117,7 +117,7 @@ impl Listeners {
             owner,
             tag,
         };
-        entries::add(&mut self.entries, owners, live, listener)?;
+        entries::add(&mut self.entries, owners, listener)?;
         self.given = number;
         Ok(number)
     }

@@ -1,5 +1,5 @@
 -- What is left where pairs or listeners are taken out, where an owner is released, and where one listener is added.
-use Rattle.std.proofs.Common.{◌≡◌, ℕ, ◌==◌, ◌≤◌, ◌*◌, ◌⊎◌, nat_lt, Bool, true, false, not, cond, List, [], ◌∷◌, length, filter, Contains, Some, arith, sym, subst, ap, inl, inr, ◌∙◌}
+use Rattle.std.proofs.Common.{◌≡◌, ℕ, ◌==◌, ◌≤◌, ◌⊎◌, nat_le, Bool, true, false, not, cond, List, [], ◌∷◌, length, filter, Contains, Some, arith, sym, subst, ap, inl, inr, ◌∙◌}
 use Rattle.std.proofs.lemmas.Bool.{and_parts, cases_Bool, cond_both, eqb-true, or_cases, or_left, or_right}
 use Rattle.std.proofs.lemmas.List.Elements.{All-contains, All-filter, Contains-append_cases}
 use Rattle.fx_store_model.specs.Stored.{is_heard}
@@ -130,7 +130,7 @@ known_placed es listener listeners new known =
 pub known_pruned : (es : List Entry) (living : List Owner) (listeners : List Listener) → AreOnKnown es listeners
     → AreOnKnown es (pruned living listeners)
 known_pruned es living listeners known =
-    cond_both (nat_lt (2 * length (living_in living listeners)) (length listeners)) (living_in living listeners) listeners (AreOnKnown es)
+    cond_both (nat_le 10000 (length listeners)) (living_in living listeners) listeners (AreOnKnown es)
     (λ _. All-filter (is_live living) (λ (l : Listener). unknown_in es l.name.0 ≡ false) listeners known) (λ _. known)
 
 -- one listener more, on a property that is read

@@ -1,71 +1,76 @@
--- The rows of the style table by their places.
-use Rattle.std.specs.Prelude.{ℕ, List, [], ◌∷◌}
+-- The rows that a look is read from, by their names in the style table.
+use Rattle.std.specs.Prelude.{ℕ, List, [], ◌∷◌, codes, unwrap_or}
+use Rattle.fx_look.specs.StyleRows.{style_named}
+
+-- the place of the row of this name
+abbrev row_at : List ℕ → ℕ
+row_at name = unwrap_or (style_named name) 0
 
 abbrev pub padding_row : ℕ
-padding_row = 0
+padding_row = row_at (codes "-fx-padding")
 
 abbrev pub alignment_row : ℕ
-alignment_row = 1
+alignment_row = row_at (codes "-fx-alignment")
 
 abbrev pub spacing_row : ℕ
-spacing_row = 2
+spacing_row = row_at (codes "-fx-spacing")
 
 abbrev pub hgap_row : ℕ
-hgap_row = 3
+hgap_row = row_at (codes "-fx-hgap")
 
 abbrev pub vgap_row : ℕ
-vgap_row = 4
+vgap_row = row_at (codes "-fx-vgap")
 
 abbrev pub fill_width_row : ℕ
-fill_width_row = 5
+fill_width_row = row_at (codes "-fx-fill-width")
 
 abbrev pub fill_height_row : ℕ
-fill_height_row = 6
+fill_height_row = row_at (codes "-fx-fill-height")
 
 abbrev pub min_width_row : ℕ
-min_width_row = 7
+min_width_row = row_at (codes "-fx-min-width")
 
 abbrev pub min_height_row : ℕ
-min_height_row = 8
+min_height_row = row_at (codes "-fx-min-height")
 
 abbrev pub pref_width_row : ℕ
-pref_width_row = 9
+pref_width_row = row_at (codes "-fx-pref-width")
 
 abbrev pub pref_height_row : ℕ
-pref_height_row = 10
+pref_height_row = row_at (codes "-fx-pref-height")
 
 abbrev pub max_width_row : ℕ
-max_width_row = 11
+max_width_row = row_at (codes "-fx-max-width")
 
 abbrev pub max_height_row : ℕ
-max_height_row = 12
+max_height_row = row_at (codes "-fx-max-height")
 
 abbrev pub background_color_row : ℕ
-background_color_row = 13
+background_color_row = row_at (codes "-fx-background-color")
 
 abbrev pub background_insets_row : ℕ
-background_insets_row = 14
+background_insets_row = row_at (codes "-fx-background-insets")
 
 abbrev pub border_color_row : ℕ
-border_color_row = 15
+border_color_row = row_at (codes "-fx-border-color")
 
 abbrev pub border_width_row : ℕ
-border_width_row = 16
+border_width_row = row_at (codes "-fx-border-width")
 
 abbrev pub border_insets_row : ℕ
-border_insets_row = 17
+border_insets_row = row_at (codes "-fx-border-insets")
 
 abbrev pub text_fill_row : ℕ
-text_fill_row = 18
+text_fill_row = row_at (codes "-fx-text-fill")
 
 abbrev pub font_size_row : ℕ
-font_size_row = 19
+font_size_row = row_at (codes "-fx-font-size")
 
 abbrev pub wrap_text_row : ℕ
-wrap_text_row = 20
+wrap_text_row = row_at (codes "-fx-wrap-text")
 
 abbrev pub visibility_row : ℕ
-visibility_row = 21
+visibility_row = row_at (codes "visibility")
 
 abbrev pub rows : List ℕ
 rows = padding_row ∷ alignment_row ∷ spacing_row ∷ hgap_row ∷ vgap_row ∷ fill_width_row ∷ fill_height_row

@@ -33,6 +33,7 @@ pub fn kept_paints(alloc: Global, rows: Rows<'_>) -> Result<Vec<NamedPaint>, All
     Ok(paints)
 }
 
+#[tactic(auto, unfolding(fx_look::specs::Styles::styles))]
 fn fill_value<'a>(rows: Rows<'a>) -> Option<Winning<'a>>
     requires wins { WinsBy rows.winners.now rows.sheets.now rows.matched.now rows.codes.now }
     ensures { option_map found_value result

@@ -10,7 +10,7 @@ use crate::{kinds, paints};
 use fx_base::{Color, List, Sides};
 use fx_cascade::Winners;
 use fx_css_types::{Candidate, SheetAt};
-use fx_look::{CodeValue, Look, StyleKey};
+use fx_look::{CodeValue, Look, STYLE_COUNT, StyleKey};
 use fx_lookup::NamedPaint;
 use std::alloc::{AllocError, Global};
 
@@ -26,7 +26,7 @@ pub struct Rows<'a> {
 impl Rows<'_> {
     fn length(self, row: usize, unset: i64, parent: i64) -> i64
         requires wins { WinsBy self.winners.now self.sheets.now self.matched.now self.codes.now }
-        requires there { row < 22 }
+        requires there { row < STYLE_COUNT }
         ensures { result ≡ length_in (rows_of self.entry row) unset parent }
     {
         kinds::length_in(
@@ -38,7 +38,7 @@ impl Rows<'_> {
 
     fn truth(self, row: usize, unset: bool, parent: bool) -> bool
         requires wins { WinsBy self.winners.now self.sheets.now self.matched.now self.codes.now }
-        requires there { row < 22 }
+        requires there { row < STYLE_COUNT }
         ensures { result ≡ truth_in (rows_of self.entry row) unset parent }
     {
         kinds::truth_in(
@@ -50,7 +50,7 @@ impl Rows<'_> {
 
     fn sides(self, row: usize, unset: Sides, parent: Sides) -> Sides
         requires wins { WinsBy self.winners.now self.sheets.now self.matched.now self.codes.now }
-        requires there { row < 22 }
+        requires there { row < STYLE_COUNT }
         ensures { result ≡ sides_in (rows_of self.entry row) unset parent }
     {
         kinds::sides_in(
@@ -62,7 +62,7 @@ impl Rows<'_> {
 
     fn place(self, row: usize, unset: u8, parent: u8) -> u8
         requires wins { WinsBy self.winners.now self.sheets.now self.matched.now self.codes.now }
-        requires there { row < 22 }
+        requires there { row < STYLE_COUNT }
         ensures { result ≡ place_in (rows_of self.entry row) unset parent }
     {
         kinds::place_in(
@@ -80,7 +80,7 @@ impl Rows<'_> {
         parent: &List<Sides>,
     ) -> Result<List<Sides>, AllocError>
         requires wins { WinsBy self.winners.now self.sheets.now self.matched.now self.codes.now }
-        requires there { row < 22 }
+        requires there { row < STYLE_COUNT }
         ensures { IfOk result (λ layers. layers ≡ layers_in (rows_of self.entry row) unset parent.now) }
     {
         kinds::layers_in(
@@ -102,7 +102,7 @@ impl<'a> Rows<'a> {
         parent: Color,
     ) -> Result<Color, AllocError>
         requires wins { WinsBy self.winners.now self.sheets.now self.matched.now self.codes.now }
-        requires there { row < 22 }
+        requires there { row < STYLE_COUNT }
         ensures { IfOk result (λ color. color
             ≡ color_in (resolved (map (λ n. n.now) chain.now)) (rows_of self.entry row) unset parent) }
     {
@@ -123,7 +123,7 @@ impl<'a> Rows<'a> {
         parent: &List<Color>,
     ) -> Result<List<Color>, AllocError>
         requires wins { WinsBy self.winners.now self.sheets.now self.matched.now self.codes.now }
-        requires there { row < 22 }
+        requires there { row < STYLE_COUNT }
         ensures { IfOk result (λ colors. colors
             ≡ colors_in (resolved (map (λ n. n.now) chain.now)) (rows_of self.entry row) parent.now) }
     {
@@ -195,6 +195,7 @@ struct Layers {
 }
 
 impl Rows<'_> {
+    #[tactic(auto, unfolding(fx_look::specs::Styles::styles))]
     fn lengths(self, parent: &Look) -> Lengths
         requires wins { WinsBy self.winners.now self.sheets.now self.matched.now self.codes.now }
         ensures { result ≡ lengths_of (rows_of self.entry) parent.now }
@@ -209,6 +210,7 @@ impl Rows<'_> {
         }
     }
 
+    #[tactic(auto, unfolding(fx_look::specs::Styles::styles))]
     fn spaces(self, parent: &Look) -> Spaces
         requires wins { WinsBy self.winners.now self.sheets.now self.matched.now self.codes.now }
         ensures { result ≡ spaces_of (rows_of self.entry) parent.now }
@@ -223,6 +225,7 @@ impl Rows<'_> {
         }
     }
 
+    #[tactic(auto, unfolding(fx_look::specs::Styles::styles))]
     fn truths(self, parent: &Look) -> Truths
         requires wins { WinsBy self.winners.now self.sheets.now self.matched.now self.codes.now }
         ensures { result ≡ truths_of (rows_of self.entry) parent.now }
@@ -236,6 +239,7 @@ impl Rows<'_> {
     }
 }
 
+#[tactic(auto, unfolding(fx_look::specs::Styles::styles))]
 fn layers_of<'a>(
     alloc: Global,
     rows: Rows<'a>,
@@ -288,7 +292,7 @@ fn layers_of<'a>(
 }
 
 /// The look of a node by its rows, its paints and its ancestors', and its parent's look.
-#[tactic(auto, unfolding(crate::specs::Looking::look_of))]
+#[tactic(auto, unfolding(crate::specs::Looking::look_of, fx_look::specs::Styles::styles))]
 pub fn look_of<'a>(
     alloc: Global,
     rows: Rows<'a>,

@@ -8,7 +8,7 @@ ghost use Rattle.fx_node_style.specs.Values.{WinsBy, code_value, declared_value,
 use fx_base::Value;
 use fx_cascade::{Source, Winners, declarations_at};
 use fx_css_types::{Candidate, Declared, SheetAt};
-use fx_look::CodeValue;
+use fx_look::{CodeValue, STYLE_COUNT};
 
 /// A value that wins, where it stands.
 #[derive(Clone, Copy)]
@@ -27,7 +27,7 @@ pub fn row_value<'a>(
     row: usize,
 ) -> Option<Winning<'a>>
     requires wins { WinsBy winners.now sheets.now matched.now codes.now }
-    requires there { row < 22 }
+    requires there { row < STYLE_COUNT }
     ensures { option_map found_value result ≡ row_value sheets.now matched.now codes.now row }
 {
     let source = row_source(sheets, matched, codes, winners, row)?;
@@ -42,7 +42,7 @@ fn row_source(
     row: usize,
 ) -> Option<Source>
     requires wins { WinsBy winners.now _sheets.now _matched.now _codes.now }
-    requires there { row < 22 }
+    requires there { row < STYLE_COUNT }
     ensures { result ≡ best_source _sheets.now _matched.now _codes.now (row_name row) }
 {
     winners.row(row)

@@ -1,6 +1,7 @@
-//! Shelves and sinks: those in memory, the files of the file system, and a writer that fails.
+//! The shelf of real files, and the sink of a writer that fails. The shelf and the sink in memory are called by the runs of
+//! fx_play_tests.
 use fx_edge::{FileShelf, OutSink};
-use fx_port::{FetchError, Fetched, MemoryShelf, MemorySink, PutError, Shelf, Sink};
+use fx_port::{FetchError, Fetched, Shelf, Sink};
 use std::alloc::Global;
 use std::io::{ErrorKind, Write};
 use std::test::Fail;
@@ -24,22 +25,6 @@ fn answer<S: Shelf>(shelf: &mut S, alloc: Global, name: &str, most: usize) -> &'
 }
 
 #[test]
-fn fetches_from_memory(rt: HostRuntime) -> Result<(), Fail> {
-    let alloc = rt.alloc();
-    let mut files = Vec::new(alloc);
-    files.push((
-        String::from_str(alloc, "a.fxml")?,
-        Vec::from_slice(alloc, b"abc")?,
-    ))?;
-    let mut shelf = MemoryShelf::new(files, Vec::from_slice(alloc, &[3])?);
-    assert!(rt; answer(&mut shelf, alloc, "a.fxml", 3) == "abc");
-    assert!(rt; answer(&mut shelf, alloc, "a.fxml", 2) == "longer");
-    assert!(rt; answer(&mut shelf, alloc, "a.fxml", 3) == "failed");
-    assert!(rt; answer(&mut shelf, alloc, "b.css", 3) == "absent");
-    Ok(())
-}
-
-#[test]
 fn fetches_real_files(rt: HostRuntime) -> Result<(), Fail> {
     fs::write(&rt, "held.bin", "abc")?;
     let alloc = rt.alloc();
@@ -49,17 +34,6 @@ fn fetches_real_files(rt: HostRuntime) -> Result<(), Fail> {
     assert!(rt; answer(&mut shelf, alloc, "absent.bin", 9) == "absent");
     assert!(rt; answer(&mut shelf, alloc, ".", 9) == "failed");
     fs::remove_file(&rt, "held.bin")?;
-    Ok(())
-}
-
-#[test]
-fn puts_in_memory(rt: HostRuntime) -> Result<(), Fail> {
-    let alloc = rt.alloc();
-    let mut sink = MemorySink::new(alloc, Vec::from_slice(alloc, &[(2, 3)])?);
-    assert!(rt; sink.put(b"one ") == Ok(()));
-    assert!(rt; sink.put(b"two ") == Err(PutError::Failed));
-    assert!(rt; sink.put(b" three") == Ok(()));
-    assert!(rt; sink.written() == b"one two three".as_slice());
     Ok(())
 }
 

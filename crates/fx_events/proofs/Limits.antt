@@ -1,18 +1,21 @@
--- What stays true over all calls: 64 registrations of a node in a phase, one convenience handler of a type.
-use Rattle.std.proofs.Common.{◌≡◌, ℕ, suc, ◌+◌, ◌<◌, ◌≤◌, ◌==◌, Bool, true, false, cond, ◌&&◌, not, List, [], ◌∷◌, ◌++◌, length, count_by, position, get_or, set, Option, Some, None, is_some, unwrap_or, refl, sym, ◌∙◌, ap, subst, arith, zero-add, eqb-true, eq-eqb, ltb-false, true≢false, ltb}
+-- What each call keeps: 64 registrations of a node in a phase, one convenience handler of a type.
+use Rattle.std.proofs.Common.{◌≡◌, ℕ, suc, ◌+◌, ◌<◌, ◌≤◌, ◌==◌, Bool, true, false, cond, ◌&&◌, not, List, [], ◌∷◌, ◌++◌, length, count_by, position, get_or, set, Option, Some, None, Result, Ok, Err, OnOk, OnErr, is_some, unwrap_or, refl, sym, ◌∙◌, ap, subst, arith, zero-add, eqb-true, eq-eqb, ltb-false, true≢false, ltb}
 use Rattle.std.specs.List.{position_or_len}
 use Rattle.std.proofs.lemmas.List.Sums.{sum_by-append, sum_by-set, fails_before_first}
 use Rattle.std.specs.Ordering.{eq_by_cmp}
 use Rattle.std.specs.FinMap.{get, get-empty, get-insert, get-remove}
 use Rattle.std.proofs.lemmas.List.Quantifiers.{position-Some}
+use Rattle.fx_base.specs.Answers.{IsAnswer}
 use Rattle.fx_base.specs.declared.keys.NodeKey.{NodeKey}
+use Rattle.fx_events.specs.declared.EventError.{EventError}
+use Rattle.fx_events.specs.declared.EventError.TheVariants.{Full, Memory}
 use Rattle.fx_events.specs.declared.kinds.EventKind.{EventKind}
 use Rattle.fx_events.specs.declared.kinds.Phase.{Phase}
 use Rattle.fx_events.specs.declared.kinds.Phase.TheVariants.{Convenience}
 use Rattle.fx_events.specs.declared.registrations.Registration.{Registration}
 use Rattle.fx_events.specs.Events.{is_same_phase, type_number, phase_number}
 use Rattle.fx_events.specs.Keyed.{key_cmp}
-use Rattle.fx_events.specs.Handlers.{HandlerMap, registrations_of, is_for, is_in, is_full, replaced_by, put_at, with_registration, LeadsTo, none, added, forgotten, AtMost64, OneConvenience}
+use Rattle.fx_events.specs.Handlers.{HandlerMap, registrations_of, is_for, is_in, is_full, replaced_by, put_at, with_registration, nobody, add_refusal, after_add, after_forget, IsLimited, AreLimited}
 use Rattle.fx_events.proofs.Maps.{key_cmp_total}
 
 -- how many pass behind one more
@@ -55,27 +58,6 @@ both_true false b e = absurd (cc)
 without_true : (b : Bool) → (b && true) ≡ false → b ≡ false
 without_true true e = e
 without_true false e = refl
-
--- what is true of no registrations and of one more is true of each node's
-kept : (P : List Registration → Type 0) → P []
-    → ((new : Registration) (registrations : List Registration) → is_full new registrations ≡ false → P registrations → P (with_registration new registrations))
-    → (handlers : HandlerMap) (key : NodeKey) → LeadsTo handlers → P (registrations_of handlers key)
-kept P start step _ key none = subst P (sym (ap (λ (o : Option (List Registration)). unwrap_or o []) (get-empty key_cmp key))) start
-kept P start step _ key (added {handlers} other new fits before) =
-    subst P (sym (ap (λ (o : Option (List Registration)). unwrap_or o []) (get-insert key_cmp_total handlers other (with_registration new (registrations_of handlers other)) key)))
-    (by_test (eq_by_cmp key_cmp key other) (step new (registrations_of handlers other) fits (kept P start step handlers other before)) (kept P start step handlers key before))
-  where
-    by_test : (b : Bool) → P (with_registration new (registrations_of handlers other)) → P (registrations_of handlers key)
-        → P (unwrap_or (cond b (Some (with_registration new (registrations_of handlers other))) (get handlers key)) [])
-    by_test true here others = here
-    by_test false here others = others
-kept P start step _ key (forgotten {handlers} other before) =
-    subst P (sym (ap (λ (o : Option (List Registration)). unwrap_or o []) (get-remove key_cmp_total handlers other key)))
-    (by_test (eq_by_cmp key_cmp key other) (kept P start step handlers key before))
-  where
-    by_test : (b : Bool) → P (registrations_of handlers key) → P (unwrap_or (cond b None (get handlers key)) [])
-    by_test true others = start
-    by_test false others = others
 
 -- the one that gives way is a convenience handler of the same type, and so is the new one
 record GivesWay (new : Registration) (registrations : List Registration) (place : ℕ) : Type 0 where
@@ -155,10 +137,47 @@ stays_single on new registrations fits single = by_place (replaced_by new regist
         let kept_count = count_by-set (is_for on Convenience) registrations place new way.within same in
         omega (arith, single, kept_count)
 
-pub at_most_64 : AtMost64
-at_most_64 handlers key phase reached =
-    kept (λ registrations. count_by (is_in phase) registrations ≤ 64) (omega arith) (fits_in_phase phase) handlers key reached
+limited_more : (new : Registration) (registrations : List Registration) → is_full new registrations ≡ false
+    → IsLimited registrations → IsLimited (with_registration new registrations)
+limited_more new registrations fits limited =
+    record {
+      few = λ phase. fits_in_phase phase new registrations fits (limited.few phase);
+      single = λ on. stays_single on new registrations fits (limited.single on);
+    }
 
-pub one_convenience : OneConvenience
-one_convenience handlers key on reached =
-    kept (λ registrations. count_by (is_for on Convenience) registrations ≤ 1) (omega arith) (stays_single on) handlers key reached
+limited_none : IsLimited []
+limited_none = record { few = λ phase. omega arith; single = λ on. omega arith }
+
+pub limited_nobody : AreLimited nobody
+limited_nobody key = subst IsLimited (sym (ap (λ (o : Option (List Registration)). unwrap_or o []) (get-empty key_cmp key))) limited_none
+
+limited_added : (handlers : HandlerMap) (other : NodeKey) (new : Registration) → is_full new (registrations_of handlers other) ≡ false
+    → AreLimited handlers → AreLimited (after_add handlers other new)
+limited_added handlers other new fits limited key =
+    subst IsLimited (sym (ap (λ (o : Option (List Registration)). unwrap_or o []) (get-insert key_cmp_total handlers other (with_registration new (registrations_of handlers other)) key)))
+    (by_test (eq_by_cmp key_cmp key other))
+  where
+    by_test : (b : Bool) → IsLimited (unwrap_or (cond b (Some (with_registration new (registrations_of handlers other))) (get handlers key)) [])
+    by_test true = limited_more new (registrations_of handlers other) fits (limited other)
+    by_test false = limited key
+
+pub limited_forgotten : (handlers : HandlerMap) (other : NodeKey) → AreLimited handlers → AreLimited (after_forget handlers other)
+limited_forgotten handlers other limited key =
+    subst IsLimited (sym (ap (λ (o : Option (List Registration)). unwrap_or o []) (get-remove key_cmp_total handlers other key)))
+    (by_test (eq_by_cmp key_cmp key other))
+  where
+    by_test : (b : Bool) → IsLimited (unwrap_or (cond b None (get handlers key)) [])
+    by_test true = limited_none
+    by_test false = limited key
+
+not_full : (full : Bool) (done : Unit {0}) → IsAnswer Memory (cond full (Some Full) None) (Ok done) → full ≡ false
+not_full true done answer = absurd answer
+not_full false done answer = refl
+
+-- whatever is answered
+pub limited_after : (old now : HandlerMap) (key : NodeKey) (new : Registration) (result : Result (Unit {0}) EventError) → AreLimited old
+    → IsAnswer Memory (add_refusal new (registrations_of old key)) result → OnOk result (now ≡ after_add old key new) → OnErr result (now ≡ old)
+    → AreLimited now
+limited_after old now key new (Ok done) limited answer ok err =
+    subst AreLimited (sym ok) (limited_added old key new (not_full (is_full new (registrations_of old key)) done answer) limited)
+limited_after old now key new (Err error) limited answer ok err = subst AreLimited (sym err) limited

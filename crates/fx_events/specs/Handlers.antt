@@ -70,21 +70,11 @@ after_add handlers key new = map_of.insert handlers key (with_registration new (
 abbrev pub after_forget : HandlerMap → NodeKey → HandlerMap
 after_forget handlers key = map_of.remove handlers key
 
--- calls lead from the map without registrations to this one
-pub data LeadsTo : HandlerMap → Type 0 where
-  none : LeadsTo nobody
-  added : {handlers : HandlerMap} (key : NodeKey) (new : Registration)
-      → is_full new (registrations_of handlers key) ≡ false → LeadsTo handlers → LeadsTo (after_add handlers key new)
-  forgotten : {handlers : HandlerMap} (key : NodeKey) → LeadsTo handlers → LeadsTo (after_forget handlers key)
+-- a node has at most 64 registrations in each phase, and at most one convenience handler of each type
+pub record IsLimited (registrations : List Registration) : Type 0 where
+  pub few : (phase : Phase) → count_by (is_in phase) registrations ≤ 64
+  pub single : (on : EventKind) → count_by (is_for on Convenience) registrations ≤ 1
 
--- a node has at most 64 registrations in each phase
-abbrev pub AtMost64 : Type 0
-AtMost64 =
-    (handlers : HandlerMap) (key : NodeKey) (phase : Phase) → LeadsTo handlers
-    → count_by (is_in phase) (registrations_of handlers key) ≤ 64
-
--- a node has at most one convenience handler of each type
-abbrev pub OneConvenience : Type 0
-OneConvenience =
-    (handlers : HandlerMap) (key : NodeKey) (on : EventKind) → LeadsTo handlers
-    → count_by (is_for on Convenience) (registrations_of handlers key) ≤ 1
+-- and so has each node
+abbrev pub AreLimited : HandlerMap → Type 0
+AreLimited handlers = (key : NodeKey) → IsLimited (registrations_of handlers key)

@@ -9,7 +9,7 @@ mod routes;
 ghost use Rattle.std.specs.Prelude.{◌≡◌, IfOk, OnOk, OnErr};
 ghost use Rattle.fx_base.specs.Answers.{IsAnswer};
 ghost use Rattle.fx_events.specs.declared.EventError.TheVariants.{Memory};
-ghost use Rattle.fx_events.specs.Handlers.{AtMost64, OneConvenience, add_refusal, after_add, after_forget, calls_of, nobody, registrations_of};
+ghost use Rattle.fx_events.specs.Handlers.{AreLimited, add_refusal, after_add, after_forget, calls_of, nobody, registrations_of};
 
 use fx_base::{NodeKey, Text};
 use indexmap::IndexMap;
@@ -63,7 +63,11 @@ impl Model for Handlers {
 
     ghost coded = { map_of.code key_row.coded (coded_list registration_row.coded) };
 
+    ghost use Rattle.fx_events.specs.Handlers.{AreLimited};
+
     ghost view = { λ h. map_of.from_entries h.nodes.entries };
+
+    ghost invariant = { λ h. AreLimited (map_of.from_entries h.nodes.entries) };
 }
 
 impl Handlers {
@@ -124,14 +128,11 @@ impl Handlers {
     {
         let _ = self.nodes.swap_remove(&key);
     }
+
+    /// A node has at most 64 registrations in each phase, and at most one convenience handler of each type.
+    pub fn laws(&self)
+        ensures { AreLimited self.now }
+    {
+        let _ = &self.nodes;
+    }
 }
-
-/// Over every list of calls a node has at most 64 registrations in each phase.
-pub fn each_phase_has_at_most_64()
-    ensures { AtMost64 }
-{}
-
-/// Over every list of calls a node has at most one convenience handler of each type.
-pub fn each_type_has_one_convenience()
-    ensures { OneConvenience }
-{}

@@ -23,7 +23,7 @@ pub fn route(
 ) -> Result<SmallVec<NodeKey, 16, Global>, AllocError>
     ensures { IfOk result (λ nodes. nodes.items ≡ route_of tree.now.nodes on target) }
 {
-    if tree.children(target).is_none() {
+    if !tree.is_alive(target) {
         return Ok(SmallVec::new(alloc));
     }
     if on.is_of_one_node() {

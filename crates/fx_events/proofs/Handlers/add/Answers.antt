@@ -1,4 +1,4 @@
-use Rattle.std.proofs.Common.{refl, ◌≡◌, ◌∙◌, List, [], ◌∷◌, None, Some, cond, is_some, Err, ap, sym, subst}
+use Rattle.std.proofs.Common.{refl, ◌≡◌, ◌∙◌, List, [], ◌∷◌, None, Some, cond, is_some, Ok, Err, ap, sym, subst}
 use Rattle.std.specs.FinMap.{from_entries, insert}
 use Rattle.std.specs.Map.{lookup, set_value}
 use Rattle.std.proofs.lemmas.Map.Steps.{set_value_same}
@@ -7,8 +7,9 @@ use Rattle.fx_base.specs.Answers.{IsAnswer}
 use Rattle.fx_base.specs.declared.keys.NodeKey.{NodeKey}
 use Rattle.fx_events.specs.declared.EventError.TheVariants.{Memory}
 use Rattle.fx_events.specs.declared.registrations.Registration.{Registration}
-use Rattle.fx_events.specs.Handlers.{HandlerMap, add_refusal, registrations_of, with_registration}
+use Rattle.fx_events.specs.Handlers.{AreLimited, HandlerMap, add_refusal, registrations_of, with_registration}
 use Rattle.fx_events.specs.Keyed.{key_cmp}
+use Rattle.fx_events.proofs.Limits.{limited_after}
 use Rattle.fx_events.proofs.Maps.{same_key, admitted, first_alone, inserted, listed, wanting}
 use Rattle.fx_events.proofs.Handlers.add.Goals as goal
 
@@ -51,6 +52,14 @@ returns-in-Some-clause-err c =
     ∙ c.self.view_is)
     c.add.ensures.err
 
+-- what was limited is so behind the call, whatever it answers
+pub invariant_of-self : goal.invariant_of-self
+invariant_of-self c =
+    limited_after c.args.self.now (from_entries {R = key_cmp} (c.get_mut.follows.lender c.add.new.self).entries) c.args.key
+    (record { on = c.args.on; phase = c.args.phase; action = c.args.action }) c.add.result
+    (subst AreLimited c.self.view_is c.self.invariant)
+    (returns-in-Some-clause-answer c) (returns-in-Some-clause-added c) (returns-in-Some-clause-err c)
+
 pub returns-in_err-node-clause-answer : goal.returns-in_err-node-clause-answer
 returns-in_err-node-clause-answer c =
     let new : Registration = record { on = c.args.on; phase = c.args.phase; action = c.args.action } in
@@ -86,3 +95,10 @@ returns-clause-answer c =
     let new : Registration = record { on = c.args.on; phase = c.args.phase; action = c.args.action } in
     let none = listed c.self.inside.nodes.entries c.args.self.now c.self.view_is c.args.key c.args.key refl None c.in_default.ensures.value in
     admitted new (registrations_of c.args.self.now c.args.key) none
+
+pub invariant_of-self-2 : goal.invariant_of-self-2
+invariant_of-self-2 c =
+    limited_after c.args.self.now (from_entries {R = key_cmp} c.insert.new.self.entries) c.args.key
+    (record { on = c.args.on; phase = c.args.phase; action = c.args.action }) (Ok tt)
+    (subst AreLimited c.self.view_is c.self.invariant)
+    (returns-clause-answer c) (returns-clause-added c) tt

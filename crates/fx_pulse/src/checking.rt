@@ -18,7 +18,7 @@ ghost use Rattle.fx_style.specs.Rules.{HaveRows};
 use crate::flags::parent_at;
 use fx_kinds::{BoxFacts, StyleFacts};
 use fx_layout::are_nodes;
-use fx_look::CodeValue;
+use fx_look::{CodeValue, STYLE_COUNT};
 use fx_pulse_touched::Scene;
 use std::alloc::{AllocError, Global};
 
@@ -100,7 +100,7 @@ fn are_rows(codes: &[CodeValue]) -> bool
     ensures only { AreRows codes.now → IsTrue result }
 {
     for code in codes {
-        if code.style.0 >= 22 {
+        if code.style.0 >= STYLE_COUNT as u32 {
             return false;
         }
     }

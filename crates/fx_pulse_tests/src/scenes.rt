@@ -1,12 +1,12 @@
 //! The nodes that the tests begin with.
 use fx_base::{List, NodeKey, Text, Value};
 use fx_kinds::{BoxFacts, Class, StyleFacts};
-use fx_look::{CodeValue, StyleName};
+use fx_look::{CodeValue, StyleKey, StyleName};
 use std::alloc::{AllocError, Global};
 use std::test::Fail;
 
 /// The row of `-fx-font-size` in the table of style declarations.
-const FONT_SIZE: StyleName = StyleName(19);
+const FONT_SIZE: StyleName = StyleName(StyleKey::FontSize as u32);
 
 /// A label with letters of one pixel a bit, and nothing else: what styles it.
 pub fn label_style(

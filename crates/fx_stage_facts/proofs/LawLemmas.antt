@@ -19,6 +19,8 @@ use Rattle.fx_kinds.specs.Properties.{PropertyRow, is_styling, listed, rows_of, 
 use Rattle.fx_look.specs.Styles.{StyleRow, styles}
 use Rattle.fx_look.specs.declared.styles.CodeValue.{CodeValue}
 use Rattle.fx_look.specs.declared.styles.StyleForm.TheVariants as form
+use Rattle.fx_look.specs.declared.styles.TheConstants.{STYLE_COUNT}
+use Rattle.fx_look.proofs.StyleLemmas.{styles_counted}
 use Rattle.fx_stage_types.specs.declared.node_data.NodeData.{NodeData}
 use Rattle.fx_stage_types.specs.Tables.{data_of}
 use Rattle.fx_stage_model.specs.World.{World}
@@ -113,22 +115,18 @@ all_before world stands (key ∷ keys) before =
 -- values by code
 
 abbrev IsSmall : CodeValue → Type 0
-IsSmall code = code.style.0 < 22
+IsSmall code = code.style.0 < STYLE_COUNT
 
 no_row : StyleRow
 no_row = record { name = []; form = form.Size; property = None }
 
-few_styles : length styles ≡ 22
-unfolding styles
-few_styles = refl
-
-small_style : (name : List ℕ) (place : ℕ) → styled_by name ≡ Some place → place < 22
+small_style : (name : List ℕ) (place : ℕ) → styled_by name ≡ Some place → place < STYLE_COUNT
 unfolding styled_by
 small_style name place is =
     let there = position-Some (is_styling name) styles place no_row is in
-    omega (arith, there.0, few_styles)
+    omega (arith, there.0, styles_counted)
 
-code_small : (entries : List Entry) (n : ℕ) (o : Option ℕ) → ((place : ℕ) → o ≡ Some place → place < 22)
+code_small : (entries : List Entry) (n : ℕ) (o : Option ℕ) → ((place : ℕ) → o ≡ Some place → place < STYLE_COUNT)
     → All IsSmall (option_to_list (code_of entries n o))
 code_small entries n None small = All-nil IsSmall
 code_small entries n (Some style) small = by_origin (is_initial (entry_of entries n).origin)

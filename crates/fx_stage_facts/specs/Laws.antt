@@ -3,6 +3,7 @@ use Rattle.std.specs.Prelude.{◌≡◌, ◌<◌, ℕ, All, List, length, map, s
 use Rattle.fx_kinds.specs.declared.facts.BoxFacts.{BoxFacts}
 use Rattle.fx_kinds.specs.declared.facts.StyleFacts.{StyleFacts}
 use Rattle.fx_look.specs.declared.styles.CodeValue.{CodeValue}
+use Rattle.fx_look.specs.declared.styles.TheConstants.{STYLE_COUNT}
 use Rattle.fx_stage_model.specs.World.{World}
 use Rattle.fx_tree.specs.Scene.{IsSound}
 use Rattle.fx_stage_facts.specs.Attached.{attached_keys}
@@ -20,7 +21,8 @@ pub record AreOneScene (world : World) : Type 0 where
       ≡ map (λ (node : BoxFacts). node.parent) (box_facts world)
   pub before : (place parent : ℕ) (node : StyleFacts) → slice_get (style_facts world) place ≡ Some node
       → node.parent ≡ Some parent → parent < place
-  pub codes : All (λ (node : StyleFacts). All (λ (code : CodeValue). code.style.0 < 22) node.codes) (style_facts world)
+  pub codes :
+      All (λ (node : StyleFacts). All (λ (code : CodeValue). code.style.0 < STYLE_COUNT) node.codes) (style_facts world)
 
 abbrev pub FactsFitTogether : Type 0
 FactsFitTogether = (world : World) → AreOneScene world

@@ -8,7 +8,7 @@ ghost use Rattle.fx_style.specs.Rules.{HaveRows};
 
 use crate::kept::is_key;
 use fx_kinds::StyleFacts;
-use fx_look::CodeValue;
+use fx_look::{CodeValue, STYLE_COUNT};
 
 /// Do parents stand before their children, have no two nodes one key, and are all code values of rows that the style
 /// table has? Compares each key with each other.
@@ -72,7 +72,7 @@ fn are_rows(codes: &[CodeValue]) -> bool
     ensures { IsTrue result → AreRows codes.now }
 {
     for code in codes {
-        if code.style.0 >= 22 {
+        if code.style.0 >= STYLE_COUNT as u32 {
             return false;
         }
     }

@@ -1,11 +1,11 @@
 -- What is seen of a map has the map's items at each name.
-use Rattle.std.proofs.Common.{◌≡◌, ℕ, Bool, true, false, cond, List, [], ◌∷◌, map, Some, refl}
+use Rattle.std.proofs.Common.{◌≡◌, ℕ, Bool, true, false, cond, List, [], ◌∷◌, length, map, Some, refl, arith}
 use Rattle.std.specs.Prelude.{unwrap_or}
 use Rattle.std.specs.Option.{option_map_or}
 use Rattle.std.specs.Map.{lookup}
 use Rattle.std.specs.Str.{bytes_eq}
 use Rattle.std.specs.String.{string_bytes}
-use Rattle.std.specs.HashMap.{HashMap}
+use Rattle.std.specs.HashMap.{HashMap, hash_map_len}
 use Rattle.std.specs.declared.string.String.{String}
 use Rattle.std.specs.declared.vec.Vec.{Vec}
 use Rattle.fx_select.specs.Named.{under, entries_of, grouped}
@@ -28,3 +28,12 @@ entries-at {X} {Y} {Z} name (e ∷ es) =
 
 pub under-entries_of : {X Y Z S : Type 0} (m : HashMap (String Y) (Vec X Z) S) (name : List ℕ) → under (entries_of m) name ≡ grouped m name
 under-entries_of m name = entries-at name m.entries
+
+none-at : {X Y Z : Type 0} (name : List ℕ) (es : List (String Y × Vec X Z)) → length es ≡ 0
+    → [] ≡ option_map_or (λ (list : Vec X Z). list.items) (lookup (λ (k : String Y). bytes_eq name (string_bytes k)) es) []
+none-at name [] e = refl
+none-at name (x ∷ xs) e = absurd (omega (arith, e))
+
+-- an empty map has nothing at any name
+pub none_grouped : {X Y Z S : Type 0} (m : HashMap (String Y) (Vec X Z) S) (name : List ℕ) → hash_map_len m ≡ 0 → [] ≡ grouped m name
+none_grouped m name e = none-at name m.entries e

@@ -2,7 +2,7 @@
 //! The index collects them and gives each of their rules once.
 ghost use Rattle.std.specs.Prelude.{◌≡◌, ◌++◌, ◌<◌, ◌≤◌, ◌==◌, length, OnOk, All};
 ghost use Rattle.std.specs.List.{filter_map, list_any};
-ghost use Rattle.std.specs.Option.{option_copied, option_to_list};
+ghost use Rattle.std.specs.Option.{ForSome, option_copied, option_to_list};
 ghost use Rattle.fx_select.specs.Chains.{ParentsStandBefore, chain};
 ghost use Rattle.fx_select.specs.Hits.{bare_weight, hit_in, hit_of, is_inline, is_own, is_visible, lists_sheet, own_hit, own_hits, own_hits_at, own_hits_in, selector_weight, weight_at};
 ghost use Rattle.fx_css_types.specs.Limits.{AreShort, AreShortRules, AreShortSelectors};
@@ -14,6 +14,13 @@ use crate::weights::specificity;
 use fx_css_types::{Candidate, Rule, Selector, SheetAt, SheetOrigin};
 use fx_kinds::StyleFacts;
 use std::alloc::AllocError;
+
+/// Whether a node sees a sheet, as it was found for the selector before.
+#[derive(Clone, Copy)]
+struct Seen {
+    sheet: usize,
+    visible: bool,
+}
 
 /// Puts those of the selectors behind the hits that match the node at this place.
 pub fn push_hits(
@@ -29,8 +36,14 @@ pub fn push_hits(
     ensures { OnOk result (hits.new.items
         ≡ hits.old.items ++ filter_map (hit_of sheets.now (chain facts.now at)) listed.now) }
 {
+    let mut last = None;
     for selector in listed {
-        push_hit(hits, hit_of(*selector, sheets, facts, at))?;
+        let visible = is_seen(last, selector.sheet, facts, at);
+        push_hit(hits, hit_of(*selector, visible, sheets, facts, at))?;
+        last = Some(Seen {
+            sheet: selector.sheet,
+            visible,
+        });
     }
     Ok(())
 }
@@ -114,6 +127,7 @@ fn push_rule_hit(
 #[tactic(auto, unfolding(crate::specs::Hits::hit_of))]
 fn hit_of(
     listed: SelectorAt,
+    visible: bool,
     sheets: &[SheetAt],
     facts: &[StyleFacts],
     at: usize,
@@ -121,22 +135,34 @@ fn hit_of(
     requires before { ParentsStandBefore facts.now }
     requires there { at < length facts.now }
     requires short { AreShort sheets.now }
+    requires seen { visible ≡ is_visible (chain facts.now at) listed.sheet }
     ensures { result ≡ hit_of sheets.now (chain facts.now at) listed }
 {
     let sheet = sheets.get(listed.sheet)?;
-    hit_in(listed, sheet, facts, at)
+    hit_in(listed, visible, sheet, facts, at)
 }
 
 #[tactic(auto, unfolding(crate::specs::Hits::hit_in))]
-fn hit_in(listed: SelectorAt, sheet: &SheetAt, facts: &[StyleFacts], at: usize) -> Option<Candidate>
+fn hit_in(
+    listed: SelectorAt,
+    visible: bool,
+    sheet: &SheetAt,
+    facts: &[StyleFacts],
+    at: usize,
+) -> Option<Candidate>
     requires before { ParentsStandBefore facts.now }
     requires there { at < length facts.now }
     requires short { AreShortRules sheet.now.sheet.rules }
+    requires seen { visible ≡ is_visible (chain facts.now at) listed.sheet }
     ensures { result ≡ hit_in (chain facts.now at) listed sheet.now }
 {
     let rule = sheet.sheet.rules.as_slice().get(listed.rule)?;
     let selectors = rule.selectors.as_slice();
-    let specificity = weight_at(listed.selector, listed.sheet, selectors, facts, at)?;
+    let seen = Seen {
+        sheet: listed.sheet,
+        visible,
+    };
+    let specificity = weight_at(listed.selector, seen, selectors, facts, at)?;
     Some(Candidate {
         sheet: listed.sheet,
         rule: listed.rule,
@@ -148,7 +174,7 @@ fn hit_in(listed: SelectorAt, sheet: &SheetAt, facts: &[StyleFacts], at: usize) 
 #[tactic(auto, unfolding(crate::specs::Hits::weight_at))]
 fn weight_at(
     place: Option<usize>,
-    sheet: usize,
+    seen: Seen,
     selectors: &[Selector],
     facts: &[StyleFacts],
     at: usize,
@@ -156,27 +182,29 @@ fn weight_at(
     requires before { ParentsStandBefore facts.now }
     requires there { at < length facts.now }
     requires short { AreShortSelectors selectors.now }
-    ensures { result ≡ weight_at (chain facts.now at) sheet selectors.now place }
+    requires seen { seen.visible ≡ is_visible (chain facts.now at) seen.sheet }
+    ensures { result ≡ weight_at (chain facts.now at) seen.sheet selectors.now place }
 {
     match place {
-        Some(place) => selector_weight(selectors.get(place)?, sheet, facts, at),
-        None => bare_weight(sheet, selectors, facts, at),
+        Some(place) => selector_weight(selectors.get(place)?, seen, facts, at),
+        None => bare_weight(seen.sheet, selectors, facts, at),
     }
 }
 
 #[tactic(auto, unfolding(crate::specs::Hits::selector_weight))]
 fn selector_weight(
     selector: &Selector,
-    sheet: usize,
+    seen: Seen,
     facts: &[StyleFacts],
     at: usize,
 ) -> Option<(u32, u32, u32)>
     requires before { ParentsStandBefore facts.now }
     requires there { at < length facts.now }
     requires short { part_count selector.now ≤ 4194304 }
-    ensures { result ≡ selector_weight (chain facts.now at) sheet selector.now }
+    requires seen { seen.visible ≡ is_visible (chain facts.now at) seen.sheet }
+    ensures { result ≡ selector_weight (chain facts.now at) seen.sheet selector.now }
 {
-    if is_match(selector, facts, at) && is_visible(sheet, facts, at) {
+    if is_match(selector, facts, at) && seen.visible {
         Some(specificity(selector))
     } else {
         None
@@ -197,6 +225,19 @@ fn bare_weight(
         Some((0, 0, 0))
     } else {
         None
+    }
+}
+
+/// Does the node see the sheet? It is looked for where the last answer was of another one.
+fn is_seen(last: Option<Seen>, sheet: usize, facts: &[StyleFacts], at: usize) -> bool
+    requires before { ParentsStandBefore facts.now }
+    requires there { at < length facts.now }
+    requires last { ForSome last (λ s. s.visible ≡ is_visible (chain facts.now at) s.sheet) }
+    ensures { result ≡ is_visible (chain facts.now at) sheet }
+{
+    match last {
+        Some(seen) if seen.sheet == sheet => seen.visible,
+        _ => is_visible(sheet, facts, at),
     }
 }
 

@@ -22,6 +22,9 @@ use fx_kinds::{StyleFacts, name_of};
 use std::alloc::{AllocError, Global};
 use std::marker::Model;
 
+/// As many hits as most nodes have take memory once.
+const FEW_HITS: usize = 16;
+
 /// The selectors of a list of sheets, each listed once: under the first id of its last compound, else under its first
 /// class, else under its type, else in the rest. A rule without selector is listed nowhere: it matches the node that
 /// names its sheet as its inline sheet, and is found there.
@@ -91,7 +94,7 @@ impl RuleIndex {
         ensures { IfOk result (λ hits. hits.items ≡ hits_of self.now sheets.now (chain facts.now at)) }
     {
         let node = node_at(facts, at);
-        let mut hits = Vec::new(alloc);
+        let mut hits = Vec::with_capacity(alloc, FEW_HITS)?;
         push_hits(
             &mut hits,
             self.ids.under(node.id.as_str()),

@@ -72,9 +72,14 @@ fn push_under(
     Ok(())
 }
 
+#[tactic(auto, using(crate::proofs::NamedLemmas::none_grouped))]
 fn list_under<'a>(lists: &'a HashMap<String, Vec<SelectorAt>>, name: &str) -> &'a [SelectorAt]
     ensures { result.now ≡ grouped lists.now name.now }
 {
+    // Most indexes have no ids, and many no classes: nothing is hashed for those.
+    if lists.is_empty() {
+        return &[];
+    }
     match lists.get(name) {
         Some(list) => list.as_slice(),
         None => &[],

@@ -23,7 +23,7 @@ pub fn sort_hits(hits: &mut Vec<Candidate>) -> Result<(), AllocError>
 pub fn strongest(alloc: Global, hits: &[Candidate]) -> Result<Vec<Candidate>, AllocError>
     ensures { IfOk result (λ found. found.items ≡ merged_of hits.now) }
 {
-    let mut found = Vec::new(alloc);
+    let mut found = Vec::with_capacity(alloc, hits.len())?;
     let Some((first, more)) = hits.split_first() else {
         return Ok(found);
     };

@@ -12,6 +12,16 @@ instructions() {
     sed -n 's/^summary: //p' "$counts/out"
 }
 
+# how the program ends with these words, and after how long
+ending() {
+    local began=$EPOCHREALTIME status=0
+    "$program" "$@" 2>"$counts/log" >"$counts/told" || status=$?
+    awk -v began="$began" -v ended="$EPOCHREALTIME" -v status="$status" 'BEGIN {
+        printf "status %d in %.1f s", status, ended - began
+    }'
+    sed 's/^/, /' "$counts/log" | head -1
+}
+
 # the difference of two counts, for each of so many things
 per() {
     awk -v things="$1" -v more="$2" -v less="$3" 'BEGIN { printf "%.1f", (more - less) / things }'

@@ -1,6 +1,6 @@
-//! Builds properties that are bound in a chain or to one name, and changes, reads and binds them, so many times each;
-//! it
-//! prints a checksum. A script counts its instructions; no other crate stands on this one.
+//! Builds properties that are bound in a chain or to one name, or stand apart, and changes, reads and binds them, so
+//! many times each; it prints a checksum, or the first refusal of what is built. A script counts its instructions; no
+//! other crate stands on this one.
 #![tactic(auto)]
 
 ghost use Rattle.std.specs.Prelude.{◌≡◌};
@@ -15,6 +15,17 @@ use std::env;
 use std::marker::Brand;
 use std::sync::ledger::Blank;
 
+/// What the names but the first are bound to.
+#[derive(Clone, Copy)]
+enum Shape {
+    /// Each to the one before it.
+    Chain,
+    /// All to the first.
+    Star,
+    /// None of them to any.
+    Apart,
+}
+
 /// How often each thing is done.
 #[derive(Clone, Copy)]
 struct Rounds {
@@ -22,7 +33,7 @@ struct Rounds {
     sets: u64,
     /// The last name is read, which isn't unread.
     reads: u64,
-    /// The first name is bound to the last one, which is refused in a chain.
+    /// The first name is bound to the last one, which is refused unless the names stand apart.
     binds: u64,
 }
 
@@ -36,9 +47,9 @@ fn main(rt: HostRuntime) -> anyhow::Result<()> {
         words.next(),
         words.next(),
     ) else {
-        bail!("usage: graph_bench chain|star NAMES SETS READS BINDS");
+        bail!("usage: graph_bench chain|star|apart NAMES SETS READS BINDS");
     };
-    let in_chain = shape.as_str() == "chain";
+    let shape = shape_of(shape.as_str());
     let names = names.as_str().parse::<u32>()?;
     let rounds = Rounds {
         sets: sets.as_str().parse::<u64>()?,
@@ -47,7 +58,7 @@ fn main(rt: HostRuntime) -> anyhow::Result<()> {
     };
     let sum = start::<Brand>(
         rt.alloc(),
-        in_chain,
+        shape,
         names,
         rounds,
         Blank::new(1),
@@ -59,9 +70,17 @@ fn main(rt: HostRuntime) -> anyhow::Result<()> {
     Ok(())
 }
 
+fn shape_of(word: &str) -> Shape {
+    match word {
+        "chain" => Shape::Chain,
+        "star" => Shape::Star,
+        _ => Shape::Apart,
+    }
+}
+
 fn start<L: Ledgers>(
     alloc: Global,
-    in_chain: bool,
+    shape: Shape,
     names: u32,
     rounds: Rounds,
     evaluated: Blank,
@@ -76,7 +95,7 @@ fn start<L: Ledgers>(
 {
     let mut work: Work<L> = Work::new(evaluated, styled, laid, painted);
     let mut graph = Graph::new(alloc);
-    let last = build(alloc, &mut graph, in_chain, names)?;
+    let last = build(alloc, &mut graph, shape, names)?;
     graph.read(alloc, last, &mut work)?;
     let set = set_and_read(alloc, &mut graph, last, rounds.sets, &mut work)?;
     let read = read_often(alloc, &mut graph, last, rounds.reads, &mut work)?;
@@ -84,14 +103,20 @@ fn start<L: Ledgers>(
     Ok(set.wrapping_add(read))
 }
 
-/// One number, and so many that are bound: each to the one before, or all to the first. Answers the last name.
-fn build(alloc: Global, graph: &mut Graph, in_chain: bool, names: u32) -> anyhow::Result<Name> {
+/// One number, and so many behind it that are bound as their shape has it. Answers the last name.
+fn build(alloc: Global, graph: &mut Graph, shape: Shape, names: u32) -> anyhow::Result<Name> {
     let first = graph.declare(alloc, Kind::Int, false, Value::Int(0))?;
     let mut last = first;
     for _ in 0..names {
         let name = graph.declare(alloc, Kind::Int, false, Value::Int(0))?;
-        let operand = if in_chain { last } else { first };
-        bind(alloc, graph, name, operand)?;
+        let taken = match shape {
+            Shape::Chain => bind(alloc, graph, name, last)?,
+            Shape::Star => bind(alloc, graph, name, first)?,
+            Shape::Apart => true,
+        };
+        if !taken {
+            bail!("a binding was refused");
+        }
         last = name;
     }
     Ok(last)

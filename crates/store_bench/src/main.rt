@@ -1,6 +1,7 @@
 //! Sets the first property of a chain of diamonds, with one change listener at its end and many on another property,
-//! and makes owners that listen and are released, so many times each; it prints how many notices came. A script counts
-//! its instructions; no other crate stands on this one.
+//! and others that are joined with it, makes owners that listen and are released, and forgets the properties of nodes,
+//! so many times each; it prints how many notices came, or the first refusal. A script counts its instructions; no
+//! other crate stands on this one.
 #![tactic(auto)]
 
 ghost use Rattle.std.specs.Prelude.{◌≡◌};
@@ -26,23 +27,38 @@ struct Rounds {
     owners: u64,
     /// A change listener is added to a property that stays as it is.
     listeners: u32,
+    /// A further property is joined with the first one.
+    pairs: u32,
+    /// A node has twenty properties of its own.
+    nodes: u32,
+    /// Of the nodes so many lose their properties, in one change.
+    dropped: u32,
 }
+
+/// How many properties a node has.
+const PROPERTIES: u32 = 20;
 
 fn main(rt: HostRuntime) -> anyhow::Result<()> {
     let mut words = env::args(&rt)?;
     let _program = words.next();
     let (Some(diamonds), Some(sets), Some(owners)) = (words.next(), words.next(), words.next())
     else {
-        bail!("usage: store_bench DIAMONDS SETS OWNERS LISTENERS");
+        bail!("usage: store_bench DIAMONDS SETS OWNERS LISTENERS PAIRS NODES DROPPED");
     };
-    let Some(listeners) = words.next() else {
-        bail!("usage: store_bench DIAMONDS SETS OWNERS LISTENERS");
+    let (Some(listeners), Some(pairs)) = (words.next(), words.next()) else {
+        bail!("usage: store_bench DIAMONDS SETS OWNERS LISTENERS PAIRS NODES DROPPED");
+    };
+    let (Some(nodes), Some(dropped)) = (words.next(), words.next()) else {
+        bail!("usage: store_bench DIAMONDS SETS OWNERS LISTENERS PAIRS NODES DROPPED");
     };
     let diamonds = diamonds.as_str().parse::<u32>()?;
     let rounds = Rounds {
         sets: sets.as_str().parse::<u64>()?,
         owners: owners.as_str().parse::<u64>()?,
         listeners: listeners.as_str().parse::<u32>()?,
+        pairs: pairs.as_str().parse::<u32>()?,
+        nodes: nodes.as_str().parse::<u32>()?,
+        dropped: dropped.as_str().parse::<u32>()?,
     };
     let notices = start::<Brand>(
         rt.alloc(),
@@ -77,8 +93,11 @@ fn start<L: Ledgers>(
     let listen = Change::Listen(last, ListenKind::Change, None, 0);
     store.apply(alloc, listen, &mut work)?;
     listen_often(alloc, &mut store, rounds.listeners, &mut work)?;
+    pair_often(alloc, &mut store, rounds.pairs, &mut work)?;
     let notices = set_often(alloc, &mut store, rounds.sets, &mut work)?;
     own_often(alloc, &mut store, last, rounds.owners, &mut work)?;
+    let names = names_of_dropped(alloc, &mut store, rounds.nodes, rounds.dropped)?;
+    store.apply(alloc, Change::Forget(List::from_vec(names)), &mut work)?;
     Ok(notices)
 }
 
@@ -130,6 +149,39 @@ fn listen_often<L: Ledgers>(
         store.apply(alloc, listen, work)?;
     }
     Ok(())
+}
+
+/// So many properties that are joined with the first one.
+fn pair_often<L: Ledgers>(
+    alloc: Global,
+    store: &mut Store,
+    pairs: u32,
+    work: &mut Work<L>,
+) -> anyhow::Result<()> {
+    for _ in 0..pairs {
+        let name = store.declare(alloc, Kind::Int, false, Value::Int(0))?;
+        store.apply(alloc, Change::Pair(name, Name(0)), work)?;
+    }
+    Ok(())
+}
+
+/// Declares the properties of so many nodes, and answers those of the first ones, which are to be dropped.
+fn names_of_dropped(
+    alloc: Global,
+    store: &mut Store,
+    nodes: u32,
+    dropped: u32,
+) -> anyhow::Result<Vec<Name>> {
+    let mut names = Vec::new(alloc);
+    for node in 0..nodes {
+        for _ in 0..PROPERTIES {
+            let name = store.declare(alloc, Kind::Int, false, Value::Int(0))?;
+            if node < dropped {
+                names.push(name)?;
+            }
+        }
+    }
+    Ok(names)
 }
 
 fn set_often<L: Ledgers>(

@@ -1,3 +1,5 @@
 pub mod Known
 pub mod Subtrees
+pub mod Mapped
 pub mod Making
+pub mod Attaching

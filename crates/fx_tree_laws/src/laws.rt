@@ -1,7 +1,9 @@
 //! The laws of scenes.
-ghost use Rattle.std.specs.Prelude.{◌≡◌, ◌+◌, ◌&&◌, ◌||◌, true, if◌then◌else◌, [], Some};
+ghost use Rattle.std.specs.Prelude.{◌≡◌, ◌+◌, ◌++◌, ◌&&◌, ◌||◌, ℕ, true, if◌then◌else◌, List, [], insert, None, Some};
+ghost use Rattle.std.specs.Option.{option_map};
 ghost use Rattle.fx_base.specs.declared.keys.NodeKey.{NodeKey as Key};
-ghost use Rattle.fx_tree.specs.Scene.{Scene as State, IsSound, after_make, children_of, has, is_alive, is_same, is_within, parent_of, path, subtree, without};
+ghost use Rattle.fx_tree.specs.Scene.{Scene as State, IsSound, after_attach, after_make, children_of, has, is_alive, is_same, is_within, parent_of, path, subtree, without};
+ghost use Rattle.fx_tree.specs.Refusals.{attach_refusal};
 
 /// The subtree of a living node holds just the living nodes that are the node itself or stand below it, however deep.
 pub fn subtrees_are_what_is_within()
@@ -19,4 +21,24 @@ pub fn what_making_leaves()
         → children_of (after_make scene new).nodes key
         ≡ (if is_same key new then Some [] else children_of scene.nodes key) }
     ensures path { (scene : State) (new key : Key) → path (after_make scene new).nodes key ≡ path scene.nodes key }
+{}
+
+/// After a child is attached the same nodes live. The child has the parent and stands at its place among the parent's
+/// children; the path to each node of its subtree begins with the path to the parent. All else is as before.
+pub fn what_attaching_leaves()
+    ensures alive { (scene : State) (parent child : Key) (place : ℕ) (key : Key)
+        → is_alive (after_attach scene parent child place).nodes key ≡ is_alive scene.nodes key }
+    ensures parent { (scene : State) (parent child : Key) (place : ℕ) → IsSound scene
+        → attach_refusal scene parent child place ≡ None → (key : Key)
+        → parent_of (after_attach scene parent child place).nodes key
+        ≡ (if is_same key child then Some parent else parent_of scene.nodes key) }
+    ensures children { (scene : State) (parent child : Key) (place : ℕ) (key : Key)
+        → children_of (after_attach scene parent child place).nodes key
+        ≡ option_map (λ (keys : List Key). if is_same key parent then insert keys place child else keys)
+        (children_of scene.nodes key) }
+    ensures path { (scene : State) (parent child : Key) (place : ℕ) → IsSound scene
+        → attach_refusal scene parent child place ≡ None → (key : Key)
+        → path (after_attach scene parent child place).nodes key
+        ≡ (if is_within scene.nodes child key then path scene.nodes parent ++ path scene.nodes key
+        else path scene.nodes key) }
 {}

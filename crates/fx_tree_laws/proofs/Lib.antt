@@ -3,3 +3,4 @@ pub mod Subtrees
 pub mod Mapped
 pub mod Making
 pub mod Attaching
+pub mod Detaching

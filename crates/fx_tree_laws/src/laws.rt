@@ -1,8 +1,8 @@
 //! The laws of scenes.
-ghost use Rattle.std.specs.Prelude.{◌≡◌, ◌+◌, ◌++◌, ◌&&◌, ◌||◌, ℕ, true, if◌then◌else◌, List, [], insert, None, Some};
+ghost use Rattle.std.specs.Prelude.{◌≡◌, ◌+◌, ◌++◌, ◌&&◌, ◌||◌, ℕ, true, false, if◌then◌else◌, List, [], insert, None, Some};
 ghost use Rattle.std.specs.Option.{option_map};
 ghost use Rattle.fx_base.specs.declared.keys.NodeKey.{NodeKey as Key};
-ghost use Rattle.fx_tree.specs.Scene.{Scene as State, IsSound, after_attach, after_make, children_of, has, is_alive, is_same, is_within, parent_of, path, subtree, without};
+ghost use Rattle.fx_tree.specs.Scene.{Scene as State, IsSound, after_attach, after_detach, after_make, children_of, has, is_alive, is_same, is_within, parent_of, path, subtree, without};
 ghost use Rattle.fx_tree.specs.Refusals.{attach_refusal};
 
 /// The subtree of a living node holds just the living nodes that are the node itself or stand below it, however deep.
@@ -41,4 +41,21 @@ pub fn what_attaching_leaves()
         → path (after_attach scene parent child place).nodes key
         ≡ (if is_within scene.nodes child key then path scene.nodes parent ++ path scene.nodes key
         else path scene.nodes key) }
+{}
+
+/// After a child is detached the same nodes live. The child has no parent and is among no node's children; the path to
+/// each node of its subtree lacks the path to the parent that it had. All else is as before.
+pub fn what_detaching_leaves()
+    ensures alive { (scene : State) (child key : Key)
+        → is_alive (after_detach scene child).nodes key ≡ is_alive scene.nodes key }
+    ensures parent { (scene : State) (child key : Key)
+        → parent_of (after_detach scene child).nodes key
+        ≡ (if is_same key child then None else parent_of scene.nodes key) }
+    ensures children { (scene : State) (child key : Key)
+        → children_of (after_detach scene child).nodes key ≡ option_map (without child) (children_of scene.nodes key) }
+    ensures path_within { (scene : State) (parent child : Key) → IsSound scene
+        → parent_of scene.nodes child ≡ Some parent → (key : Key) → is_within scene.nodes child key ≡ true
+        → path scene.nodes key ≡ path scene.nodes parent ++ path (after_detach scene child).nodes key }
+    ensures path_outside { (scene : State) (child : Key) → IsSound scene → (key : Key)
+        → is_within scene.nodes child key ≡ false → path (after_detach scene child).nodes key ≡ path scene.nodes key }
 {}

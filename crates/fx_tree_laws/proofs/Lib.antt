@@ -4,3 +4,4 @@ pub mod Mapped
 pub mod Making
 pub mod Attaching
 pub mod Detaching
+pub mod Dropping

@@ -1,9 +1,9 @@
 //! The laws of scenes.
-ghost use Rattle.std.specs.Prelude.{◌≡◌, ◌+◌, ◌++◌, ◌&&◌, ◌||◌, ℕ, true, false, if◌then◌else◌, List, [], insert, None, Some};
+ghost use Rattle.std.specs.Prelude.{◌≡◌, ◌+◌, ◌++◌, ◌&&◌, ◌||◌, ℕ, true, false, not, if◌then◌else◌, List, [], insert, None, Some};
 ghost use Rattle.std.specs.Option.{option_map};
 ghost use Rattle.fx_base.specs.declared.keys.NodeKey.{NodeKey as Key};
-ghost use Rattle.fx_tree.specs.Scene.{Scene as State, IsSound, after_attach, after_detach, after_make, children_of, has, is_alive, is_same, is_within, parent_of, path, subtree, without};
-ghost use Rattle.fx_tree.specs.Refusals.{attach_refusal};
+ghost use Rattle.fx_tree.specs.Scene.{Scene as State, IsSound, after_attach, after_detach, after_drop, after_make, children_of, has, is_alive, is_same, is_within, parent_of, path, subtree, without};
+ghost use Rattle.fx_tree.specs.Refusals.{attach_refusal, drop_refusal};
 
 /// The subtree of a living node holds just the living nodes that are the node itself or stand below it, however deep.
 pub fn subtrees_are_what_is_within()
@@ -58,4 +58,23 @@ pub fn what_detaching_leaves()
         → path scene.nodes key ≡ path scene.nodes parent ++ path (after_detach scene child).nodes key }
     ensures path_outside { (scene : State) (child : Key) → IsSound scene → (key : Key)
         → is_within scene.nodes child key ≡ false → path (after_detach scene child).nodes key ≡ path scene.nodes key }
+{}
+
+/// After a node without parent is dropped just those live that lived and don't stand within it, so just those die that
+/// its subtree listed. Of each that lives, parent, children and path are as before.
+pub fn what_dropping_leaves()
+    ensures alive { (scene : State) (top key : Key)
+        → is_alive (after_drop scene top).nodes key
+        ≡ (is_alive scene.nodes key && not (is_within scene.nodes top key)) }
+    ensures listed { (scene : State) (top : Key) → IsSound scene → (key : Key)
+        → is_alive (after_drop scene top).nodes key
+        ≡ (is_alive scene.nodes key && not (has (subtree scene.nodes top) key)) }
+    ensures parent { (scene : State) (top : Key) → IsSound scene → drop_refusal scene top ≡ None → (key : Key)
+        → parent_of (after_drop scene top).nodes key
+        ≡ (if is_within scene.nodes top key then None else parent_of scene.nodes key) }
+    ensures children { (scene : State) (top key : Key)
+        → children_of (after_drop scene top).nodes key
+        ≡ (if is_within scene.nodes top key then None else children_of scene.nodes key) }
+    ensures path { (scene : State) (top : Key) → IsSound scene → drop_refusal scene top ≡ None → (key : Key)
+        → is_within scene.nodes top key ≡ false → path (after_drop scene top).nodes key ≡ path scene.nodes key }
 {}

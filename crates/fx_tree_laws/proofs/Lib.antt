@@ -5,3 +5,4 @@ pub mod Making
 pub mod Attaching
 pub mod Detaching
 pub mod Dropping
+pub mod Paths

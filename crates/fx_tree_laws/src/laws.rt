@@ -1,5 +1,5 @@
 //! The laws of scenes.
-ghost use Rattle.std.specs.Prelude.{◌≡◌, ◌+◌, ◌++◌, ◌&&◌, ◌||◌, ℕ, true, false, not, if◌then◌else◌, List, [], insert, None, Some};
+ghost use Rattle.std.specs.Prelude.{◌≡◌, ◌+◌, ◌++◌, ◌&&◌, ◌||◌, ℕ, true, false, not, if◌then◌else◌, List, [], ◌∷◌, insert, None, Some};
 ghost use Rattle.std.specs.Option.{option_map};
 ghost use Rattle.fx_base.specs.declared.keys.NodeKey.{NodeKey as Key};
 ghost use Rattle.fx_tree.specs.Scene.{Scene as State, IsSound, after_attach, after_detach, after_drop, after_make, children_of, has, is_alive, is_same, is_within, parent_of, path, subtree, without};
@@ -77,4 +77,17 @@ pub fn what_dropping_leaves()
         ≡ (if is_within scene.nodes top key then None else children_of scene.nodes key) }
     ensures path { (scene : State) (top : Key) → IsSound scene → drop_refusal scene top ≡ None → (key : Key)
         → is_within scene.nodes top key ≡ false → path (after_drop scene top).nodes key ≡ path scene.nodes key }
+{}
+
+/// The path to a node is the path to its parent and then the node; where it has no parent, the node alone.
+pub fn paths_go_by_parents()
+    ensures below { (scene : State) → IsSound scene → (key parent : Key) → parent_of scene.nodes key ≡ Some parent
+        → path scene.nodes key ≡ path scene.nodes parent ++ key ∷ [] }
+    ensures top { (scene : State) (key : Key) → parent_of scene.nodes key ≡ None
+        → path scene.nodes key ≡ key ∷ [] }
+{}
+
+/// Two nodes have two paths.
+pub fn paths_differ()
+    ensures { (scene : State) (one other : Key) → path scene.nodes one ≡ path scene.nodes other → one ≡ other }
 {}

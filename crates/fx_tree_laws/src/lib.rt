@@ -6,6 +6,6 @@
 mod laws;
 
 pub use laws::{
-    subtrees_are_what_is_within, what_attaching_leaves, what_detaching_leaves,
-    what_dropping_leaves, what_making_leaves,
+    paths_differ, paths_go_by_parents, subtrees_are_what_is_within, what_attaching_leaves,
+    what_detaching_leaves, what_dropping_leaves, what_making_leaves,
 };

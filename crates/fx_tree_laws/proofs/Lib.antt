@@ -6,3 +6,4 @@ pub mod Attaching
 pub mod Detaching
 pub mod Dropping
 pub mod Paths
+pub mod Routes

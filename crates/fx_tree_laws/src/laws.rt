@@ -1,9 +1,12 @@
 //! The laws of scenes.
-ghost use Rattle.std.specs.Prelude.{◌≡◌, ◌+◌, ◌++◌, ◌&&◌, ◌||◌, ℕ, true, false, not, if◌then◌else◌, List, [], ◌∷◌, insert, None, Some};
+ghost use Rattle.std.specs.Prelude.{◌≡◌, ◌≤◌, ◌+◌, ◌++◌, ◌&&◌, ◌||◌, ℕ, true, false, not, if◌then◌else◌, List, [], ◌∷◌, length, insert, None, Some};
 ghost use Rattle.std.specs.Option.{option_map};
 ghost use Rattle.fx_base.specs.declared.keys.NodeKey.{NodeKey as Key};
 ghost use Rattle.fx_tree.specs.Scene.{Scene as State, IsSound, after_attach, after_detach, after_drop, after_make, children_of, has, is_alive, is_same, is_within, parent_of, path, subtree, without};
 ghost use Rattle.fx_tree.specs.Refusals.{attach_refusal, drop_refusal};
+ghost use Rattle.fx_events.specs.declared.kinds.EventKind.{EventKind as Kind};
+ghost use Rattle.fx_events.specs.Routes.{is_of_one_node, route_of};
+ghost use Rattle.fx_tree_laws.specs.Ways.{AreSteps};
 
 /// The subtree of a living node holds just the living nodes that are the node itself or stand below it, however deep.
 pub fn subtrees_are_what_is_within()
@@ -90,4 +93,33 @@ pub fn paths_go_by_parents()
 /// Two nodes have two paths.
 pub fn paths_differ()
     ensures { (scene : State) (one other : Key) → path scene.nodes one ≡ path scene.nodes other → one ≡ other }
+{}
+
+/// A route has at most 64 nodes.
+pub fn routes_are_short()
+    ensures { (scene : State) (on : Kind) (target : Key) → length (route_of scene.nodes on target) ≤ 64 }
+{}
+
+/// The route of an event to a living target ends at it.
+pub fn routes_end_at_their_targets()
+    ensures { (scene : State) (on : Kind) (target : Key) → is_alive scene.nodes target ≡ true
+        → (above : List Key) × (route_of scene.nodes on target ≡ above ++ target ∷ []) }
+{}
+
+/// Each node of a route is the parent of the next one.
+pub fn routes_step_down()
+    ensures { (scene : State) → IsSound scene → (on : Kind) (target : Key)
+        → AreSteps scene.nodes (route_of scene.nodes on target) }
+{}
+
+/// A route begins at a node without parent, which is the root where the target stands within the root; but that of an
+/// entered or exited event is its target alone.
+pub fn routes_begin_at_the_top()
+    ensures top { (scene : State) → IsSound scene → (on : Kind) (target : Key) → is_alive scene.nodes target ≡ true
+        → is_of_one_node on ≡ false
+        → (first : Key) × (rest : List Key) × (route_of scene.nodes on target ≡ first ∷ rest)
+        × (parent_of scene.nodes first ≡ None) }
+    ensures root { (scene : State) → IsSound scene → (on : Kind) (target root : Key) → is_of_one_node on ≡ false
+        → scene.root ≡ Some root → is_within scene.nodes root target ≡ true
+        → (rest : List Key) × (route_of scene.nodes on target ≡ root ∷ rest) }
 {}

@@ -1,6 +1,6 @@
 -- Characters over which the machine goes on within the limits; an attribute as most are written is such.
 -- The reader takes one whole; its answers cite these.
-use Rattle.std.proofs.Common.{◌≡◌, ℕ, ◌+◌, ◌≤◌, ◌<◌, Bool, true, false, cond, ◌&&◌, ◌||◌, List, [], ◌∷◌, ◌++◌, Option, Some, length, refl, sym, ◌∙◌, ap, subst, append_assoc, append-nil, length-append, arith}
+use Rattle.std.proofs.Common.{◌≡◌, ℕ, ◌+◌, ◌≤◌, ◌<◌, Bool, true, false, cond, ◌&&◌, ◌||◌, List, [], ◌∷◌, ◌++◌, suc, Option, Some, length, refl, sym, ◌∙◌, ap, subst, append_assoc, append-nil, length-append, arith}
 use Rattle.std.specs.List.{list_all}
 use lib.Dec.{eqb, ltb}
 use Rattle.std.proofs.lemmas.Str.{encode_ascii}
@@ -33,10 +33,10 @@ said_more said p s (c ∷ cs) s' h k =
     subst (λ (y : List ℕ). Said y (after_all (after p c) cs) s') (append_assoc said (c ∷ []) cs) (said_more (said ++ (c ∷ [])) (after p c) k.0 cs s' one k.4)
 
 -- a step within the limits, and the rest
-one_calm : (p : Position) (s m : State) (c : ℕ) (cs : List ℕ) (s' : State) → step p s c ≡ Some m → is_deep m ≡ false → is_long m ≡ false → Calm (after p c) m cs s' → Calm p s (c ∷ cs) s'
+pub one_calm : (p : Position) (s m : State) (c : ℕ) (cs : List ℕ) (s' : State) → step p s c ≡ Some m → is_deep m ≡ false → is_long m ≡ false → Calm (after p c) m cs s' → Calm p s (c ∷ cs) s'
 one_calm p s m c cs s' e d l k = (m, e, d, l, k)
 
-short_or : (n : ℕ) (b : Bool) → n ≤ 4096 → b ≡ false → (ltb 4096 n || b) ≡ false
+pub short_or : (n : ℕ) (b : Bool) → n ≤ 4096 → b ≡ false → (ltb 4096 n || b) ≡ false
 short_or n b h e = ap (λ z. z || b) (few n h) ∙ e
   where
     few : (n : ℕ) → n ≤ 4096 → ltb 4096 n ≡ false
@@ -46,7 +46,7 @@ both : (a b : Bool) → (a && b) ≡ true → (a ≡ true) × (b ≡ true)
 both true b e = (refl, e)
 both false b e = Prim.cc
 
-keyed_calm : (h : Held) (head : Head) (q : Position) → level_long h ≡ false → (cs k key rest : List ℕ) (s' : State) (p : Position) → key ≡ k ++ cs → list_all is_named cs ≡ true → length key ≤ 4096
+pub keyed_calm : (h : Held) (head : Head) (q : Position) → level_long h ≡ false → (cs k key rest : List ℕ) (s' : State) (p : Position) → key ≡ k ++ cs → list_all is_named cs ≡ true → length key ≤ 4096
     → ((t : Position) → Calm t (as_state h (Keyed head q key)) rest s') → Calm p (as_state h (Keyed head q k)) (cs ++ rest) s'
 keyed_calm h head q l [] k key rest s' p e n f w = subst (λ (y : List ℕ). Calm p (as_state h (Keyed head q y)) rest s') (e ∙ append-nil k) (w p)
 keyed_calm h head q l (c ∷ cs) k key rest s' p e n f w =
@@ -102,7 +102,7 @@ by_white : (c : ℕ) (w : Bool) → is_white c ≡ w → cond w White (cond (eqb
 by_white c true e h = e
 by_white c false e h = absurd (not_white c (eqb c 60) (eqb c 62) (eqb c 47) (eqb c 61) (eqb c 33) (eqb c 63) (eqb c 45) (eqb c 34) (eqb c 39) (eqb c 38) (is_letter c) (is_later c) h)
 
-white_is : (c : ℕ) → class_of c ≡ White → is_white c ≡ true
+pub white_is : (c : ℕ) → class_of c ≡ White → is_white c ≡ true
 unfolding class_of
 white_is c h = by_white c (is_white c) refl h
 
@@ -119,7 +119,7 @@ byte_by q c k e f = encode_ascii c (plain_low q c e)
 plain_byte : (q c : ℕ) → is_plain q c ≡ true → value_byte (class_of c) c ≡ c ∷ []
 plain_byte q c e = byte_by q c (class_of c) e refl
 
-abbrev quoting : Held → Head → Position → List ℕ → Quote → List ℕ → ℕ → State
+abbrev pub quoting : Held → Head → Position → List ℕ → Quote → List ℕ → ℕ → State
 quoting h head q key u v n = as_state h (Quoted head q key u v n)
 
 quoted_on : (p : Position) (h : Held) (head : Head) (q : Position) (key : List ℕ) (u : Quote) (v : List ℕ) (n c : ℕ) → is_plain (quote_code u) c ≡ true → step p (quoting h head q key u v n) c ≡ Some (quoting h head q key u (v ++ (c ∷ [])) (n + 1))
@@ -128,40 +128,49 @@ quoted_on p h head q key u v n c e =
     ∙ (ap (λ b. in_value b head q key u v n h c (class_of c)) (plain_unquoted u c e)
     ∙ ap (λ y. Some (quoting h head q key u (v ++ y) (n + 1))) (plain_byte (quote_code u) c e))
 
-value_calm : (h : Held) (head : Head) (q : Position) (key : List ℕ) (u : Quote) → level_long h ≡ false → (cs v value rest : List ℕ) (n : ℕ) (s' : State) (p : Position) → value ≡ v ++ cs → length v ≡ n → list_all (is_plain (quote_code u)) cs ≡ true → length value ≤ 4096
-    → ((t : Position) (m : ℕ) → Calm t (quoting h head q key u value m) rest s') → Calm p (quoting h head q key u v n) (cs ++ rest) s'
-value_calm h head q key u l [] v value rest n s' p e j f g w = subst (λ (y : List ℕ). Calm p (quoting h head q key u y n) rest s') (e ∙ append-nil v) (w p n)
-value_calm h head q key u l (c ∷ cs) v value rest n s' p e j f g w =
+pub value_calm : (h : Held) (head : Head) (q : Position) (key : List ℕ) (u : Quote) → level_long h ≡ false → (cs v value rest : List ℕ) (n : ℕ) (s' : State) (p : Position) → value ≡ v ++ cs → n + length cs ≤ 4096 → list_all (is_plain (quote_code u)) cs ≡ true
+    → ((t : Position) → Calm t (quoting h head q key u value (n + length cs)) rest s') → Calm p (quoting h head q key u v n) (cs ++ rest) s'
+value_calm h head q key u l [] v value rest n s' p e j f w =
+    subst (λ (m : ℕ). Calm p (quoting h head q key u v m) rest s') (none_less n) (subst (λ (y : List ℕ). Calm p (quoting h head q key u y (n + 0)) rest s') (e ∙ append-nil v) (w p))
+  where
+    none_less : (n : ℕ) → n + 0 ≡ n
+    none_less n = omega arith
+value_calm h head q key u l (c ∷ cs) v value rest n s' p e j f w =
     let a = both (is_plain (quote_code u) c) (list_all (is_plain (quote_code u)) cs) f in
     let b : value ≡ (v ++ (c ∷ [])) ++ cs = e ∙ sym (append_assoc v (c ∷ []) cs) in
-    let one : length (v ++ (c ∷ [])) ≡ length v + 1 = length-append v (c ∷ []) in
-    let long : length value ≡ length (v ++ (c ∷ [])) + length cs = ap length b ∙ length-append (v ++ (c ∷ [])) cs in
-    let count : length (v ++ (c ∷ [])) ≡ n + 1 = one ∙ ap (λ y. y + 1) j in
     let room : n + 1 ≤ 4096 = omega arith in
+    let more : (n + 1) + length cs ≤ 4096 = omega arith in
     one_calm p (quoting h head q key u v n) (quoting h head q key u (v ++ (c ∷ [])) (n + 1)) c (cs ++ rest) s'
     (quoted_on p h head q key u v n c a.0) refl (short_or (n + 1) (level_long h) room l)
-    (value_calm h head q key u l cs (v ++ (c ∷ [])) value rest (n + 1) s' (after p c) b count a.1 g w)
+    (value_calm h head q key u l cs (v ++ (c ∷ [])) value rest (n + 1) s' (after p c) b more a.1
+    (λ t. subst (λ (m : ℕ). Calm t (quoting h head q key u value m) rest s') (one_less n (length cs)) (w t)))
+  where
+    one_less : (n m : ℕ) → n + suc m ≡ (n + 1) + m
+    one_less n m = omega arith
 
-if_fresh : (b : Bool) (o : Option State) → b ≡ true → some_if b o ≡ o
+pub if_fresh : (b : Bool) (o : Option State) → b ≡ true → some_if b o ≡ o
 if_fresh true o e = refl
 if_fresh false o e = absurd (let f : false ≡ true = e in cc)
 
-equals_on : (h : Held) (head : Head) (q : Position) (key : List ℕ) (p : Position) → is_fresh key head ≡ true → step p (as_state h (Keyed head q key)) 61 ≡ Some (as_state h (Signed head q key))
+pub equals_on : (h : Held) (head : Head) (q : Position) (key : List ℕ) (p : Position) → is_fresh key head ≡ true → step p (as_state h (Keyed head q key)) 61 ≡ Some (as_state h (Signed head q key))
 unfolding class_of
 equals_on h head q key p f = if_fresh (is_fresh key head) (at h (Signed head q key)) f
 
-quote_on : (h : Held) (head : Head) (q : Position) (key : List ℕ) (u : Quote) (p : Position) → step p (as_state h (Signed head q key)) (quote_code u) ≡ Some (quoting h head q key u [] 0)
+pub quote_on : (h : Held) (head : Head) (q : Position) (key : List ℕ) (u : Quote) (p : Position) → step p (as_state h (Signed head q key)) (quote_code u) ≡ Some (quoting h head q key u [] 0)
 unfolding class_of
 quote_on h head q key Single p = refl
 quote_on h head q key Double p = refl
 
-first_on : (h : Held) (head : Head) (p : Position) (c : ℕ) (k : Class) → starts_name k ≡ true → in_spaced p head h c k ≡ Some (as_state h (Keyed head p (c ∷ [])))
+pub first_on : (h : Held) (head : Head) (p : Position) (c : ℕ) (k : Class) → starts_name k ≡ true → in_spaced p head h c k ≡ Some (as_state h (Keyed head p (c ∷ [])))
 first_on h head p c Letter e = refl
 first_on h head p c k e = absurd (let f : false ≡ true = e in cc)
 
 begun : (name : List ℕ) → begins_name name ≡ true → (c : ℕ) × (cs : List ℕ) × (name ≡ c ∷ cs) × (starts_name (class_of c) ≡ true)
 begun [] e = absurd (let f : false ≡ true = e in cc)
 begun (c ∷ cs) e = (c, cs, refl, e)
+
+from_none : (n : ℕ) → n ≤ 4096 → 0 + n ≤ 4096
+from_none n h = omega arith
 
 -- from the white before a name to the end of its value
 abbrev pub tight_after : Held → Head → Position → List ℕ → List ℕ → State
@@ -182,5 +191,5 @@ attribute_calm h head u (c ∷ cs) value p l b n v s t f =
     (keyed_calm h head p l cs (c ∷ []) (c ∷ cs) (61 ∷ (q ∷ (value ++ (q ∷ [])))) (tight_after h head p (c ∷ cs) value) (after p c) refl a.1 s
     (λ t1. one_calm t1 (as_state h (Keyed head p (c ∷ cs))) (as_state h (Signed head p (c ∷ cs))) 61 (q ∷ (value ++ (q ∷ []))) (tight_after h head p (c ∷ cs) value) (equals_on h head p (c ∷ cs) t1 f) refl l
     (one_calm (after t1 61) (as_state h (Signed head p (c ∷ cs))) (quoting h head p (c ∷ cs) u [] 0) q (value ++ (q ∷ [])) (tight_after h head p (c ∷ cs) value) (quote_on h head p (c ∷ cs) u (after t1 61)) refl (short_or 0 (level_long h) (omega arith) l)
-    (value_calm h head p (c ∷ cs) u l value [] value (q ∷ []) 0 (tight_after h head p (c ∷ cs) value) (after (after t1 61) q) refl refl v t
-    (λ t2 m. one_calm t2 (quoting h head p (c ∷ cs) u value m) (tight_after h head p (c ∷ cs) value) q [] (tight_after h head p (c ∷ cs) value) (quote_ends h head p (c ∷ cs) u value m t2) refl l refl)))))
+    (value_calm h head p (c ∷ cs) u l value [] value (q ∷ []) 0 (tight_after h head p (c ∷ cs) value) (after (after t1 61) q) refl (from_none (length value) t) v
+    (λ t2. one_calm t2 (quoting h head p (c ∷ cs) u value (0 + length value)) (tight_after h head p (c ∷ cs) value) q [] (tight_after h head p (c ∷ cs) value) (quote_ends h head p (c ∷ cs) u value (0 + length value) t2) refl l refl)))))

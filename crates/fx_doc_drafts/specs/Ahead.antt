@@ -1,11 +1,23 @@
 -- An attribute as most are written: its name, `=`, and plain ASCII in quotes of either kind.
 -- The reader takes such a one whole; no public clause cites this.
-use Rattle.std.specs.Prelude.{◌≡◌, ◌≤◌, ℕ, Bool, true, false, not, ◌==◌, ◌&&◌, List, [], ◌∷◌, ◌++◌, length, codes, nat_lt, nat_le}
+use Rattle.std.specs.Prelude.{◌≡◌, ◌≤◌, ℕ, Bool, true, false, not, ◌==◌, ◌&&◌, ◌||◌, List, [], ◌∷◌, ◌++◌, length, codes, nat_lt, nat_le}
 use Rattle.std.specs.List.{list_all}
 use Rattle.fx_text.specs.Characters as ascii
 use Rattle.fx_doc_grammar.specs.Characters.{class_of, in_name, starts_name}
 use Rattle.fx_doc_grammar.specs.Grammar.{quote_code}
 use Rattle.fx_doc_grammar.specs.declared.Quote.{Quote}
+
+-- characters of ASCII that don't end a line
+abbrev pub is_flat : ℕ → Bool
+is_flat c = nat_lt c 128 && not (c == ascii.line_feed)
+
+-- such a character, and none of these two: a run goes on up to one of them
+abbrev pub is_calm : ℕ → ℕ → ℕ → Bool
+is_calm a b c = is_flat c && (not (c == a) && not (c == b))
+
+-- white that doesn't end a line
+abbrev pub is_gap : ℕ → Bool
+is_gap c = (c == ascii.space) || ((c == ascii.tab) || (c == ascii.carriage_return))
 
 -- a character of a name, in ASCII
 abbrev pub is_named : ℕ → Bool

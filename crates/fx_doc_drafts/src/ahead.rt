@@ -32,14 +32,16 @@ fn is_plain(byte: u8, quote: u8) -> bool
     byte >= 32 && byte < 127 && byte != quote && byte != b'&' && byte != b'<'
 }
 
-fn name_length(bytes: &[u8]) -> usize
+/// The characters in front that a name holds.
+pub fn name_length(bytes: &[u8]) -> usize
     ensures count { result ≡ prefix_len is_named bytes.now }
     ensures within { result ≤ length bytes.now }
 {
     bytes.iter().take_while(|byte| is_named(**byte)).count()
 }
 
-fn value_length(bytes: &[u8], quote: u8) -> usize
+/// The plain characters in front of a value's end.
+pub fn value_length(bytes: &[u8], quote: u8) -> usize
     ensures count { result ≡ prefix_len (is_plain quote) bytes.now }
     ensures within { result ≤ length bytes.now }
 {
@@ -58,7 +60,8 @@ fn is_letter(class: Class) -> bool
     }
 }
 
-fn begins_name(name: &str) -> bool
+/// May a name begin so?
+pub fn begins_name(name: &str) -> bool
     ensures { result ≡ begins_name name.now }
 {
     match name.as_bytes().first() {
@@ -68,7 +71,7 @@ fn begins_name(name: &str) -> bool
 }
 
 /// The text behind this byte, if it begins with it.
-fn behind_byte(text: &str, byte: u8) -> Option<&str>
+pub fn behind_byte(text: &str, byte: u8) -> Option<&str>
     requires { byte < 128 }
     ensures some { IfSome result (λ behind. text.now ≡ byte ∷ behind.now) }
     ensures none { IfNone result ((behind : List ℕ) → text.now ≡ byte ∷ behind → ⊥) }
@@ -95,7 +98,7 @@ fn cut_at(text: &str, count: usize, stop: u8) -> Option<(&str, &str)>
     Some((piece, behind))
 }
 
-fn quote_byte(quote: Quote) -> u8
+pub fn quote_byte(quote: Quote) -> u8
     ensures { result ≡ quote_code quote }
 {
     match quote {
@@ -105,7 +108,7 @@ fn quote_byte(quote: Quote) -> u8
 }
 
 /// The quote that the text begins with, and the text behind it.
-fn quote_ahead(text: &str) -> Option<(Quote, &str)>
+pub fn quote_ahead(text: &str) -> Option<(Quote, &str)>
     ensures some { IfSome result (λ x. text.now ≡ quote_code x.0 ∷ x.1.now) }
     ensures none { IfNone result ((quote : Quote) (behind : List ℕ) → text.now ≡ quote_code quote ∷ behind → ⊥) }
 {

@@ -1,5 +1,5 @@
 -- The first character of a text, and a part of plain ASCII: their characters, and what is behind them.
-use Rattle.std.proofs.Common.{◌≡◌, ℕ, ◌+◌, ◌<◌, ◌≤◌, Bool, ◌&&◌, true, false, cond, not, List, [], ◌∷◌, ◌++◌, zero, suc, length, Some, slice_get, slice_index, refl, sym, ◌∙◌, ap, append-nil, length-append, arith}
+use Rattle.std.proofs.Common.{◌≡◌, ℕ, ◌+◌, ◌<◌, ◌≤◌, Bool, ◌&&◌, true, false, cond, not, List, [], ◌∷◌, ◌++◌, suc, length, Some, slice_get, refl, sym, ◌∙◌, ap, append-nil, length-append, arith}
 use Rattle.std.specs.List.{list_all}
 use Rattle.std.specs.Str.{chars, IsUtf8}
 use Rattle.std.specs.Char.{IsScalar}
@@ -8,7 +8,8 @@ use lib.Utf8.{encode, scalar, scalars}
 use Rattle.std.proofs.lemmas.Str.{chars-append, chars-encodes, length-le-encodes, IsUtf8-encode, IsUtf8-past_char, IsUtf8-from_ascii, chars-IsAscii, encode_ascii}
 use Rattle.fx_base.specs.Positions.{after_all}
 use Rattle.fx_base.specs.declared.positions.Position.{Position}
-use Rattle.fx_doc.specs.Reached.{is_flat}
+use Rattle.fx_doc_drafts.specs.Ahead.{is_flat}
+use Rattle.fx_doc_drafts.proofs.Texts.{flat_ascii}
 
 alone : (c : ℕ) → IsScalar c → chars (encode c) ≡ c ∷ []
 alone c s = ap chars (sym (append-nil (encode c))) ∙ chars-encodes (c ∷ []) (ap (λ y. y && true) s)
@@ -45,14 +46,6 @@ both false b e = Prim.cc
 
 low : (c : ℕ) → ltb c 128 ≡ true → c < 128
 low c e = grind (arith, e)
-
-flat_ascii : (part : List ℕ) → list_all is_flat part ≡ true → (i : ℕ) → slice_index part i < 128
-flat_ascii [] e i = nothing
-  where
-    nothing : 0 < 128
-    nothing = omega arith
-flat_ascii (c ∷ part) e zero = let a = both (is_flat c) (list_all is_flat part) e in low c (both (ltb c 128) (not (eqb c 10)) a.0).0
-flat_ascii (c ∷ part) e (suc i) = flat_ascii part (both (is_flat c) (list_all is_flat part) e).1 i
 
 pub flat_chars : (part rest : List ℕ) → list_all is_flat part ≡ true → chars (part ++ rest) ≡ part ++ chars rest
 flat_chars part rest e = chars-append part rest (IsUtf8-from_ascii part (flat_ascii part e)) ∙ ap (λ y. y ++ chars rest) (chars-IsAscii part (flat_ascii part e))

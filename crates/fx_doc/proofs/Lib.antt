@@ -5,6 +5,8 @@ pub mod Stacks
 pub mod Calm
 pub mod Loops
 pub mod Firsts
+pub mod Flowing
 pub mod Whole
+pub mod Carried
 pub mod Turning
 pub mod Answered

@@ -45,7 +45,7 @@ column_small all said p n h k m q =
 
 -- no reader holds a text that is too long: its drafts are short
 
-not_past : (n : ℕ) → n ≤ 4096 → ltb 4096 n ≡ false
+pub not_past : (n : ℕ) → n ≤ 4096 → ltb 4096 n ≡ false
 not_past n h = grind arith
 
 or_none : (a b : Bool) → a ≡ false → b ≡ false → (a || b) ≡ false

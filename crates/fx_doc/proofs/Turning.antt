@@ -1,6 +1,6 @@
 -- One turn of the loop over a text, and its end.
 -- The answers on the loop cite these.
-use Rattle.std.proofs.Common.{◌≡◌, ℕ, ◌+◌, ◌-◌, ◌<◌, ◌≤◌, List, [], ◌∷◌, ◌++◌, length, Ok, Err, Result, None, Some, refl, sym, ◌∙◌, ap, subst, append_assoc, append-nil, length-append, arith}
+use Rattle.std.proofs.Common.{◌≡◌, ℕ, suc, ◌+◌, ◌-◌, ◌<◌, ◌≤◌, List, [], ◌∷◌, ◌++◌, length, Ok, Err, Result, None, Some, refl, sym, ◌∙◌, ap, subst, append_assoc, append-nil, length-append, arith}
 use Rattle.std.specs.Result.{IsErrAnd}
 use Rattle.std.specs.Str.{chars, IsUtf8}
 use Rattle.std.proofs.lemmas.Str.{chars-nil}
@@ -12,7 +12,7 @@ use Rattle.fx_base.specs.declared.positions.Position.{Position}
 use Rattle.fx_doc_grammar.proofs.Bounds.{within_start}
 use Rattle.fx_doc_grammar.proofs.Roots.{line_bound, column_bound, answered_root}
 use Rattle.fx_doc.specs.Reads.{IsNext, IsRead}
-use Rattle.fx_doc.specs.Reached.{Said, TookFlat, IsReached}
+use Rattle.fx_doc.specs.Reached.{Calm, Said, TookFlat, IsReached}
 use Rattle.fx_doc.specs.Views.{view, reading}
 use Rattle.fx_doc.specs.declared.document.Document.{Document}
 use Rattle.fx_doc.specs.declared.document.DocError.{DocError}
@@ -80,6 +80,17 @@ flat_reached text rest left p q r r' h t e f =
       utf8 = utf8_behind t.part left t.flat (subst IsUtf8 t.split h.utf8);
       reached = subst (λ (y : Position). Said (h.said ++ t.part) y (view r')) (sym w) (said_more h.said p (view r) t.part (view r') h.reached t.calm);
     }
+
+-- nothing was taken
+nothing : (p : Position) (s s' : State) (part : List ℕ) → length part ≡ 0 → Calm p s part s' → s ≡ s'
+nothing p s s' [] e k = k
+nothing p s s' (c ∷ part) e k = absurd (let f : suc (length part) ≡ 0 = e in omega arith)
+
+pub still_reached : (text rest left : List ℕ) (p : Position) (s s' : State) → IsReached text rest p s → TookFlat rest p s left s' → (length left < length rest → ⊥) → IsReached text rest p s'
+still_reached text rest left p s s' h t n =
+    let l : length rest ≡ length t.part + length left = ap length t.split ∙ length-append t.part left in
+    let none : length t.part ≡ 0 = omega arith in
+    subst (λ (y : State). IsReached text rest p y) (nothing p s s' t.part none t.calm) h
 
 -- a step that stops
 pub stops_reached : (text rest behind : List ℕ) (p : Position) (r r' : Reader) (c : ℕ) (e : DocError) → IsReached text rest p (view r) → chars rest ≡ c ∷ chars behind → IsNext (view r) p c r' (Err e) → IsRead (chars text) (Err e)

@@ -13,6 +13,7 @@ mod markup;
 mod modes;
 mod reader;
 mod reading;
+mod runs;
 mod tags;
 mod values;
 

@@ -6,9 +6,11 @@ ghost use Rattle.fx_doc.specs.Reached.{TookFlat};
 ghost use Rattle.fx_doc.specs.Reads.{IsRead};
 ghost use Rattle.fx_doc.specs.Views.{view};
 ghost use Rattle.fx_doc.specs.declared.document.DocError.TheVariants as fault;
+ghost use Rattle.fx_doc.specs.declared.modes.Mode.TheVariants as kind;
 
 use crate::document::{DocError, Document};
 use crate::modes::{Mode, Reader};
+use crate::runs::{along, gap_ahead, run_ahead};
 use fx_base::{Position, Text};
 use fx_doc_drafts::{Word, attribute_ahead};
 use std::alloc::Global;
@@ -25,19 +27,46 @@ fn first_character(text: &str) -> Option<(char, &str)>
     Some((c, characters.as_str()))
 }
 
-/// The position behind so many characters of one line.
-fn along(position: Position, count: usize) -> Position
-    requires { position.column + count < 2 ^ 32 }
-    ensures line { result.line ≡ position.line }
-    ensures column { result.column ≡ position.column + count }
-{
-    Position {
-        line: position.line,
-        column: position.column + count as u32,
-    }
-}
-
 impl Reader {
+    /// Takes the run or the attribute that stands ahead, and gives the text behind it.
+    fn take_ahead<'a>(
+        &mut self,
+        alloc: Global,
+        position: Position,
+        rest: &'a str,
+    ) -> Result<&'a str, DocError>
+        requires { position.column + length rest.now < 2 ^ 32 }
+        ensures took { IfOk result (λ left. TookFlat rest.now position (view self.old) left.now (view self.new)) }
+        ensures memory { IfErr result (λ e. e ≡ fault.Memory) }
+    {
+        match &self.mode {
+            Mode::Inside => self.take_text(position, rest),
+            Mode::Commented => {
+                let (_, left) = run_ahead(rest, b'-', b'-', rest.len());
+                Ok(left)
+            }
+            Mode::Spaced(_) => {
+                let (gap, left) = gap_ahead(rest);
+                let position = along(position, gap.len());
+                self.take_attribute(alloc, position, left)
+            }
+            _ => Ok(rest),
+        }
+    }
+
+    /// Takes the text of an element that stands ahead, or white outside the elements.
+    fn take_text<'a>(&mut self, position: Position, rest: &'a str) -> Result<&'a str, DocError>
+        requires inside { self.old.mode ≡ kind.Inside }
+        requires column { position.column + length rest.now < 2 ^ 32 }
+        ensures took { IfOk result (λ left. TookFlat rest.now position (view self.old) left.now (view self.new)) }
+        ensures memory { IfErr result (λ e. e ≡ fault.Memory) }
+    {
+        match self.held.take_text(position, rest) {
+            Ok(left) => Ok(left),
+            Err(_) => Err(DocError::Memory),
+        }
+    }
+
     /// Takes the attribute that stands ahead, if it is written as most are, and gives the text behind it.
     fn take_attribute<'a>(
         &mut self,
@@ -86,7 +115,7 @@ pub fn read_text(alloc: Global, text: &str) -> Result<Document, DocError>
     while let Some((c, behind)) = first_character(rest) {
         reader.next(alloc, position, c)?;
         position = position.after(c);
-        rest = reader.take_attribute(alloc, position, behind)?;
+        rest = reader.take_ahead(alloc, position, behind)?;
         position = along(position, behind.len() - rest.len());
     }
     match reader.into_document() {

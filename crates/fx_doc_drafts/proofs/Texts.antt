@@ -1,10 +1,12 @@
 -- Texts that grow by a character: their bytes, and the count of their characters.
 -- Below the answers on drafts.
-use Rattle.std.proofs.Common.{◌≡◌, ℕ, Bool, false, subst, if◌then◌else◌, ◌+◌, ◌≤◌, ◌&&◌, true, List, [], ◌∷◌, ◌++◌, length, sym, ◌∙◌, ap, length-append, append-nil, arith}
+use Rattle.std.proofs.Common.{◌≡◌, ℕ, zero, suc, Bool, false, refl, subst, if◌then◌else◌, ◌+◌, ◌<◌, ◌≤◌, ◌&&◌, true, List, [], ◌∷◌, ◌++◌, length, slice_index, sym, ◌∙◌, ap, length-append, append-nil, arith}
+use Rattle.std.specs.List.{list_all}
 use Rattle.std.specs.Str.{chars, IsUtf8}
 use Rattle.std.specs.Char.{encode_utf8, IsScalar}
 use lib.Utf8.{encode, encodes, scalars}
-use Rattle.std.proofs.lemmas.Str.{chars-append, chars-encodes, chars-nil, length-le-encodes, encodes-chars}
+use Rattle.std.proofs.lemmas.Str.{chars-append, chars-encodes, chars-nil, chars-IsAscii, length-le-encodes, encodes-chars}
+use Rattle.fx_doc_drafts.specs.Ahead.{is_flat}
 
 pub chars_more : (bs cs : List ℕ) (c n : ℕ) → IsUtf8 bs → IsScalar c → length (chars bs) ≡ n → cs ≡ bs ++ encode_utf8 c → length (chars cs) ≡ n + 1
 chars_more bs cs c n u s e w =
@@ -39,3 +41,24 @@ name_short bs cs c e h n =
 pub name_kept : (b : Bool) (bs cs : List ℕ) (c : ℕ) → cs ≡ (if b then bs ++ encode_utf8 c else bs) → encode_utf8 c ≡ c ∷ [] → length bs ≤ 4096 → (length bs ≡ 4096 → ⊥) → length cs ≤ 4096
 name_kept true bs cs c e f h n = name_short bs cs c (name_more bs cs c e f) h n
 name_kept false bs cs c e f h n = subst (λ (y : List ℕ). length y ≤ 4096) (sym e) h
+
+-- a piece of ASCII more
+
+both : (a b : Bool) → (a && b) ≡ true → (a ≡ true) × (b ≡ true)
+both true b e = (refl, e)
+both false b e = Prim.cc
+
+flat_low : (c : ℕ) → is_flat c ≡ true → c < 128
+flat_low c e = grind (arith, e)
+
+pub flat_ascii : (part : List ℕ) → list_all is_flat part ≡ true → (i : ℕ) → slice_index part i < 128
+flat_ascii [] e i = nothing
+  where
+    nothing : 0 < 128
+    nothing = omega arith
+flat_ascii (c ∷ part) e zero = flat_low c (both (is_flat c) (list_all is_flat part) e).0
+flat_ascii (c ∷ part) e (suc i) = flat_ascii part (both (is_flat c) (list_all is_flat part) e).1 i
+
+pub chars_longer : (bs cs piece : List ℕ) (n : ℕ) → IsUtf8 bs → list_all is_flat piece ≡ true → length (chars bs) ≡ n → cs ≡ bs ++ piece → length (chars cs) ≡ n + length piece
+chars_longer bs cs piece n u f e w =
+    ap (λ y. length (chars y)) w ∙ (ap length (chars-append bs piece u) ∙ (length-append (chars bs) (chars piece) ∙ (ap (λ y. y + length (chars piece)) e ∙ ap (λ y. n + length y) (chars-IsAscii piece (flat_ascii piece f)))))

@@ -1,12 +1,13 @@
-//! Attributes as most are written, `name="value"` with nothing but plain ASCII between the quotes: found ahead as
-//! slices.
+//! Attributes as most are written, `name="value"` or `name='value'` with nothing but plain ASCII between the quotes:
+//! found ahead as slices.
 //! Every other attribute, and every fault, is left to the reader's steps.
 ghost use Rattle.std.specs.Prelude.{◌≡◌, ◌∷◌, ◌<◌, ◌≤◌, ℕ, List, length, IfSome, IfNone};
 ghost use Rattle.std.specs.List.{prefix_len};
 ghost use Rattle.fx_doc_grammar.specs.Characters.{class_of, starts_name};
+ghost use Rattle.fx_doc_grammar.specs.Grammar.{quote_code};
 ghost use Rattle.fx_doc_drafts.specs.Ahead.{IsAhead, IsCut, is_named, is_plain, begins_name};
 
-use fx_doc_grammar::Class;
+use fx_doc_grammar::{Class, Quote};
 
 /// The greatest length of a name or a value that is taken whole.
 const MOST: usize = 4096;
@@ -25,24 +26,29 @@ fn is_named(byte: u8) -> bool
     byte < 128 && Class::of(char::from(byte)).is_named()
 }
 
-fn is_plain(byte: u8) -> bool
-    ensures { result ≡ is_plain byte }
+fn is_plain(byte: u8, quote: u8) -> bool
+    ensures { result ≡ is_plain quote byte }
 {
-    byte >= 32 && byte < 127 && byte != b'"' && byte != b'&' && byte != b'<'
+    byte >= 32 && byte < 127 && byte != quote && byte != b'&' && byte != b'<'
 }
 
-fn name_length(bytes: &[u8]) -> usize
+/// The characters in front that a name holds.
+pub fn name_length(bytes: &[u8]) -> usize
     ensures count { result ≡ prefix_len is_named bytes.now }
     ensures within { result ≤ length bytes.now }
 {
     bytes.iter().take_while(|byte| is_named(**byte)).count()
 }
 
-fn value_length(bytes: &[u8]) -> usize
-    ensures count { result ≡ prefix_len is_plain bytes.now }
+/// The plain characters in front of a value's end.
+pub fn value_length(bytes: &[u8], quote: u8) -> usize
+    ensures count { result ≡ prefix_len (is_plain quote) bytes.now }
     ensures within { result ≤ length bytes.now }
 {
-    bytes.iter().take_while(|byte| is_plain(**byte)).count()
+    bytes
+        .iter()
+        .take_while(|byte| is_plain(**byte, quote))
+        .count()
 }
 
 fn is_letter(class: Class) -> bool
@@ -54,7 +60,8 @@ fn is_letter(class: Class) -> bool
     }
 }
 
-fn begins_name(name: &str) -> bool
+/// May a name begin so?
+pub fn begins_name(name: &str) -> bool
     ensures { result ≡ begins_name name.now }
 {
     match name.as_bytes().first() {
@@ -64,7 +71,7 @@ fn begins_name(name: &str) -> bool
 }
 
 /// The text behind this byte, if it begins with it.
-fn behind_byte(text: &str, byte: u8) -> Option<&str>
+pub fn behind_byte(text: &str, byte: u8) -> Option<&str>
     requires { byte < 128 }
     ensures some { IfSome result (λ behind. text.now ≡ byte ∷ behind.now) }
     ensures none { IfNone result ((behind : List ℕ) → text.now ≡ byte ∷ behind → ⊥) }
@@ -91,6 +98,29 @@ fn cut_at(text: &str, count: usize, stop: u8) -> Option<(&str, &str)>
     Some((piece, behind))
 }
 
+pub fn quote_byte(quote: Quote) -> u8
+    ensures { result ≡ quote_code quote }
+{
+    match quote {
+        Quote::Single => b'\'',
+        Quote::Double => b'"',
+    }
+}
+
+/// The quote that the text begins with, and the text behind it.
+pub fn quote_ahead(text: &str) -> Option<(Quote, &str)>
+    ensures some { IfSome result (λ x. text.now ≡ quote_code x.0 ∷ x.1.now) }
+    ensures none { IfNone result ((quote : Quote) (behind : List ℕ) → text.now ≡ quote_code quote ∷ behind → ⊥) }
+{
+    if let Some(behind) = behind_byte(text, b'"') {
+        return Some((Quote::Double, behind));
+    }
+    match behind_byte(text, b'\'') {
+        Some(behind) => Some((Quote::Single, behind)),
+        None => None,
+    }
+}
+
 /// The attribute that the text begins with, exactly where it is written so.
 pub fn attribute_ahead(text: &str) -> Option<Ahead<'_>>
     ensures some { IfSome result (λ a. IsAhead text.now a.name.now a.value.now a.behind.now) }
@@ -100,8 +130,9 @@ pub fn attribute_ahead(text: &str) -> Option<Ahead<'_>>
     if !begins_name(name) {
         return None;
     }
-    let rest = behind_byte(rest, b'"')?;
-    let (value, behind) = cut_at(rest, value_length(rest.as_bytes()), b'"')?;
+    let (quote, rest) = quote_ahead(rest)?;
+    let stop = quote_byte(quote);
+    let (value, behind) = cut_at(rest, value_length(rest.as_bytes(), stop), stop)?;
     Some(Ahead {
         name,
         value,

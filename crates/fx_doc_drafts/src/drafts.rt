@@ -4,7 +4,9 @@ ghost use Rattle.std.specs.Prelude.{◌≡◌, ◌≤◌, ◌<◌, ◌+◌, ◌�
 ghost use Rattle.std.specs.Str.{chars};
 ghost use Rattle.std.specs.String.{string_bytes};
 ghost use Rattle.std.specs.Char.{encode_utf8};
+ghost use Rattle.std.specs.List.{list_all};
 ghost use Rattle.fx_doc_grammar.specs.Characters.{class_of, in_name};
+ghost use Rattle.fx_doc_drafts.specs.Ahead.{is_flat};
 
 use fx_base::Text;
 use std::alloc::{AllocError, AllocFailed, Global};
@@ -127,6 +129,18 @@ impl Draft {
         }
         self.text.push(c)?;
         self.count += 1;
+        Ok(())
+    }
+
+    /// Appends a piece of ASCII that has room.
+    pub fn push_flat(&mut self, piece: &str) -> Result<(), AllocError>
+        requires flat { list_all is_flat piece.now ≡ true }
+        requires room { self.old.count + length piece.now ≤ 4096 }
+        ensures bytes { OnOk result (string_bytes self.new.text ≡ string_bytes self.old.text ++ piece.now) }
+        ensures count { OnOk result (self.new.count ≡ self.old.count + length piece.now) }
+    {
+        self.text.push_str(piece)?;
+        self.count += piece.len();
         Ok(())
     }
 

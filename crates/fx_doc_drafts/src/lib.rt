@@ -6,6 +6,9 @@ mod ahead;
 mod drafts;
 mod names;
 
-pub use ahead::{Ahead, attribute_ahead};
+pub use ahead::{
+    Ahead, attribute_ahead, begins_name, behind_byte, name_length, quote_ahead, quote_byte,
+    value_length,
+};
 pub use drafts::{Draft, Halt, Word};
 pub use names::Names;

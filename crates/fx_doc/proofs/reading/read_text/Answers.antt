@@ -7,7 +7,7 @@ use Rattle.fx_doc.proofs.reading.read_text.Goals as goal
 
 pub loop-c-preserved : goal.loop-c-preserved
 loop-c-preserved c =
-    flat_reached c.args.text.now c.in-Some.behind.now c.in_ok-rest.rest.now c.after-position.result c.along-position.result c.next.new.self c.take_attribute.new.self
+    flat_reached c.args.text.now c.in-Some.behind.now c.in_ok-rest.rest.now c.after-position.result c.along-position.result c.next.new.self c.take_ahead.new.self
     (one_reached c.args.text.now c.loop-c.rest.now c.in-Some.behind.now c.loop-c.position c.after-position.result c.loop-c.reader c.next.new.self c.in-Some.c c.loop-c.invariant c.in-Some.ensures.some.0 c.in-Some.ensures.some.1 c.in-Some.ensures.utf8 c.in_ok-next.ensures c.after-position.ensures)
     c.in_ok-rest.ensures.took c.along-position.ensures.line c.along-position.ensures.column
 
@@ -35,6 +35,12 @@ returns-in-None c = stopped_reached c.args.text.now c.loop-c.rest.now c.loop-c.p
 
 pub along-position-requires : goal.along-position-requires
 along-position-requires c =
+    let h = column_fits c.args.text.now c.in-Some.behind.now c.after-position.result (view c.next.new.self)
+    (one_reached c.args.text.now c.loop-c.rest.now c.in-Some.behind.now c.loop-c.position c.after-position.result c.loop-c.reader c.next.new.self c.in-Some.c c.loop-c.invariant c.in-Some.ensures.some.0 c.in-Some.ensures.some.1 c.in-Some.ensures.utf8 c.in_ok-next.ensures c.after-position.ensures) c.requires in
+    omega (arith, h)
+
+pub take_ahead-requires : goal.take_ahead-requires
+take_ahead-requires c =
     let h = column_fits c.args.text.now c.in-Some.behind.now c.after-position.result (view c.next.new.self)
     (one_reached c.args.text.now c.loop-c.rest.now c.in-Some.behind.now c.loop-c.position c.after-position.result c.loop-c.reader c.next.new.self c.in-Some.c c.loop-c.invariant c.in-Some.ensures.some.0 c.in-Some.ensures.some.1 c.in-Some.ensures.utf8 c.in_ok-next.ensures c.after-position.ensures) c.requires in
     omega (arith, h)

@@ -296,7 +296,7 @@ pub(crate) fn made<L: Ledgers>(
     if are_idle(old, marks.as_slice(), facts) {
         return Ok(Vec::new(alloc));
     }
-    let mut fresh = Vec::new(alloc);
+    let mut fresh = Vec::with_capacity(alloc, restyle.len().min(facts.len()))?;
     let mut steps = vec![in alloc; None; facts.len()]?;
     let mut guess = 0;
     for (at, node) in facts.iter().enumerate() {

@@ -9,6 +9,7 @@ mod heads;
 mod imports;
 mod instructions;
 mod levels;
+mod light;
 mod markup;
 mod modes;
 mod reader;

@@ -5,3 +5,4 @@ pub mod Judgements
 pub mod Taking
 pub mod Reached
 pub mod Light
+pub mod Keys

@@ -8,6 +8,7 @@ mod document;
 mod heads;
 mod imports;
 mod instructions;
+mod keys;
 mod levels;
 mod light;
 mod markup;

@@ -81,7 +81,7 @@ impl Reader {
             return Ok(rest);
         };
         let Some(ahead) = attribute_ahead(rest) else {
-            return Ok(rest);
+            return self.take_key(alloc, position, rest);
         };
         let Ok(key) = Word::of_text(alloc, ahead.name) else {
             return Err(DocError::Memory);

@@ -1,6 +1,7 @@
 -- Runs that the reader takes, over its own values.
 -- Above the lemmas on runs; the reader's answers cite these.
-use Rattle.std.proofs.Common.{◌≡◌, ℕ, ◌+◌, ◌≤◌, true, false, List, [], ◌++◌, String, Global, Result, Ok, Err, IfOk, length, sym, subst}
+use Rattle.std.proofs.Common.{◌≡◌, ℕ, ◌+◌, ◌≤◌, Bool, true, false, List, [], ◌++◌, String, Global, Result, Ok, Err, IfOk, length, sym, ◌∙◌, ap, subst}
+use lib.Dec.{eqb}
 use Rattle.std.specs.List.{list_all}
 use Rattle.std.specs.String.{string_bytes}
 use Rattle.fx_base.specs.declared.positions.Position.{Position}
@@ -68,3 +69,7 @@ pub further_taken : (r : Reader) (a d : Head) (text gap left name value behind k
 further_taken r a d text gap left name value behind key val p q m n k h e f g l w t =
     subst (λ (y : Mode). TookFlat text p (in_mode r y) behind (in_mode r (v.Tight d))) (sym m)
     (further_took (held_view r.held) (head_view a) text gap left name value behind key val (head_view d) p q (level_short r) n k h e f g l w t)
+
+-- a part that code finds not to be empty
+pub filled : (gap : List ℕ) (b : Bool) → b ≡ eqb (length gap) 0 → b ≡ false → gap ≡ [] → ⊥
+filled gap b e f g = let h : false ≡ true = sym f ∙ (e ∙ ap (λ (y : List ℕ). eqb (length y) 0) g) in cc

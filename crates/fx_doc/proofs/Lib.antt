@@ -8,5 +8,6 @@ pub mod Firsts
 pub mod Flowing
 pub mod Whole
 pub mod Carried
+pub mod Keying
 pub mod Turning
 pub mod Answered

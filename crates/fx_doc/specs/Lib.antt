@@ -4,3 +4,5 @@ pub mod Reads
 pub mod Judgements
 pub mod Taking
 pub mod Reached
+pub mod Light
+pub mod Keys

@@ -4,14 +4,15 @@ ghost use Rattle.std.specs.Prelude.{◌≡◌, ◌≢◌, true, false};
 ghost use Rattle.fx_doc_grammar.specs.declared.Class.TheVariants.{Less, Ampersand};
 ghost use Rattle.fx_doc_grammar.specs.Characters.{class_of};
 ghost use Rattle.fx_doc_grammar.specs.Machine.{step};
-ghost use Rattle.fx_doc.specs.Views.{view, Takes};
+ghost use Rattle.fx_doc.specs.Views.{view, stack_view, open_name, Takes};
 ghost use Rattle.fx_doc.specs.Taking.{TakesName, TakesValue, TakesSign};
+ghost use Rattle.fx_doc.specs.Light.{TakesEnd, TakesTurn};
 
 use crate::modes::{Held, Mode, Reader, Valued};
 use crate::values::shown;
 use fx_base::Position;
 use fx_doc_drafts::{Halt, Word};
-use fx_doc_grammar::Class;
+use fx_doc_grammar::{Class, Entity, Turn};
 
 /// Appends a character of a name; false at any other.
 fn absorb_name(name: &mut Word, c: char) -> Result<bool, Halt>
@@ -69,6 +70,33 @@ impl Held {
     }
 }
 
+/// Goes on with the name of an end tag; false at any other character.
+fn absorb_end(held: &Held, at: &mut usize, c: char) -> bool
+    ensures { TakesEnd c (open_name (stack_view held.now.stack.items)) at.old at.new result }
+{
+    let Some(byte) = held.name_byte(*at) else {
+        return false;
+    };
+    if u32::from(byte) != u32::from(c) {
+        return false;
+    }
+    *at += 1;
+    true
+}
+
+/// Goes on with a reference; false at its end, and where none goes on so.
+fn absorb_reference(entity: &mut Entity, c: char) -> bool
+    ensures { TakesTurn c entity.old entity.new result }
+{
+    match entity.step(c) {
+        Some(Turn::Further(next)) => {
+            *entity = next;
+            true
+        }
+        _ => false,
+    }
+}
+
 impl Reader {
     /// Takes a character that only makes the text at hand longer; false where it does more.
     pub fn absorb(&mut self, position: Position, c: char) -> Result<bool, Halt>
@@ -79,6 +107,9 @@ impl Reader {
             Mode::Naming(_, name) => absorb_name(name, c),
             Mode::Keyed(_, _, key) => absorb_name(key, c),
             Mode::Quoted(valued) => valued.absorb(c),
+            Mode::Ending(at) => Ok(absorb_end(&self.held, at, c)),
+            Mode::Referring(_, entity) => Ok(absorb_reference(entity, c)),
+            Mode::ValueReferring(_, _, entity) => Ok(absorb_reference(entity, c)),
             _ => Ok(false),
         }
     }

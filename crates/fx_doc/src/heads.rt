@@ -13,6 +13,7 @@ use crate::modes::Head;
 use fx_base::{Position, Text};
 use fx_doc_drafts::{Names, Word};
 use std::alloc::{AllocError, Global};
+use std::mem;
 
 /// How many names are looked through.
 const NEAR: usize = 8;
@@ -28,6 +29,32 @@ impl Head {
             position,
             later: Names::new(alloc),
         }
+    }
+
+    /// No tag: what stands in a head's place while that is worked on.
+    fn empty(alloc: Global) -> Head {
+        Head {
+            name: Text::new(alloc),
+            attributes: Vec::new(alloc),
+            position: Position::START,
+            later: Names::new(alloc),
+        }
+    }
+
+    /// Adds an attribute, whose name stands at that position.
+    pub fn add(
+        &mut self,
+        alloc: Global,
+        position: Position,
+        key: Word,
+        value: Text,
+    ) -> Result<(), AllocError>
+        ensures { OnOk result (head_view self.new
+            ≡ with_attribute (head_view self.old) position (string_bytes key.text) value) }
+    {
+        let head = mem::replace(self, Head::empty(alloc));
+        *self = head.with_attribute(alloc, position, key, value)?;
+        Ok(())
     }
 
     /// Has the tag no attribute of this name?

@@ -53,6 +53,9 @@ impl Reader {
         if self.absorb(position, c)? {
             return Ok(true);
         }
+        if self.step_lightly(position, c) {
+            return Ok(true);
+        }
         let mode = mem::replace(&mut self.mode, Mode::Ended);
         match moved(alloc, &mut self.held, mode, position, c)? {
             Some(mode) => {

@@ -7,6 +7,7 @@ ghost use Rattle.fx_doc.specs.Reads.{IsRead};
 ghost use Rattle.fx_doc.specs.Views.{view};
 ghost use Rattle.fx_doc.specs.declared.document.DocError.TheVariants as fault;
 ghost use Rattle.fx_doc.specs.declared.modes.Mode.TheVariants as kind;
+ghost use Rattle.fx_base.specs.declared.positions.Position.{Position};
 
 use crate::document::{DocError, Document};
 use crate::modes::{Mode, Reader};
@@ -45,6 +46,9 @@ impl Reader {
                 let (_, left) = run_ahead(rest, b'-', b'-', rest.len());
                 Ok(left)
             }
+            Mode::Instructed(_, _) => self.take_instruction(rest),
+            Mode::Quoted(_) => self.take_value(rest),
+            Mode::Tight(_) => self.take_further(alloc, position, rest),
             Mode::Spaced(_) => {
                 let (gap, left) = gap_ahead(rest);
                 let position = along(position, gap.len());
@@ -67,6 +71,74 @@ impl Reader {
         }
     }
 
+    /// Takes the text of an instruction that stands ahead, up to the next `?` or the end of the line.
+    fn take_instruction<'a>(&mut self, rest: &'a str) -> Result<&'a str, DocError>
+        ensures took { (p : Position) → IfOk result (λ left. TookFlat rest.now p (view self.old) left.now
+            (view self.new)) }
+        ensures memory { IfErr result (λ e. e ≡ fault.Memory) }
+    {
+        let Mode::Instructed(_, text) = &mut self.mode else {
+            return Ok(rest);
+        };
+        let (piece, left) = run_ahead(rest, b'?', b'?', rest.len());
+        match text.push_str(piece) {
+            Ok(()) => Ok(left),
+            Err(_) => Err(DocError::Memory),
+        }
+    }
+
+    /// Takes the plain characters ahead that a value goes on with.
+    fn take_value<'a>(&mut self, rest: &'a str) -> Result<&'a str, DocError>
+        ensures took { (p : Position) → IfOk result (λ left. TookFlat rest.now p (view self.old) left.now
+            (view self.new)) }
+        ensures memory { IfErr result (λ e. e ≡ fault.Memory) }
+    {
+        let Mode::Quoted(valued) = &mut self.mode else {
+            return Ok(rest);
+        };
+        match valued.take(rest) {
+            Ok(left) => Ok(left),
+            Err(_) => Err(DocError::Memory),
+        }
+    }
+
+    /// Takes white and the attribute behind it, that stand ahead of another's end.
+    fn take_further<'a>(
+        &mut self,
+        alloc: Global,
+        position: Position,
+        rest: &'a str,
+    ) -> Result<&'a str, DocError>
+        requires { position.column + length rest.now < 2 ^ 32 }
+        ensures took { IfOk result (λ left. TookFlat rest.now position (view self.old) left.now (view self.new)) }
+        ensures memory { IfErr result (λ e. e ≡ fault.Memory) }
+    {
+        let Mode::Tight(head) = &mut self.mode else {
+            return Ok(rest);
+        };
+        let (gap, left) = gap_ahead(rest);
+        if gap.is_empty() {
+            return Ok(rest);
+        }
+        let Some(ahead) = attribute_ahead(left) else {
+            return Ok(rest);
+        };
+        let Ok(key) = Word::of_text(alloc, ahead.name) else {
+            return Err(DocError::Memory);
+        };
+        if !head.is_fresh(&key) {
+            return Ok(rest);
+        }
+        // The value is short, so nothing but memory can be wanting.
+        let Ok(value) = Text::from_str(alloc, ahead.value) else {
+            return Err(DocError::Memory);
+        };
+        match head.add(alloc, along(position, gap.len()), key, value) {
+            Ok(()) => Ok(ahead.behind),
+            Err(_) => Err(DocError::Memory),
+        }
+    }
+
     /// Takes the attribute that stands ahead, if it is written as most are, and gives the text behind it.
     fn take_attribute<'a>(
         &mut self,
@@ -81,7 +153,7 @@ impl Reader {
             return Ok(rest);
         };
         let Some(ahead) = attribute_ahead(rest) else {
-            return Ok(rest);
+            return self.take_key(alloc, position, rest);
         };
         let Ok(key) = Word::of_text(alloc, ahead.name) else {
             return Err(DocError::Memory);
@@ -113,10 +185,15 @@ pub fn read_text(alloc: Global, text: &str) -> Result<Document, DocError>
     let mut position = Position::START;
     let mut rest = text;
     while let Some((c, behind)) = first_character(rest) {
+        let left = reader.take_ahead(alloc, position, rest)?;
+        if left.len() < rest.len() {
+            position = along(position, rest.len() - left.len());
+            rest = left;
+            continue;
+        }
         reader.next(alloc, position, c)?;
         position = position.after(c);
-        rest = reader.take_ahead(alloc, position, behind)?;
-        position = along(position, behind.len() - rest.len());
+        rest = behind;
     }
     match reader.into_document() {
         Some(document) => Ok(document),

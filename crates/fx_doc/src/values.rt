@@ -109,7 +109,7 @@ pub fn value_referring(
 
 impl Held {
     /// The byte at that index of the innermost open name.
-    fn name_byte(&self, at: usize) -> Option<u8>
+    pub fn name_byte(&self, at: usize) -> Option<u8>
         ensures found { IfSome result (λ b. drop at (open_name (stack_view self.now.stack.items))
             ≡ b ∷ drop (at + 1) (open_name (stack_view self.now.stack.items))) }
         ensures none { IfNone result (drop at (open_name (stack_view self.now.stack.items)) ≡ []) }

@@ -20,10 +20,11 @@ pub struct Ahead<'a> {
     pub behind: &'a str,
 }
 
+#[tactic(auto, unfolding(fx_doc_grammar::specs::Characters::class_of))]
 fn is_named(byte: u8) -> bool
     ensures { result ≡ is_named byte }
 {
-    byte < 128 && Class::of(char::from(byte)).is_named()
+    matches!(byte, b'a'..=b'z' | b'A'..=b'Z' | b'_' | b'0'..=b'9' | b':' | b'.' | b'-')
 }
 
 fn is_plain(byte: u8, quote: u8) -> bool

@@ -11,7 +11,7 @@ use Rattle.fx_tree.specs.Refusals.{attach_refusal, is_held, refused}
 use Rattle.fx_tree.proofs.Keys.{has-insert, is_same-false, is_same-refl, is_same-sym, is_same-true}
 use Rattle.fx_tree.proofs.Lines.{IsLine-joined, IsLine-same}
 use Rattle.fx_tree.proofs.Views.{none_from, refused-None}
-use Rattle.fx_tree_laws.proofs.Known.{children_further, children_of-nil, children_there, line_from, line_known, parent_first, parent_further, parent_nowhere, passed, short_line, taken}
+use Rattle.fx_tree_laws.proofs.Known.{children_further, children_of-nil, children_there, line_from, line_known, line_stays, parent_first, parent_further, parent_nowhere, passed, short_line, taken}
 use Rattle.fx_tree_laws.proofs.Subtrees.{within_lives}
 use Rattle.fx_tree_laws.proofs.Mapped.{children_mapped, is_some-mapped, parent_mapped}
 
@@ -65,6 +65,7 @@ pub record IsFree (scene : Scene) (parent child : NodeKey) : Type 0 where
   pub child_alive : is_alive scene.nodes child ≡ true
   pub no_loop : has (line scene.nodes parent) child ≡ false
   pub topmost : parent_of scene.nodes child ≡ None
+  pub no_root : is_held scene.root child ≡ false
   pub fits : is_too_deep scene.nodes parent child ≡ false
 
 pub free : (scene : Scene) (parent child : NodeKey) (place : ℕ) → attach_refusal scene parent child place ≡ None
@@ -85,6 +86,7 @@ free scene parent child place none =
       child_alive = not-false (is_alive scene.nodes child) alive.1;
       no_loop = two.0;
       topmost = none_from (parent_of scene.nodes child) three.0;
+      no_root = four.0;
       fits = six.0;
     }
 
@@ -141,27 +143,53 @@ module _ (scene : Scene) (sound : IsSound scene) (parent child : NodeKey) (place
           ltb-false 64 (length (line scene.nodes parent) + length (line scene.nodes key))
           (sym (ap (λ (b : Bool). b && ltb 64 (length (line scene.nodes parent) + length (line scene.nodes key))) within) ∙ here)
 
-  pub path_joined : (key : NodeKey) → is_within scene.nodes child key ≡ true
-      → path (after_attach scene parent child place).nodes key ≡ path scene.nodes parent ++ path scene.nodes key
-  path_joined key within =
+  line_joined : (key : NodeKey) → is_within scene.nodes child key ≡ true
+      → IsLine (parent_of (after_attach scene parent child place).nodes) (Some key) (line scene.nodes key ++ line scene.nodes parent)
+  line_joined key within =
       let P : Bool → Type 0 = λ b. IsLine (parent_of (after_attach scene parent child place).nodes) (Some key)
       (line scene.nodes key ++ cond b (line scene.nodes parent) []) in
+      subst P within (new_line key)
+
+  few_joined : (key : NodeKey) → is_within scene.nodes child key ≡ true → length (line scene.nodes key ++ line scene.nodes parent) ≤ 64
+  few_joined key within =
       let long : length (line scene.nodes key ++ line scene.nodes parent) ≡ length (line scene.nodes key) + length (line scene.nodes parent) =
       length-append (line scene.nodes key) (line scene.nodes parent) in
-      ap reverse
-      (line_from (after_attach scene parent child place).nodes key (line scene.nodes key ++ line scene.nodes parent)
-      (subst P within (new_line key)) (omega (arith, long, short_enough key within)))
-      ∙ reverse-append (line scene.nodes key) (line scene.nodes parent)
+      omega (arith, long, short_enough key within)
 
-  pub path_beside : (key : NodeKey) → is_within scene.nodes child key ≡ false
-      → path (after_attach scene parent child place).nodes key ≡ path scene.nodes key
-  path_beside key apart =
+  line_beside : (key : NodeKey) → is_within scene.nodes child key ≡ false
+      → IsLine (parent_of (after_attach scene parent child place).nodes) (Some key) (line scene.nodes key)
+  line_beside key apart =
       let P : Bool → Type 0 = λ b. IsLine (parent_of (after_attach scene parent child place).nodes) (Some key)
       (line scene.nodes key ++ cond b (line scene.nodes parent) []) in
       let Q : List NodeKey → Type 0 = λ l. IsLine (parent_of (after_attach scene parent child place).nodes) (Some key) l in
+      subst Q (append-nil (line scene.nodes key)) (subst P apart (new_line key))
+
+  pub line_after_attach : (key : NodeKey)
+      → IsLine (parent_of (after_attach scene parent child place).nodes) (Some key) (line (after_attach scene parent child place).nodes key)
+  line_after_attach key =
+      elim (cases_Bool (is_within scene.nodes child key)) [
+        | inl within ↦
+            line_stays (after_attach scene parent child place).nodes key (line scene.nodes key ++ line scene.nodes parent)
+            (line_joined key within) (few_joined key within)
+        | inr apart ↦
+            line_stays (after_attach scene parent child place).nodes key (line scene.nodes key) (line_beside key apart)
+            (short_line scene.nodes key)
+      ]
+
+  path_joined : (key : NodeKey) → is_within scene.nodes child key ≡ true
+      → path (after_attach scene parent child place).nodes key ≡ path scene.nodes parent ++ path scene.nodes key
+  path_joined key within =
       ap reverse
-      (line_from (after_attach scene parent child place).nodes key (line scene.nodes key)
-      (subst Q (append-nil (line scene.nodes key)) (subst P apart (new_line key))) (short_line scene.nodes key))
+      (line_from (after_attach scene parent child place).nodes key (line scene.nodes key ++ line scene.nodes parent)
+      (line_joined key within) (few_joined key within))
+      ∙ reverse-append (line scene.nodes key) (line scene.nodes parent)
+
+  path_beside : (key : NodeKey) → is_within scene.nodes child key ≡ false
+      → path (after_attach scene parent child place).nodes key ≡ path scene.nodes key
+  path_beside key apart =
+      ap reverse
+      (line_from (after_attach scene parent child place).nodes key (line scene.nodes key) (line_beside key apart)
+      (short_line scene.nodes key))
 
   pub path_after_attach : (key : NodeKey) → path (after_attach scene parent child place).nodes key
       ≡ cond (is_within scene.nodes child key) (path scene.nodes parent ++ path scene.nodes key) (path scene.nodes key)

@@ -1,5 +1,5 @@
 -- What is left of each node where a child is taken out of the list of its parent.
-use Rattle.std.proofs.Common.{◌≡◌, ◌+◌, Bool, true, false, not, cond, ◌&&◌, ◌||◌, List, [], ◌∷◌, ◌++◌, length, map, reverse, Option, Some, None, is_some, refl, sym, ◌∙◌, ap, subst, inl, inr, arith, length-append}
+use Rattle.std.proofs.Common.{◌≡◌, ◌+◌, ◌≤◌, Bool, true, false, not, cond, ◌&&◌, ◌||◌, List, [], ◌∷◌, ◌++◌, length, map, reverse, Option, Some, None, is_some, refl, sym, ◌∙◌, ap, subst, inl, inr, arith, length-append}
 use Rattle.std.specs.Option.{option_map}
 use Rattle.std.proofs.lemmas.Bool.{cases_Bool, both_ways, and_right}
 use Rattle.std.proofs.lemmas.List.{reverse-append}
@@ -7,7 +7,7 @@ use Rattle.fx_base.specs.declared.keys.NodeKey.{NodeKey}
 use Rattle.fx_tree.specs.Scene.{Node, Scene, IsLine, IsSound, after_detach, children_of, has, is_alive, is_same, is_within, line, parent_of, path, without, without_child}
 use Rattle.fx_tree.proofs.Keys.{has-cons, has-nil, has-without, is_same-false, is_same-refl, is_same-sym, is_same-true}
 use Rattle.fx_tree.proofs.Lines.{IsLine-same}
-use Rattle.fx_tree_laws.proofs.Known.{line_from, line_known, parent_further, parent_of-nil, passed, short_line, taken}
+use Rattle.fx_tree_laws.proofs.Known.{line_from, line_known, line_stays, parent_further, parent_of-nil, passed, short_line, taken}
 use Rattle.fx_tree_laws.proofs.Mapped.{children_mapped, is_some-mapped, parent_mapped}
 
 pub children_detached : (child : NodeKey) (nodes : List Node) (key : NodeKey)
@@ -93,19 +93,51 @@ module _ (f g : NodeKey → Option NodeKey) (child : NodeKey)
       ]
 
 module _ (scene : Scene) (sound : IsSound scene) (child : NodeKey) where
+  cut_line : (key : NodeKey) → is_within scene.nodes child key ≡ true
+      → IsCut (parent_of scene.nodes) (parent_of (after_detach scene child).nodes) child (Some key) (line scene.nodes key)
+  cut_line key within =
+      cut_at (parent_of scene.nodes) (parent_of (after_detach scene child).nodes) child
+      (parent_still child scene.nodes) (parent_gone child scene.nodes)
+      (Some key) (line scene.nodes key) (line_known scene sound key) within
+
+  few_cut : (key : NodeKey) (within : is_within scene.nodes child key ≡ true)
+      → length (cut_line key within).less + length (cut_line key within).above ≤ 64
+  few_cut key within =
+      let two = cut_line key within in
+      let long : length (line scene.nodes key) ≡ length (two.less ++ two.above) = ap length two.joins in
+      let both : length (two.less ++ two.above) ≡ length two.less + length two.above = length-append two.less two.above in
+      omega (arith, long, both, short_line scene.nodes key)
+
+  uncut_line : (key : NodeKey) → is_within scene.nodes child key ≡ false
+      → IsLine (parent_of (after_detach scene child).nodes) (Some key) (line scene.nodes key)
+  uncut_line key apart =
+      IsLine-same (parent_of scene.nodes) (parent_of (after_detach scene child).nodes) (Some key) (line scene.nodes key)
+      (λ k there. parent_still child scene.nodes k
+      (is_same-false k child (λ e. both_ways _ apart (sym (ap (has (line scene.nodes key)) e) ∙ there))))
+      (line_known scene sound key)
+
+  pub line_after_detach : (key : NodeKey)
+      → IsLine (parent_of (after_detach scene child).nodes) (Some key) (line (after_detach scene child).nodes key)
+  line_after_detach key =
+      elim (cases_Bool (is_within scene.nodes child key)) [
+        | inl within ↦
+            let two = cut_line key within in
+            let few : length two.less ≤ 64 = omega (arith, few_cut key within) in
+            line_stays (after_detach scene child).nodes key two.less two.lower few
+        | inr apart ↦
+            line_stays (after_detach scene child).nodes key (line scene.nodes key) (uncut_line key apart) (short_line scene.nodes key)
+      ]
+
   pub path_cut : (parent key : NodeKey) → parent_of scene.nodes child ≡ Some parent → is_within scene.nodes child key ≡ true
       → path scene.nodes key ≡ path scene.nodes parent ++ path (after_detach scene child).nodes key
   path_cut parent key is within =
-      let two = cut_at (parent_of scene.nodes) (parent_of (after_detach scene child).nodes) child
-      (parent_still child scene.nodes) (parent_gone child scene.nodes)
-      (Some key) (line scene.nodes key) (line_known scene sound key) within in
-      let long : length (line scene.nodes key) ≡ length (two.less ++ two.above) = ap length two.joins in
-      let both : length (two.less ++ two.above) ≡ length two.less + length two.above = length-append two.less two.above in
+      let two = cut_line key within in
+      let few : length two.less + length two.above ≤ 64 = few_cut key within in
       let P : Option NodeKey → Type 0 = λ o. IsLine (parent_of scene.nodes) o two.above in
       let upper : line scene.nodes parent ≡ two.above =
-      line_from scene.nodes parent two.above (subst P is two.upper) (omega (arith, long, both, short_line scene.nodes key)) in
+      line_from scene.nodes parent two.above (subst P is two.upper) (omega (arith, few)) in
       let lower : line (after_detach scene child).nodes key ≡ two.less =
-      line_from (after_detach scene child).nodes key two.less two.lower (omega (arith, long, both, short_line scene.nodes key)) in
+      line_from (after_detach scene child).nodes key two.less two.lower (omega (arith, few)) in
       ap reverse two.joins
       ∙ reverse-append two.less two.above
       ∙ ap (λ (l : List NodeKey). reverse l ++ reverse two.less) (sym upper)
@@ -115,9 +147,4 @@ module _ (scene : Scene) (sound : IsSound scene) (child : NodeKey) where
       → path (after_detach scene child).nodes key ≡ path scene.nodes key
   path_uncut key apart =
       ap reverse
-      (line_from (after_detach scene child).nodes key (line scene.nodes key)
-      (IsLine-same (parent_of scene.nodes) (parent_of (after_detach scene child).nodes) (Some key) (line scene.nodes key)
-      (λ k there. parent_still child scene.nodes k
-      (is_same-false k child (λ e. both_ways _ apart (sym (ap (has (line scene.nodes key)) e) ∙ there))))
-      (line_known scene sound key))
-      (short_line scene.nodes key))
+      (line_from (after_detach scene child).nodes key (line scene.nodes key) (uncut_line key apart) (short_line scene.nodes key))

@@ -3,13 +3,13 @@ use Rattle.std.proofs.Common.{◌≡◌, Bool, true, false, not, cond, ◌&&◌,
 use Rattle.std.proofs.lemmas.Bool.{cases_Bool, both_ways, or_parts, false_from_ne_true}
 use Rattle.std.proofs.lemmas.Option.{none-some}
 use Rattle.fx_base.specs.declared.keys.NodeKey.{NodeKey}
-use Rattle.fx_tree.specs.Scene.{Node, Scene, IsSound, after_drop, children_of, has, is_alive, is_same, is_within, line, parent_of, path, subtree}
+use Rattle.fx_tree.specs.Scene.{Node, Scene, IsLine, IsSound, after_drop, children_of, has, is_alive, is_same, is_within, line, parent_of, path, subtree}
 use Rattle.fx_tree.specs.Refusals.{drop_refusal, is_held}
 use Rattle.fx_tree.proofs.Keys.{has-cons, is_same-false, is_same-true}
 use Rattle.fx_tree.proofs.Lines.{IsLine-same}
 use Rattle.fx_tree.proofs.Views.{none_from, refused-None}
 use Rattle.fx_tree.proofs.Walks.{deep}
-use Rattle.fx_tree_laws.proofs.Known.{Contains-cons, children_first, children_further, children_of-nil, line_below, line_from, line_known, parent_first, parent_further, parent_is, parent_of-nil, passed, short_line, taken}
+use Rattle.fx_tree_laws.proofs.Known.{Contains-cons, children_first, children_further, children_of-nil, line_below, line_from, line_known, line_stays, parent_first, parent_further, parent_is, parent_of-nil, passed, short_line, taken}
 use Rattle.fx_tree_laws.proofs.Subtrees.{subtree_is}
 
 children_left : (test : NodeKey → Bool) (nodes : List Node) (key : NodeKey)
@@ -85,12 +85,18 @@ parent_left test stay key (n ∷ nodes) each =
           ]
     ]
 
-pub topmost_free : (scene : Scene) (top : NodeKey) → drop_refusal scene top ≡ None → parent_of scene.nodes top ≡ None
+-- what is known where a tree may be dropped
+pub record IsLoose (scene : Scene) (top : NodeKey) : Type 0 where
+  pub topmost : parent_of scene.nodes top ≡ None
+  pub no_root : is_held scene.root top ≡ false
+
+pub loose : (scene : Scene) (top : NodeKey) → drop_refusal scene top ≡ None → IsLoose scene top
 unfolding drop_refusal
-topmost_free scene top none =
+loose scene top none =
     let one = refused-None _ _ _ none in
     let two = refused-None _ _ _ one.1 in
-    none_from (parent_of scene.nodes top) (or_parts (is_some (parent_of scene.nodes top)) (is_held scene.root top) two.0).0
+    let parts = or_parts (is_some (parent_of scene.nodes top)) (is_held scene.root top) two.0 in
+    record { topmost = none_from (parent_of scene.nodes top) parts.0; no_root = parts.1 }
 
 turned : {X : Type 0} (b : Bool) (x y : X) → cond (not b) x y ≡ cond b y x
 turned true x y = refl
@@ -123,7 +129,7 @@ module _ (scene : Scene) (top : NodeKey) where
 
   module _ (sound : IsSound scene) (topmost : parent_of scene.nodes top ≡ None) where
     -- a child stands within where its parent does
-    with_parent : (key parent : NodeKey) → parent_of scene.nodes key ≡ Some parent
+    pub with_parent : (key parent : NodeKey) → parent_of scene.nodes key ≡ Some parent
         → is_within scene.nodes top parent ≡ is_within scene.nodes top key
     with_parent key parent is =
         let other : is_same key top ≡ false =
@@ -140,12 +146,10 @@ module _ (scene : Scene) (top : NodeKey) where
         (λ node at child. ap not (with_parent key node.key (parent_is scene sound key node at child)))
         ∙ turned (is_within scene.nodes top key) (parent_of scene.nodes key) None
 
-    pub path_after_drop : (key : NodeKey) → is_within scene.nodes top key ≡ false
-        → path (after_drop scene top).nodes key ≡ path scene.nodes key
-    path_after_drop key apart =
-        ap reverse
-        (line_from (after_drop scene top).nodes key (line scene.nodes key)
-        (IsLine-same (parent_of scene.nodes) (parent_of (after_drop scene top).nodes) (Some key) (line scene.nodes key)
+    kept_line : (key : NodeKey) → is_within scene.nodes top key ≡ false
+        → IsLine (parent_of (after_drop scene top).nodes) (Some key) (line scene.nodes key)
+    kept_line key apart =
+        IsLine-same (parent_of scene.nodes) (parent_of (after_drop scene top).nodes) (Some key) (line scene.nodes key)
         (λ k there.
         parent_after_drop k
         ∙ passed _ None (parent_of scene.nodes k)
@@ -154,5 +158,15 @@ module _ (scene : Scene) (top : NodeKey) where
         both_ways _ apart
         (deep (parent_of scene.nodes) k top (line scene.nodes k) (line_known scene sound k) within (Some key) (line scene.nodes key)
         (line_known scene sound key) there))))
-        (line_known scene sound key))
-        (short_line scene.nodes key))
+        (line_known scene sound key)
+
+    pub line_after_drop : (key : NodeKey) → is_within scene.nodes top key ≡ false
+        → IsLine (parent_of (after_drop scene top).nodes) (Some key) (line (after_drop scene top).nodes key)
+    line_after_drop key apart =
+        line_stays (after_drop scene top).nodes key (line scene.nodes key) (kept_line key apart) (short_line scene.nodes key)
+
+    pub path_after_drop : (key : NodeKey) → is_within scene.nodes top key ≡ false
+        → path (after_drop scene top).nodes key ≡ path scene.nodes key
+    path_after_drop key apart =
+        ap reverse
+        (line_from (after_drop scene top).nodes key (line scene.nodes key) (kept_line key apart) (short_line scene.nodes key))

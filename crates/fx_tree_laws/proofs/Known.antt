@@ -164,6 +164,12 @@ pub line_from : (nodes : List Node) (key : NodeKey) (keys : List NodeKey) → Is
 unfolding line
 line_from nodes key keys is few = line_is 64 (parent_of nodes) (Some key) keys is few
 
+pub line_stays : (nodes : List Node) (key : NodeKey) (keys : List NodeKey) → IsLine (parent_of nodes) (Some key) keys
+    → length keys ≤ 64 → IsLine (parent_of nodes) (Some key) (line nodes key)
+line_stays nodes key keys is few =
+    let P : List NodeKey → Type 0 = λ l. IsLine (parent_of nodes) (Some key) l in
+    subst P (sym (line_from nodes key keys is few)) is
+
 module _ (scene : Scene) (sound : IsSound scene) where
   rises : (one other : Node) (first : Contains scene.nodes one) (second : Contains scene.nodes other) → one.key ≡ other.key
       → first.0 < second.0 → ⊥

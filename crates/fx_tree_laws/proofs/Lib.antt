@@ -5,5 +5,6 @@ pub mod Making
 pub mod Attaching
 pub mod Detaching
 pub mod Dropping
+pub mod Keeping
 pub mod Paths
 pub mod Routes

@@ -1,9 +1,9 @@
 //! The laws of scenes.
-ghost use Rattle.std.specs.Prelude.{◌≡◌, ◌≤◌, ◌+◌, ◌++◌, ◌&&◌, ◌||◌, ℕ, true, false, not, if◌then◌else◌, List, [], ◌∷◌, length, insert, None, Some};
+ghost use Rattle.std.specs.Prelude.{◌≡◌, ◌≢◌, ◌≤◌, ◌+◌, ◌++◌, ◌&&◌, ◌||◌, ℕ, true, false, not, if◌then◌else◌, All, List, [], ◌∷◌, length, insert, None, Some};
 ghost use Rattle.std.specs.Option.{option_map};
 ghost use Rattle.fx_base.specs.declared.keys.NodeKey.{NodeKey as Key};
-ghost use Rattle.fx_tree.specs.Scene.{Scene as State, IsSound, after_attach, after_detach, after_drop, after_make, children_of, has, is_alive, is_same, is_within, parent_of, path, subtree, without};
-ghost use Rattle.fx_tree.specs.Refusals.{attach_refusal, drop_refusal};
+ghost use Rattle.fx_tree.specs.Scene.{Node as Living, Scene as State, IsSound, after_attach, after_detach, after_drop, after_make, after_set_root, children_of, has, is_alive, is_same, is_within, parent_of, path, subtree, without};
+ghost use Rattle.fx_tree.specs.Refusals.{attach_refusal, drop_refusal, make_refusal, root_refusal};
 ghost use Rattle.fx_events.specs.declared.kinds.EventKind.{EventKind as Kind};
 ghost use Rattle.fx_events.specs.Routes.{is_of_one_node, route_of};
 ghost use Rattle.fx_tree_laws.specs.Ways.{AreSteps};
@@ -80,6 +80,20 @@ pub fn what_dropping_leaves()
         ≡ (if is_within scene.nodes top key then None else children_of scene.nodes key) }
     ensures path { (scene : State) (top : Key) → IsSound scene → drop_refusal scene top ≡ None → (key : Key)
         → is_within scene.nodes top key ≡ false → path (after_drop scene top).nodes key ≡ path scene.nodes key }
+{}
+
+/// A change that isn't refused leaves a sound scene; a node is made in a slot that no living node has.
+pub fn changes_keep_scenes_sound()
+    ensures made { (scene : State) (new : Key) → IsSound scene → new.birth ≡ scene.born + 1
+        → make_refusal scene ≡ None → All (λ (node : Living). node.key.slot ≢ new.slot) scene.nodes
+        → IsSound (after_make scene new) }
+    ensures rooted { (scene : State) (key : Key) → IsSound scene → root_refusal scene key ≡ None
+        → IsSound (after_set_root scene key) }
+    ensures attached { (scene : State) (parent child : Key) (place : ℕ) → IsSound scene
+        → attach_refusal scene parent child place ≡ None → IsSound (after_attach scene parent child place) }
+    ensures detached { (scene : State) (child : Key) → IsSound scene → IsSound (after_detach scene child) }
+    ensures dropped { (scene : State) (top : Key) → IsSound scene → drop_refusal scene top ≡ None
+        → IsSound (after_drop scene top) }
 {}
 
 /// The path to a node is the path to its parent and then the node; where it has no parent, the node alone.

@@ -6,7 +6,8 @@
 mod laws;
 
 pub use laws::{
-    paths_differ, paths_go_by_parents, routes_are_short, routes_begin_at_the_top,
-    routes_end_at_their_targets, routes_step_down, subtrees_are_what_is_within,
-    what_attaching_leaves, what_detaching_leaves, what_dropping_leaves, what_making_leaves,
+    changes_keep_scenes_sound, paths_differ, paths_go_by_parents, routes_are_short,
+    routes_begin_at_the_top, routes_end_at_their_targets, routes_step_down,
+    subtrees_are_what_is_within, what_attaching_leaves, what_detaching_leaves,
+    what_dropping_leaves, what_making_leaves,
 };

@@ -1,0 +1,5 @@
+pub mod Firsts
+pub mod Layers
+pub mod Ninths
+pub mod Readings
+pub mod Selectors

@@ -8,7 +8,7 @@ mod styles;
 
 pub use limits::{
     first_declarations_past_are_told, first_rules_past_are_told, first_selectors_past_are_told,
-    ninth_layers_are_told,
+    ninth_layers_are_told, positions_past_are_told,
 };
 pub use styles::{
     every_style_is_read, styles_are_kept_or_past, styles_are_read_in_one_way,

@@ -1,15 +1,18 @@
 //! The laws of the places that are told of what is past a limit.
 ghost use Rattle.std.specs.Prelude.{◌≡◌, ℕ, List, Some};
+ghost use Rattle.fx_base.specs.declared.positions.Position.{Position};
 ghost use Rattle.fx_css_parts.specs.declared.ReadDeclaration.{ReadDeclaration as ReadEntry};
 ghost use Rattle.fx_css_parts.specs.declared.Selectors.{Selectors as ReadChains};
 ghost use Rattle.fx_css_parts.specs.Parts.{declaration_at, selectors_at};
 ghost use Rattle.fx_css.specs.declared.declarations.Kept.{Kept as KeptEntry};
 ghost use Rattle.fx_css.specs.Pieces.{past_declarations};
 ghost use Rattle.fx_css.specs.Rules.{Reading, past_rules};
-ghost use Rattle.fx_css.specs.Sheets.{IsFirstNumber};
+ghost use Rattle.fx_css.specs.Sheets.{IsFirstNumber, IsPastLimit};
 ghost use Rattle.fx_css_laws.specs.Counts.{IsPastDeclaration, IsPastRule};
 ghost use Rattle.fx_css_laws.specs.Layers.{IsNinthLayer};
+ghost use Rattle.fx_css_laws.specs.Places.{IsSheetPlace, IsStylePlace};
 ghost use Rattle.fx_css_laws.specs.Selectors.{IsFirstPast};
+ghost use Rattle.fx_css_laws.specs.Styles.{IsPastStyle};
 
 /// Where a declaration is read that tells a place past its limit, its ninth layer begins there: the text before the
 /// place spells just eight layers, and behind them a comma.
@@ -37,4 +40,11 @@ pub fn first_declarations_past_are_told()
 pub fn first_rules_past_are_told()
     ensures { (all : List Reading) (number : ℕ) → IsFirstNumber (past_rules 0 all) number
         → IsPastRule 4096 all number }
+{}
+
+/// The position where a text is first past a limit is that of this declaration or rule, or of a part of it.
+pub fn positions_past_are_told()
+    ensures style { (text : List ℕ) (position : Position) → IsPastStyle text position → IsStylePlace text position }
+    ensures sheet { (file : ℕ) (text : List ℕ) (position : Position) → IsPastLimit file text position
+        → IsSheetPlace text position }
 {}

@@ -1,0 +1,5 @@
+pub mod Counts
+pub mod Layers
+pub mod Places
+pub mod Selectors
+pub mod Styles

@@ -1,6 +1,6 @@
 //! One timeline: its key frames, and how far it has come.
 ghost use Rattle.std.specs.Prelude.{◌≡◌, ◌≢◌, ◌<◌, ◌≤◌, ◌↔◌, ◌++◌, ◌∷◌, [], IsTrue, IsFalse, IfNone, IfSome, OnErr, OnOk, is_none, length, slice_set};
-ghost use Rattle.fx_anim.specs.Line.{begun, elapsed_after, has_name, is_new, longest, new_line, passed, put_frame, sets_in, set_at, stopped, ticked, with_frame};
+ghost use Rattle.fx_anim.specs.Line as spec;
 ghost use Rattle.fx_anim.specs.Shown.{line_of};
 ghost use Rattle.std.specs.List.{filter_map};
 
@@ -26,7 +26,7 @@ pub struct Timeline {
 impl Timeline {
     /// A timeline without key frames, which doesn't play.
     pub fn new(alloc: Global, cycles: Cycles) -> Timeline
-        ensures { line_of result ≡ new_line cycles }
+        ensures { line_of result ≡ spec.new_line cycles }
     {
         Timeline {
             cycles,
@@ -39,11 +39,11 @@ impl Timeline {
 
     /// Gives it a key frame, in the place of one of the same time and property.
     pub fn put(&mut self, frame: Frame) -> Result<(), AnimError>
-        ensures ok { OnOk result (line_of self.new ≡ with_frame frame (line_of self.old)) }
+        ensures ok { OnOk result (line_of self.new ≡ spec.with_frame frame (line_of self.old)) }
         ensures err { OnErr result (line_of self.new ≡ line_of self.old) }
         ensures playing { (result ≡ Err AnimError.Playing) ↔ IsTrue self.old.playing }
         ensures full { (result ≡ Err AnimError.Full)
-            ↔ (IsFalse self.old.playing × IsTrue (is_new frame self.old.frames.items)
+            ↔ (IsFalse self.old.playing × IsTrue (spec.is_new frame self.old.frames.items)
             × (1024 ≤ length self.old.frames.items)) }
         ensures never_empty { result ≢ Err AnimError.Empty }
     {
@@ -59,11 +59,12 @@ impl Timeline {
 
     /// Puts a key frame at its place, or behind all, with its target.
     fn put_at(&mut self, place: Option<usize>, frame: Frame) -> Result<(), AnimError>
-        requires none { IfNone place (put_frame frame self.old.frames.items ≡ self.old.frames.items ++ frame ∷ []) }
-        requires some { IfSome place (λ place. put_frame frame self.old.frames.items
+        requires none { IfNone place (spec.put_frame frame self.old.frames.items
+            ≡ self.old.frames.items ++ frame ∷ []) }
+        requires some { IfSome place (λ place. spec.put_frame frame self.old.frames.items
             ≡ slice_set self.old.frames.items place frame) }
         requires within { IfSome place (λ place. place < length self.old.frames.items) }
-        ensures ok { OnOk result (line_of self.new ≡ with_frame frame (line_of self.old)) }
+        ensures ok { OnOk result (line_of self.new ≡ spec.with_frame frame (line_of self.old)) }
         ensures err { OnErr result (line_of self.new ≡ line_of self.old) }
         ensures memory { OnErr result (result ≡ Err AnimError.Memory) }
     {
@@ -85,10 +86,10 @@ impl Timeline {
 
     /// Starts it, where it doesn't play.
     pub fn begin(&mut self) -> Result<(), AnimError>
-        ensures ok { OnOk result (line_of self.new ≡ begun (line_of self.old)) }
+        ensures ok { OnOk result (line_of self.new ≡ spec.begun (line_of self.old)) }
         ensures err { OnErr result (line_of self.new ≡ line_of self.old) }
         ensures empty { (result ≡ Err AnimError.Empty)
-            ↔ (IsFalse self.old.playing × (longest self.old.frames.items ≡ 0)) }
+            ↔ (IsFalse self.old.playing × (spec.longest self.old.frames.items ≡ 0)) }
         ensures only { OnErr result (result ≡ Err AnimError.Empty) }
     {
         if self.playing {
@@ -103,14 +104,14 @@ impl Timeline {
     }
 
     pub fn stop(&mut self)
-        ensures { line_of self.new ≡ stopped (line_of self.old) }
+        ensures { line_of self.new ≡ spec.stopped (line_of self.old) }
     {
         self.playing = false;
     }
 
     /// Lets so many milliseconds pass.
     pub fn advance(&mut self, ms: u32)
-        ensures { line_of self.new ≡ ticked ms (line_of self.old) }
+        ensures { line_of self.new ≡ spec.ticked ms (line_of self.old) }
     {
         if self.playing {
             let elapsed = self.elapsed_after(ms);
@@ -126,7 +127,7 @@ impl Timeline {
         ms: u32,
         sets: &mut Vec<(Name, Value)>,
     ) -> Result<(), AnimError>
-        ensures ok { OnOk result (sets.new.items ≡ sets.old.items ++ sets_in ms (line_of self.now)) }
+        ensures ok { OnOk result (sets.new.items ≡ sets.old.items ++ spec.sets_in ms (line_of self.now)) }
         ensures memory { OnErr result (result ≡ Err AnimError.Memory) }
     {
         if !self.playing {
@@ -138,7 +139,7 @@ impl Timeline {
     }
 
     fn elapsed_after(&self, ms: u32) -> u64
-        ensures { result ≡ elapsed_after ms (line_of self.now) }
+        ensures { result ≡ spec.elapsed_after ms (line_of self.now) }
     {
         passed(
             self.cycles.count,
@@ -150,7 +151,7 @@ impl Timeline {
 
 /// How much of so much time counts: see the definition.
 fn passed(count: Option<u32>, length: u32, elapsed: u128) -> u64
-    ensures { result ≡ passed count length elapsed }
+    ensures { result ≡ spec.passed count length elapsed }
 {
     match count {
         None => {
@@ -166,7 +167,7 @@ fn passed(count: Option<u32>, length: u32, elapsed: u128) -> u64
 
 /// How long a cycle is: the greatest time of a key frame.
 fn longest(frames: &[Frame]) -> u32
-    ensures { result ≡ longest frames.now }
+    ensures { result ≡ spec.longest frames.now }
 {
     let mut most = 0;
     let mut place = frames.len();
@@ -178,17 +179,17 @@ fn longest(frames: &[Frame]) -> u32
 }
 
 fn has_name(name: Name, names: &[Name]) -> bool
-    ensures { result ≡ has_name name names.now }
+    ensures { result ≡ spec.has_name name names.now }
 {
     names.iter().any(|other| other.0 == name.0)
 }
 
 /// The place of the key frame of the same time and property.
 fn place_of(frames: &[Frame], new: &Frame) -> Option<usize>
-    ensures none { IfNone result (put_frame new.now frames.now ≡ frames.now ++ new.now ∷ []) }
-    ensures some { IfSome result (λ place. put_frame new.now frames.now ≡ slice_set frames.now place new.now) }
+    ensures none { IfNone result (spec.put_frame new.now frames.now ≡ frames.now ++ new.now ∷ []) }
+    ensures some { IfSome result (λ place. spec.put_frame new.now frames.now ≡ slice_set frames.now place new.now) }
     ensures within { IfSome result (λ place. place < length frames.now) }
-    ensures new { is_none result ≡ is_new new.now frames.now }
+    ensures new { is_none result ≡ spec.is_new new.now frames.now }
 {
     for place in 0..frames.len() {
         let frame = &frames[place];
@@ -222,7 +223,8 @@ fn push_at(
     place: u32,
     sets: &mut Vec<(Name, Value)>,
 ) -> Result<(), AnimError>
-    ensures ok { OnOk result (sets.new.items ≡ sets.old.items ++ filter_map (set_at frames.now place) targets.now) }
+    ensures ok { OnOk result (sets.new.items
+        ≡ sets.old.items ++ filter_map (spec.set_at frames.now place) targets.now) }
     ensures memory { OnErr result (result ≡ Err AnimError.Memory) }
 {
     for name in targets {

@@ -2,7 +2,7 @@
 ghost use Rattle.std.specs.Prelude.{◌∷◌, [], All, if◌then◌else◌};
 ghost use Rattle.std.specs.List.{sum_by};
 ghost use Rattle.fx_base.specs.Rectangle.{in_span, inside};
-ghost use Rattle.fx_canvas.specs.Painting.{FitsIn, HasBytes, IsBlock, IsDrawn, is_met, laid_above, laid_in, points_above, points_of, repainted, writes};
+ghost use Rattle.fx_canvas.specs.Painting as spec;
 ghost use Rattle.fx_pens.specs.Dots.{is_in};
 ghost use Rattle.fx_picture.specs.Bounds.{bounds_of, in_range};
 ghost use Rattle.fx_picture.specs.Pixels.{pixel, shapes_of};
@@ -30,8 +30,9 @@ pub(crate) fn repaint<P: Ledger>(
     entries: &[Entry],
     painted: &mut Steps<P>,
 )
-    requires { All (λ r. FitsIn (bounds_of r) rows.old) rects.now }
-    ensures { IsDrawn (repainted entries.now rects.now) (is_met rects.now) (sum_by (writes entries.now) rects.now)
+    requires { All (λ r. spec.FitsIn (bounds_of r) rows.old) rects.now }
+    ensures { spec.IsDrawn (spec.repainted entries.now rects.now) (spec.is_met rects.now)
+        (sum_by (spec.writes entries.now) rects.now)
         rows.old rows.new painted.old painted.new }
 {
     for rect in rects {
@@ -41,9 +42,9 @@ pub(crate) fn repaint<P: Ledger>(
 
 /// Whitens a rectangle, and lays each shape over it in order.
 fn repaint_rect<P: Ledger>(rows: &mut [Row], rect: Rect, entries: &[Entry], painted: &mut Steps<P>)
-    requires { FitsIn (bounds_of rect) rows.old }
-    ensures { IsDrawn (λ x y under. if inside rect x y then pixel entries.now x y else under)
-        (in_span rect.y rect.h) (writes entries.now rect) rows.old rows.new painted.old painted.new }
+    requires { spec.FitsIn (bounds_of rect) rows.old }
+    ensures { spec.IsDrawn (λ x y under. if inside rect x y then pixel entries.now x y else under)
+        (in_span rect.y rect.h) (spec.writes entries.now rect) rows.old rows.new painted.old painted.new }
 {
     let area = bounds_of(rect);
     lay_shape(rows, area, &Shape::Fill { rect, color: WHITE }, painted);
@@ -51,9 +52,9 @@ fn repaint_rect<P: Ledger>(rows: &mut [Row], rect: Rect, entries: &[Entry], pain
 }
 
 fn lay_entries<P: Ledger>(rows: &mut [Row], area: Bounds, entries: &[Entry], painted: &mut Steps<P>)
-    requires { FitsIn area rows.old }
-    ensures { IsDrawn (laid_in area (shapes_of entries.now)) (in_range area.min_y area.max_y)
-        (sum_by (points_of area) (shapes_of entries.now)) rows.old rows.new painted.old painted.new }
+    requires { spec.FitsIn area rows.old }
+    ensures { spec.IsDrawn (spec.laid_in area (shapes_of entries.now)) (in_range area.min_y area.max_y)
+        (sum_by (spec.points_of area) (shapes_of entries.now)) rows.old rows.new painted.old painted.new }
 {
     for entry in entries {
         lay_shapes(rows, area, entry.shapes.as_slice(), painted);
@@ -61,9 +62,9 @@ fn lay_entries<P: Ledger>(rows: &mut [Row], area: Bounds, entries: &[Entry], pai
 }
 
 fn lay_shapes<P: Ledger>(rows: &mut [Row], area: Bounds, shapes: &[Shape], painted: &mut Steps<P>)
-    requires { FitsIn area rows.old }
-    ensures { IsDrawn (laid_in area shapes.now) (in_range area.min_y area.max_y)
-        (sum_by (points_of area) shapes.now) rows.old rows.new painted.old painted.new }
+    requires { spec.FitsIn area rows.old }
+    ensures { spec.IsDrawn (spec.laid_in area shapes.now) (in_range area.min_y area.max_y)
+        (sum_by (spec.points_of area) shapes.now) rows.old rows.new painted.old painted.new }
 {
     for shape in shapes {
         lay_shape(rows, area, shape, painted);
@@ -72,9 +73,9 @@ fn lay_shapes<P: Ledger>(rows: &mut [Row], area: Bounds, shapes: &[Shape], paint
 
 /// Lays a shape over an area.
 fn lay_shape<P: Ledger>(rows: &mut [Row], area: Bounds, shape: &Shape, painted: &mut Steps<P>)
-    requires { FitsIn area rows.old }
-    ensures { IsDrawn (laid_in area (shape.now ∷ [])) (in_range area.min_y area.max_y)
-        (points_of area shape.now) rows.old rows.new painted.old painted.new }
+    requires { spec.FitsIn area rows.old }
+    ensures { spec.IsDrawn (spec.laid_in area (shape.now ∷ [])) (in_range area.min_y area.max_y)
+        (spec.points_of area shape.now) rows.old rows.new painted.old painted.new }
 {
     let cut = meeting(area, bounds(shape));
     if is_empty(cut) {
@@ -85,9 +86,9 @@ fn lay_shape<P: Ledger>(rows: &mut [Row], area: Bounds, shape: &Shape, painted: 
 
 /// Lays a shape over a block, which lies within its bounds, row by row.
 fn lay_block<P: Ledger>(rows: &mut [Row], block: Block, shape: &Shape, painted: &mut Steps<P>)
-    requires { IsBlock block (bounds shape.now) rows.old }
-    ensures { IsDrawn (laid_above block block.bottom shape.now) (is_in block.top block.bottom)
-        (points_above block block.bottom shape.now) rows.old rows.new painted.old painted.new }
+    requires { spec.IsBlock block (bounds shape.now) rows.old }
+    ensures { spec.IsDrawn (spec.laid_above block block.bottom shape.now) (is_in block.top block.bottom)
+        (spec.points_above block block.bottom shape.now) rows.old rows.new painted.old painted.new }
 {
     let columns = Columns {
         left: block.left,
@@ -101,5 +102,5 @@ fn lay_block<P: Ledger>(rows: &mut [Row], block: Block, shape: &Shape, painted: 
 
 /// Promises on a colour: each of its channels is a byte.
 fn channel_laws(color: Color)
-    ensures { HasBytes color }
+    ensures { spec.HasBytes color }
 {}

@@ -3,7 +3,7 @@ ghost use Rattle.std.specs.Prelude.{◌≡◌, ◌⊎◌, None, All, IfSome, IfN
 ghost use Rattle.std.specs.Option.{option_map};
 ghost use Rattle.fx_css_types.specs.Limits.{AreWithinLimits, IsKeptDeclaration};
 ghost use Rattle.fx_cascade.specs.declared.sources.Source.{Source as Speaker};
-ghost use Rattle.fx_cascade.specs.Sources.{IsBest, Speaks, best_source, code_voice, declarations_of, declared_voices, row_name, rule_at, rule_voices, voice, winner_of};
+ghost use Rattle.fx_cascade.specs.Sources as spec;
 ghost use Rattle.fx_cascade.specs.Winners.{hear, heard};
 
 use crate::ranks::greater;
@@ -21,15 +21,17 @@ pub fn best(
     property: &str,
 ) -> Option<Winner>
     ensures found { IfSome result (λ w. (best : Speaker)
-        × IsBest sheets.now matched.now codes.now property.now best × (winner_of best ≡ w)) }
-    ensures none { IfNone result ((other : Speaker) → Speaks sheets.now matched.now codes.now property.now other → ⊥) }
-    ensures value { result ≡ option_map winner_of (best_source sheets.now matched.now codes.now property.now) }
+        × spec.IsBest sheets.now matched.now codes.now property.now best × (spec.winner_of best ≡ w)) }
+    ensures none { IfNone result ((other : Speaker)
+        → spec.Speaks sheets.now matched.now codes.now property.now other → ⊥) }
+    ensures value { result
+        ≡ option_map spec.winner_of (spec.best_source sheets.now matched.now codes.now property.now) }
 {
     best_winner(best_source(sheets, matched, codes, property))
 }
 
 fn best_winner(best: Option<Source>) -> Option<Winner>
-    ensures { result ≡ option_map winner_of best }
+    ensures { result ≡ option_map spec.winner_of best }
 {
     match best {
         Some(Source::Code(_)) => Some(Winner::Code),
@@ -44,7 +46,7 @@ fn best_source(
     codes: &[CodeValue],
     property: &str,
 ) -> Option<Source>
-    ensures { result ≡ best_source sheets.now matched.now codes.now property.now }
+    ensures { result ≡ spec.best_source sheets.now matched.now codes.now property.now }
 {
     best_declared(
         sheets,
@@ -55,7 +57,7 @@ fn best_source(
 }
 
 fn best_code(matched: &[Candidate], codes: &[CodeValue], property: &str) -> Option<Source>
-    ensures { result ≡ heard matched.now property.now None (map code_voice codes.now) }
+    ensures { result ≡ heard matched.now property.now None (map spec.code_voice codes.now) }
 {
     let mut best = None;
     for code in codes {
@@ -76,7 +78,7 @@ fn best_declared(
     property: &str,
     so_far: Option<Source>,
 ) -> Option<Source>
-    ensures { result ≡ heard matched.now property.now so_far (declared_voices sheets.now 0 matched.now) }
+    ensures { result ≡ heard matched.now property.now so_far (spec.declared_voices sheets.now 0 matched.now) }
 {
     let mut best = so_far;
     for (at, candidate) in matched.iter().enumerate() {
@@ -98,7 +100,7 @@ fn best_in(
     property: &str,
     so_far: Option<Source>,
 ) -> Option<Source>
-    ensures { result ≡ heard matched.now property.now so_far (rule_voices at 0 declarations.now) }
+    ensures { result ≡ heard matched.now property.now so_far (spec.rule_voices at 0 declarations.now) }
 {
     let mut best = so_far;
     for (place, declaration) in declarations.iter().enumerate() {
@@ -120,7 +122,7 @@ fn hear(
     said: &str,
     source: Source,
 ) -> Option<Source>
-    ensures { result ≡ hear matched.now name.now best (voice said.now source) }
+    ensures { result ≡ hear matched.now name.now best (spec.voice said.now source) }
 {
     if said == name {
         greater(matched, best, source)
@@ -131,7 +133,7 @@ fn hear(
 
 /// The name of a row of the style table.
 fn row_name(row: StyleName) -> &'static str
-    ensures { result.now ≡ row_name row.0 }
+    ensures { result.now ≡ spec.row_name row.0 }
 {
     match row.style() {
         Some(style) => style.name,
@@ -141,7 +143,7 @@ fn row_name(row: StyleName) -> &'static str
 
 /// The declarations of the rule that a match names, none where the sheets have no such rule.
 pub fn declarations_at<'a>(sheets: &'a [SheetAt], candidate: &Candidate) -> &'a [Declaration]
-    ensures { result.now ≡ declarations_of (rule_at sheets.now candidate.now) }
+    ensures { result.now ≡ spec.declarations_of (spec.rule_at sheets.now candidate.now) }
 {
     match rule_at(sheets, candidate) {
         Some(rule) => rule.declarations.as_slice(),
@@ -150,7 +152,7 @@ pub fn declarations_at<'a>(sheets: &'a [SheetAt], candidate: &Candidate) -> &'a 
 }
 
 fn rule_at<'a>(sheets: &'a [SheetAt], candidate: &Candidate) -> Option<&'a Rule>
-    ensures { option_map (λ r. r.now) result ≡ rule_at sheets.now candidate.now }
+    ensures { option_map (λ r. r.now) result ≡ spec.rule_at sheets.now candidate.now }
 {
     let sheet = sheets.get(candidate.sheet)?;
     sheet.sheet.rules.as_slice().get(candidate.rule)

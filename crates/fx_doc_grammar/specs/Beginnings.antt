@@ -6,7 +6,7 @@ use Rattle.fx_text.specs.Characters as ascii
 use Rattle.fx_base.specs.Positions.{start, after_all}
 use Rattle.fx_base.specs.declared.positions.Position.{Position}
 use Rattle.fx_doc_grammar.specs.Characters.{IsWhite, Each, last_code}
-use Rattle.fx_doc_grammar.specs.Grammar.{IsName, IsFilled, IsDecimal, IsHexadecimal, Sign, signs_text, Value_ok, Written, quote_code, Tag, tag_text, Tag_ok, is_among, Items, Empty, Shown, Comment, Instruction, Leaf, Branch, items_text, IsApart, Content_ok, Top_ok, has_element, IsMarkup}
+use Rattle.fx_doc_grammar.specs.Grammar as spec
 use Rattle.fx_doc_grammar.specs.declared.Quote.{Quote}
 use Rattle.fx_doc_grammar.specs.declared.Entity.{Entity}
 use Rattle.fx_doc_grammar.specs.declared.Entity.TheVariants.{Begun, A, Am, Amp, Ap, Apo, Apos, G, Gt, L, Lt, Q, Qu, Quo, Quot, Hash, Decimal, Hex, HexDigits}
@@ -14,7 +14,7 @@ use Rattle.fx_doc_grammar.specs.declared.Entity.TheVariants.{Begun, A, Am, Amp, 
 -- the open elements, the innermost outside, with what stands before each and its tag
 pub data Path : Type 0 where
   Top : Path
-  Within : Path → Items → Tag → Path
+  Within : Path → spec.Items → spec.Tag → Path
 
 -- what has been written of the piece that is not yet whole
 pub data Part : Type 0 where
@@ -33,14 +33,14 @@ pub data Part : Type 0 where
   PInstructed : List ℕ → List ℕ → Part
   PEndAsked : List ℕ → List ℕ → Part
   PNaming : List ℕ → Part
-  PSpaced : Tag → Part
-  PTight : Tag → Part
-  PKeyed : Tag → List ℕ → Part
-  PKeySpaced : Tag → List ℕ → List ℕ → Part
-  PSigned : Tag → List ℕ → List ℕ → List ℕ → Part
-  PQuoted : Tag → List ℕ → List ℕ → List ℕ → Quote → List Sign → Part
-  PValueReferring : Tag → List ℕ → List ℕ → List ℕ → Quote → List Sign → Entity → List ℕ → Part
-  PSlashed : Tag → Part
+  PSpaced : spec.Tag → Part
+  PTight : spec.Tag → Part
+  PKeyed : spec.Tag → List ℕ → Part
+  PKeySpaced : spec.Tag → List ℕ → List ℕ → Part
+  PSigned : spec.Tag → List ℕ → List ℕ → List ℕ → Part
+  PQuoted : spec.Tag → List ℕ → List ℕ → List ℕ → Quote → List spec.Sign → Part
+  PValueReferring : spec.Tag → List ℕ → List ℕ → List ℕ → Quote → List spec.Sign → Entity → List ℕ → Part
+  PSlashed : spec.Tag → Part
   -- of the name in an end tag: what is written, and what is left
   PEnding : List ℕ → List ℕ → Part
   PEnded : List ℕ → List ℕ → Part
@@ -67,19 +67,20 @@ entity_text Hex ds = codes "&#x"
 entity_text (HexDigits n) ds = codes "&#x" ++ ds
 
 abbrev pub Entity_ok : Entity → List ℕ → Type 0
-Entity_ok (Decimal n) ds = IsFilled ds × Each IsDecimal ds × (digits_value 10 ds ≡ n) × (n ≤ last_code)
-Entity_ok (HexDigits n) ds = IsFilled ds × Each IsHexadecimal ds × (digits_value 16 ds ≡ n) × (n ≤ last_code)
+Entity_ok (Decimal n) ds = spec.IsFilled ds × Each spec.IsDecimal ds × (digits_value 10 ds ≡ n) × (n ≤ last_code)
+Entity_ok (HexDigits n) ds = spec.IsFilled ds × Each spec.IsHexadecimal ds × (digits_value 16 ds ≡ n) × (n ≤ last_code)
 Entity_ok _ ds = Unit {0}
 
-abbrev key_text : Tag → List ℕ → List ℕ → List ℕ
-key_text t key before = tag_text t ++ (key ++ before)
+abbrev key_text : spec.Tag → List ℕ → List ℕ → List ℕ
+key_text t key before = spec.tag_text t ++ (key ++ before)
 
-abbrev sign_part : Tag → List ℕ → List ℕ → List ℕ → List ℕ
-sign_part t key before behind = tag_text t ++ (key ++ (before ++ (ascii.equals_sign ∷ behind)))
+abbrev sign_part : spec.Tag → List ℕ → List ℕ → List ℕ → List ℕ
+sign_part t key before behind = spec.tag_text t ++ (key ++ (before ++ (ascii.equals_sign ∷ behind)))
 
-abbrev pub value_part : Tag → List ℕ → List ℕ → List ℕ → Quote → List Sign → List ℕ
+abbrev pub value_part : spec.Tag → List ℕ → List ℕ → List ℕ → Quote → List spec.Sign → List ℕ
 value_part t key before behind quote value =
-    tag_text t ++ (key ++ (before ++ (ascii.equals_sign ∷ (behind ++ (quote_code quote ∷ signs_text value)))))
+    spec.tag_text t ++ (key ++ (before ++ (ascii.equals_sign ∷
+    (behind ++ (spec.quote_code quote ∷ spec.signs_text value)))))
 
 abbrev pub part_text : Part → List ℕ
 part_text PInside = []
@@ -96,32 +97,32 @@ part_text (PNameAsked n) = codes "<?" ++ (n ++ codes "?")
 part_text (PInstructed n x) = codes "<?" ++ (n ++ x)
 part_text (PEndAsked n x) = codes "<?" ++ (n ++ (x ++ codes "?"))
 part_text (PNaming n) = ascii.less_than_sign ∷ n
-part_text (PSpaced t) = tag_text t
-part_text (PTight t) = tag_text t
-part_text (PKeyed t key) = tag_text t ++ key
+part_text (PSpaced t) = spec.tag_text t
+part_text (PTight t) = spec.tag_text t
+part_text (PKeyed t key) = spec.tag_text t ++ key
 part_text (PKeySpaced t key before) = key_text t key before
 part_text (PSigned t key before behind) = sign_part t key before behind
 part_text (PQuoted t key before behind quote value) = value_part t key before behind quote value
 part_text (PValueReferring t key before behind quote value e ds) =
     value_part t key before behind quote value ++ entity_text e ds
-part_text (PSlashed t) = tag_text t ++ codes "/"
+part_text (PSlashed t) = spec.tag_text t ++ codes "/"
 part_text (PEnding said rest) = codes "</" ++ said
 part_text (PEnded name white) = codes "</" ++ (name ++ white)
 
 abbrev pub path_text : Path → List ℕ
 path_text Top = []
-path_text (Within p i t) = (path_text p ++ items_text i) ++ (tag_text t ++ codes ">")
+path_text (Within p i t) = (path_text p ++ spec.items_text i) ++ (spec.tag_text t ++ codes ">")
 
-abbrev pub zip_text : Path → Items → Part → List ℕ
-zip_text p i part = (path_text p ++ items_text i) ++ part_text part
+abbrev pub zip_text : Path → spec.Items → Part → List ℕ
+zip_text p i part = (path_text p ++ spec.items_text i) ++ part_text part
 
-abbrev pub Items_ok : Path → Items → Type 0
-Items_ok Top i = Top_ok i
-Items_ok (Within p j t) i = Content_ok i
+abbrev pub Items_ok : Path → spec.Items → Type 0
+Items_ok Top i = spec.Top_ok i
+Items_ok (Within p j t) i = spec.Content_ok i
 
 -- an element may begin here
-abbrev pub IsRoom : Path → Items → Type 0
-IsRoom Top i = has_element i ≡ false
+abbrev pub IsRoom : Path → spec.Items → Type 0
+IsRoom Top i = spec.has_element i ≡ false
 IsRoom (Within p j t) i = Unit {0}
 
 abbrev pub IsWithin : Path → Type 0
@@ -130,7 +131,7 @@ IsWithin (Within p i t) = Unit {0}
 
 abbrev pub Path_ok : Path → Type 0
 Path_ok Top = Unit {0}
-Path_ok (Within p i t) = Path_ok p × Items_ok p i × IsRoom p i × Tag_ok t
+Path_ok (Within p i t) = Path_ok p × Items_ok p i × IsRoom p i × spec.Tag_ok t
 
 abbrev pub IsOpenName : Path → List ℕ → Type 0
 IsOpenName Top n = ⊥
@@ -143,17 +144,17 @@ HasNoEnd e x = (a b : List ℕ) → x ≡ a ++ (e ++ (ascii.greater_than_sign �
 abbrev pub EndsOtherwise : ℕ → List ℕ → Type 0
 EndsOtherwise c x = (a : List ℕ) → x ≡ a ++ (c ∷ []) → ⊥
 
-abbrev pub keys : List Written → List (List ℕ)
+abbrev pub keys : List spec.Written → List (List ℕ)
 keys [] = []
 keys (a ∷ ats) = a.key ∷ keys ats
 
-abbrev Key_ok : Tag → List ℕ → Type 0
-Key_ok t key = Tag_ok t × IsFilled t.white × IsName key
+abbrev Key_ok : spec.Tag → List ℕ → Type 0
+Key_ok t key = spec.Tag_ok t × spec.IsFilled t.white × spec.IsName key
 
-abbrev Fresh_key_ok : Tag → List ℕ → List ℕ → Type 0
-Fresh_key_ok t key before = Key_ok t key × (is_among key (keys t.attributes) ≡ false) × Each IsWhite before
+abbrev Fresh_key_ok : spec.Tag → List ℕ → List ℕ → Type 0
+Fresh_key_ok t key before = Key_ok t key × (spec.is_among key (keys t.attributes) ≡ false) × Each IsWhite before
 
-abbrev pub Part_ok : Path → Items → Part → Type 0
+abbrev pub Part_ok : Path → spec.Items → Part → Type 0
 Part_ok p i PInside = Unit {0}
 Part_ok p i (PReferring e ds) = IsWithin p × Entity_ok e ds
 Part_ok p i PLess = Unit {0}
@@ -163,27 +164,27 @@ Part_ok p i (PComment x) = HasNoEnd (codes "--") x × EndsOtherwise ascii.hyphen
 Part_ok p i (PDashed x) = HasNoEnd (codes "--") (x ++ codes "-") × EndsOtherwise ascii.hyphen x
 Part_ok p i (PDashDashed x) = HasNoEnd (codes "--") (x ++ codes "--") × Unit {0}
 Part_ok p i PAsk = Unit {0}
-Part_ok p i (PInstructing n) = IsName n
-Part_ok p i (PNameAsked n) = IsName n
+Part_ok p i (PInstructing n) = spec.IsName n
+Part_ok p i (PNameAsked n) = spec.IsName n
 Part_ok p i (PInstructed n x) =
-    IsName n × IsFilled x × IsApart x × HasNoEnd (codes "?") x × EndsOtherwise ascii.question_mark x
-Part_ok p i (PEndAsked n x) = IsName n × IsFilled x × IsApart x × HasNoEnd (codes "?") (x ++ codes "?")
-Part_ok p i (PNaming n) = IsRoom p i × IsName n
-Part_ok p i (PSpaced t) = IsRoom p i × Tag_ok t × IsFilled t.white
-Part_ok p i (PTight t) = IsRoom p i × Tag_ok t × (t.white ≡ [])
+    spec.IsName n × spec.IsFilled x × spec.IsApart x × HasNoEnd (codes "?") x × EndsOtherwise ascii.question_mark x
+Part_ok p i (PEndAsked n x) = spec.IsName n × spec.IsFilled x × spec.IsApart x × HasNoEnd (codes "?") (x ++ codes "?")
+Part_ok p i (PNaming n) = IsRoom p i × spec.IsName n
+Part_ok p i (PSpaced t) = IsRoom p i × spec.Tag_ok t × spec.IsFilled t.white
+Part_ok p i (PTight t) = IsRoom p i × spec.Tag_ok t × (t.white ≡ [])
 Part_ok p i (PKeyed t key) = IsRoom p i × Key_ok t key
 Part_ok p i (PKeySpaced t key before) = IsRoom p i × Fresh_key_ok t key before
 Part_ok p i (PSigned t key before behind) = IsRoom p i × Fresh_key_ok t key before × Each IsWhite behind
 Part_ok p i (PQuoted t key before behind quote value) =
-    IsRoom p i × Fresh_key_ok t key before × Each IsWhite behind × Value_ok quote value
+    IsRoom p i × Fresh_key_ok t key before × Each IsWhite behind × spec.Value_ok quote value
 Part_ok p i (PValueReferring t key before behind quote value e ds) =
-    IsRoom p i × Fresh_key_ok t key before × Each IsWhite behind × Value_ok quote value × Entity_ok e ds
-Part_ok p i (PSlashed t) = IsRoom p i × Tag_ok t
+    IsRoom p i × Fresh_key_ok t key before × Each IsWhite behind × spec.Value_ok quote value × Entity_ok e ds
+Part_ok p i (PSlashed t) = IsRoom p i × spec.Tag_ok t
 Part_ok p i (PEnding said rest) = IsOpenName p (said ++ rest)
 Part_ok p i (PEnded name white) = IsOpenName p name × Each IsWhite white
 
 -- the text is a beginning that is written so
-pub record IsBegun (text : List ℕ) (path : Path) (items : Items) (part : Part) : Type 0 where
+pub record IsBegun (text : List ℕ) (path : Path) (items : spec.Items) (part : Part) : Type 0 where
   pub path_ok : Path_ok path
   pub items_ok : Items_ok path items
   pub part_ok : Part_ok path items part
@@ -197,34 +198,34 @@ depth_of Top = 0
 depth_of (Within p i t) = suc (depth_of p)
 
 -- the signs since the last tag
-abbrev pub run_count : Items → ℕ
-run_count Empty = 0
-run_count (Shown i s) = run_count i + 1
-run_count (Comment i x) = run_count i
-run_count (Instruction i n x) = run_count i
-run_count (Leaf i t) = 0
-run_count (Branch i t inner w) = 0
+abbrev pub run_count : spec.Items → ℕ
+run_count spec.Empty = 0
+run_count (spec.Shown i s) = run_count i + 1
+run_count (spec.Comment i x) = run_count i
+run_count (spec.Instruction i n x) = run_count i
+run_count (spec.Leaf i t) = 0
+run_count (spec.Branch i t inner w) = 0
 
 -- an element begins at p within 128 open ones
 pub record PassesDepth (text : List ℕ) (p : Position) : Type 0 where
   pub path : Path
-  pub items : Items
+  pub items : spec.Items
   pub name : List ℕ
   pub begun : IsBegun text path items (PNaming name)
   pub deep : 128 ≤ depth_of path
-  pub position : p ≡ after_all start (path_text path ++ items_text items)
+  pub position : p ≡ after_all start (path_text path ++ spec.items_text items)
 
 -- the last sign is the first past 4,096, of a run within an element, of a value or of a name; and what is written
 -- before it
-pub data IsPast (path : Path) (items : Items) (part : Part) (before : List ℕ) : Type 0 where
-  InRun : (i : Items) (s : Sign) → IsWithin path → items ≡ Shown i s → part ≡ PInside → run_count i ≡ 4096
-      → before ≡ path_text path ++ items_text i → IsPast path items part before
-  InValue : (t : Tag) (key w v : List ℕ) (u : Quote) (value : List Sign) (s : Sign)
+pub data IsPast (path : Path) (items : spec.Items) (part : Part) (before : List ℕ) : Type 0 where
+  InRun : (i : spec.Items) (s : spec.Sign) → IsWithin path → items ≡ spec.Shown i s → part ≡ PInside
+      → run_count i ≡ 4096 → before ≡ path_text path ++ spec.items_text i → IsPast path items part before
+  InValue : (t : spec.Tag) (key w v : List ℕ) (u : Quote) (value : List spec.Sign) (s : spec.Sign)
       → part ≡ PQuoted t key w v u (value ++ (s ∷ [])) → length value ≡ 4096
       → before ≡ zip_text path items (PQuoted t key w v u value) → IsPast path items part before
   InName : (n : List ℕ) (c : ℕ) → part ≡ PNaming (n ++ (c ∷ [])) → length n ≡ 4096
       → before ≡ zip_text path items (PNaming n) → IsPast path items part before
-  InKey : (t : Tag) (key : List ℕ) (c : ℕ) → part ≡ PKeyed t (key ++ (c ∷ [])) → length key ≡ 4096
+  InKey : (t : spec.Tag) (key : List ℕ) (c : ℕ) → part ≡ PKeyed t (key ++ (c ∷ [])) → length key ≡ 4096
       → before ≡ zip_text path items (PKeyed t key) → IsPast path items part before
   InInstruction : (n : List ℕ) (c : ℕ) → part ≡ PInstructing (n ++ (c ∷ [])) → length n ≡ 4096
       → before ≡ zip_text path items (PInstructing n) → IsPast path items part before
@@ -232,7 +233,7 @@ pub data IsPast (path : Path) (items : Items) (part : Part) (before : List ℕ) 
 -- a sign that begins at p is the first past 4,096
 pub record PassesLength (text : List ℕ) (p : Position) : Type 0 where
   pub path : Path
-  pub items : Items
+  pub items : spec.Items
   pub part : Part
   pub before : List ℕ
   pub begun : IsBegun text path items part
@@ -263,5 +264,5 @@ pub record IsTooLong (text : List ℕ) (p : Position) : Type 0 where
 
 -- the text is no document, and passes no limit up to p, the end of its longest prefix that some document begins with
 pub record IsStopped (text : List ℕ) (p : Position) : Type 0 where
-  pub markup : IsMarkup text p
+  pub markup : spec.IsMarkup text p
   pub within : IsWithinLimits markup.front

@@ -7,7 +7,7 @@ use Rattle.fx_text.specs.Characters as ascii
 use Rattle.fx_base.specs.Positions.{after}
 use Rattle.fx_base.specs.declared.positions.Position.{Position}
 use Rattle.fx_doc_grammar.specs.Characters.{class_of, in_name, is_character, last_code}
-use Rattle.fx_doc_grammar.specs.Grammar.{Head, Attr, Nodes, Nothing, Letters, Node, Level, fresh_level, one_sign, one_child, closed, value_byte, is_among, is_quote, listed, Reading}
+use Rattle.fx_doc_grammar.specs.Grammar as spec
 use Rattle.fx_doc_grammar.specs.declared.Class.{Class}
 use Rattle.fx_doc_grammar.specs.declared.Class.TheVariants.{White, Less, Greater, Slash, Equals, Bang, Question, Dash, Quotation, Apostrophe, Ampersand, Letter}
 use Rattle.fx_doc_grammar.specs.declared.Quote.{Quote}
@@ -81,12 +81,12 @@ entity_step (HexDigits n) c = if c == ascii.semicolon then number_end n else hex
 -- the open elements, the innermost outside, with what stands before each
 pub data Stack : Type 0 where
   Bottom : Stack
-  Opened : Stack → Level → Head → Stack
+  Opened : Stack → spec.Level → spec.Head → Stack
 
 pub record Held : Type 0 where
   pub imports : List (List ℕ)
   pub stack : Stack
-  pub level : Level
+  pub level : spec.Level
 
 pub data Mode : Type 0 where
   Inside : Mode
@@ -103,15 +103,15 @@ pub data Mode : Type 0 where
   Instructed : List ℕ → List ℕ → Mode
   EndAsked : List ℕ → List ℕ → Mode
   Naming : Position → List ℕ → Mode
-  Spaced : Head → Mode
-  Tight : Head → Mode
-  Keyed : Head → Position → List ℕ → Mode
-  KeySpaced : Head → Position → List ℕ → Mode
-  Signed : Head → Position → List ℕ → Mode
+  Spaced : spec.Head → Mode
+  Tight : spec.Head → Mode
+  Keyed : spec.Head → Position → List ℕ → Mode
+  KeySpaced : spec.Head → Position → List ℕ → Mode
+  Signed : spec.Head → Position → List ℕ → Mode
   -- the value so far, and its count of signs
-  Quoted : Head → Position → List ℕ → Quote → List ℕ → ℕ → Mode
-  ValueReferring : Head → Position → List ℕ → Quote → List ℕ → ℕ → Position → Entity → Mode
-  Slashed : Head → Mode
+  Quoted : spec.Head → Position → List ℕ → Quote → List ℕ → ℕ → Mode
+  ValueReferring : spec.Head → Position → List ℕ → Quote → List ℕ → ℕ → Position → Entity → Mode
+  Slashed : spec.Head → Mode
   -- what is left of the open name
   Ending : List ℕ → Mode
   Ended : Mode
@@ -128,28 +128,28 @@ some_if true s = s
 some_if false s = None
 
 abbrev pub initial : State
-initial = record { held = record { imports = []; stack = Bottom; level = fresh_level }; mode = Inside }
+initial = record { held = record { imports = []; stack = Bottom; level = spec.fresh_level }; mode = Inside }
 
 abbrev pub is_open : Stack → Bool
 is_open Bottom = false
 is_open (Opened s l h) = true
 
-abbrev pub is_nothing : Nodes → Bool
-is_nothing Nothing = true
-is_nothing (Letters n r p) = false
-is_nothing (Node n h inner) = false
+abbrev pub is_nothing : spec.Nodes → Bool
+is_nothing spec.Nothing = true
+is_nothing (spec.Letters n r p) = false
+is_nothing (spec.Node n h inner) = false
 
 -- an element may begin here: within another, or as the first
 abbrev pub may_begin : Held → Bool
 may_begin h = is_open h.stack || is_nothing h.level.nodes
 
-abbrev pub with_level : Held → Level → Held
+abbrev pub with_level : Held → spec.Level → Held
 with_level h l = record { imports = h.imports; stack = h.stack; level = l }
 
 -- white outside the elements is not kept
 abbrev pub sign_in : Stack → Position → ℕ → Held → Held
 sign_in Bottom p c h = h
-sign_in (Opened s l head) p c h = with_level h (one_sign p c h.level)
+sign_in (Opened s l head) p c h = with_level h (spec.one_sign p c h.level)
 
 abbrev pub with_sign : Position → ℕ → Held → Held
 with_sign p c h = sign_in h.stack p c h
@@ -157,19 +157,19 @@ with_sign p c h = sign_in h.stack p c h
 -- an instruction is whole: before the first element it may be an import
 abbrev pub with_instruction : Held → List ℕ → List ℕ → Held
 with_instruction h name inside =
-    let imports = h.imports ++ (if may_begin h && not (is_open h.stack) then listed name inside else []) in
+    let imports = h.imports ++ (if may_begin h && not (is_open h.stack) then spec.listed name inside else []) in
     record { imports = imports; stack = h.stack; level = h.level }
 
-abbrev pub with_leaf : Held → Head → Held
-with_leaf h head = with_level h (one_child h.level head Nothing)
+abbrev pub with_leaf : Held → spec.Head → Held
+with_leaf h head = with_level h (spec.one_child h.level head spec.Nothing)
 
-abbrev pub open_element : Held → Head → Held
-open_element h head = record { imports = h.imports; stack = Opened h.stack h.level head; level = fresh_level }
+abbrev pub open_element : Held → spec.Head → Held
+open_element h head = record { imports = h.imports; stack = Opened h.stack h.level head; level = spec.fresh_level }
 
-abbrev pub close_in : List (List ℕ) → Stack → Level → Option State
+abbrev pub close_in : List (List ℕ) → Stack → spec.Level → Option State
 close_in imports Bottom l = None
 close_in imports (Opened s before head) l =
-    at (record { imports = imports; stack = s; level = one_child before head (closed l) }) Inside
+    at (record { imports = imports; stack = s; level = spec.one_child before head (spec.closed l) }) Inside
 
 abbrev pub close : Held → Option State
 close h = close_in h.imports h.stack h.level
@@ -178,13 +178,13 @@ abbrev pub begin_end : Stack → Held → Option State
 begin_end Bottom h = None
 begin_end (Opened s l head) h = at h (Ending head.name)
 
-abbrev pub keys_of : List Attr → List (List ℕ)
-keys_of ats = map (λ (a : Attr). a.name) ats
+abbrev pub keys_of : List spec.Attr → List (List ℕ)
+keys_of ats = map (λ (a : spec.Attr). a.name) ats
 
-abbrev pub is_fresh : List ℕ → Head → Bool
-is_fresh key head = not (is_among key (keys_of head.attributes))
+abbrev pub is_fresh : List ℕ → spec.Head → Bool
+is_fresh key head = not (spec.is_among key (keys_of head.attributes))
 
-abbrev pub with_attribute : Head → Position → List ℕ → List ℕ → Head
+abbrev pub with_attribute : spec.Head → Position → List ℕ → List ℕ → spec.Head
 with_attribute head q key value =
     let attributes = head.attributes ++ (record { name = key; value = value; position = q } ∷ []) in
     record { name = head.name; attributes = attributes; position = head.position }
@@ -259,7 +259,7 @@ in_naming q n h c Slash = at h (Slashed (record { name = n; attributes = []; pos
 in_naming q n h c Greater = at (open_element h (record { name = n; attributes = []; position = q })) Inside
 in_naming q n h c k = some_if (in_name k) (at h (Naming q (n ++ (c ∷ []))))
 
-abbrev pub in_spaced : Position → Head → Held → ℕ → Class → Option State
+abbrev pub in_spaced : Position → spec.Head → Held → ℕ → Class → Option State
 in_spaced p head h c White = at h (Spaced head)
 in_spaced p head h c Slash = at h (Slashed head)
 in_spaced p head h c Greater = at (open_element h head) Inside
@@ -267,45 +267,45 @@ in_spaced p head h c Letter = at h (Keyed head p (c ∷ []))
 in_spaced p head h c _ = None
 
 -- behind a value: no attribute begins without white before it
-abbrev pub in_tight : Head → Held → Class → Option State
+abbrev pub in_tight : spec.Head → Held → Class → Option State
 in_tight head h White = at h (Spaced head)
 in_tight head h Slash = at h (Slashed head)
 in_tight head h Greater = at (open_element h head) Inside
 in_tight head h _ = None
 
-abbrev pub in_keyed : Head → Position → List ℕ → Held → ℕ → Class → Option State
+abbrev pub in_keyed : spec.Head → Position → List ℕ → Held → ℕ → Class → Option State
 in_keyed head q k h c White = some_if (is_fresh k head) (at h (KeySpaced head q k))
 in_keyed head q k h c Equals = some_if (is_fresh k head) (at h (Signed head q k))
 in_keyed head q k h c kind = some_if (in_name kind) (at h (Keyed head q (k ++ (c ∷ []))))
 
-abbrev pub in_key_spaced : Head → Position → List ℕ → Held → Class → Option State
+abbrev pub in_key_spaced : spec.Head → Position → List ℕ → Held → Class → Option State
 in_key_spaced head q k h White = at h (KeySpaced head q k)
 in_key_spaced head q k h Equals = at h (Signed head q k)
 in_key_spaced head q k h _ = None
 
-abbrev pub in_signed : Head → Position → List ℕ → Held → Class → Option State
+abbrev pub in_signed : spec.Head → Position → List ℕ → Held → Class → Option State
 in_signed head q k h White = at h (Signed head q k)
 in_signed head q k h Quotation = at h (Quoted head q k Double [] 0)
 in_signed head q k h Apostrophe = at h (Quoted head q k Single [] 0)
 in_signed head q k h _ = None
 
 -- a character of a value that is no `<` and no `&`
-abbrev pub in_value : Bool → Head → Position → List ℕ → Quote → List ℕ → ℕ → Held → ℕ → Class → Option State
+abbrev pub in_value : Bool → spec.Head → Position → List ℕ → Quote → List ℕ → ℕ → Held → ℕ → Class → Option State
 in_value true head q k u v n h c kind = at h (Tight (with_attribute head q k v))
-in_value false head q k u v n h c kind = at h (Quoted head q k u (v ++ value_byte kind c) (n + 1))
+in_value false head q k u v n h c kind = at h (Quoted head q k u (v ++ spec.value_byte kind c) (n + 1))
 
-abbrev pub in_quoted : Position → Head → Position → List ℕ → Quote → List ℕ → ℕ → Held → ℕ → Class → Option State
+abbrev pub in_quoted : Position → spec.Head → Position → List ℕ → Quote → List ℕ → ℕ → Held → ℕ → Class → Option State
 in_quoted p head q k u v n h c Less = None
 in_quoted p head q k u v n h c Ampersand = at h (ValueReferring head q k u v n p Begun)
-in_quoted p head q k u v n h c kind = in_value (is_quote u kind) head q k u v n h c kind
+in_quoted p head q k u v n h c kind = in_value (spec.is_quote u kind) head q k u v n h c kind
 
-abbrev pub in_value_referring : Head → Position → List ℕ → Quote → List ℕ → ℕ → Position → Held → Option Turn
+abbrev pub in_value_referring : spec.Head → Position → List ℕ → Quote → List ℕ → ℕ → Position → Held → Option Turn
     → Option State
 in_value_referring head q k u v n r h (Some (Further e)) = at h (ValueReferring head q k u v n r e)
 in_value_referring head q k u v n r h (Some (Whole x)) = at h (Quoted head q k u (v ++ encode x) (n + 1))
 in_value_referring head q k u v n r h None = None
 
-abbrev pub in_slashed : Head → Held → Class → Option State
+abbrev pub in_slashed : spec.Head → Held → Class → Option State
 in_slashed head h Greater = at (with_leaf h head) Inside
 in_slashed head h _ = None
 
@@ -356,11 +356,11 @@ run p o [] = o
 run p o (c ∷ cs) = run (after p c) (next p o c) cs
 
 -- what is read where the text ends
-abbrev pub answer_of : Held → Stack → Mode → Bool → Option Reading
+abbrev pub answer_of : Held → Stack → Mode → Bool → Option spec.Reading
 answer_of h Bottom Inside false = Some (record { imports = h.imports; root = h.level.nodes })
 answer_of h _ _ _ = None
 
-abbrev pub answer : State → Option Reading
+abbrev pub answer : State → Option spec.Reading
 answer s = answer_of s.held s.held.stack s.mode (is_nothing s.held.level.nodes)
 
 -- Limits ------------------------------------------------------------------------------------------

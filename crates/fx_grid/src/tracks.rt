@@ -4,7 +4,7 @@ ghost use Rattle.std.specs.Prelude.{◌≡◌, ◌≤◌, All, length, map, slic
 ghost use Rattle.fx_panes_parts.specs.Axes.{along};
 ghost use Rattle.std.specs.List.{range_with_len};
 ghost use Rattle.fx_panes_parts.specs.Sizes.{limited};
-ghost use Rattle.fx_grid.specs.Tracks.{IsCell, given_on, length_at_place, no_need, own_min, own_pref, part_by, track_at, track_at_place, track_count, tracks_of};
+ghost use Rattle.fx_grid.specs.Tracks as spec;
 
 use crate::needs::{NO_NEED, Need, fill_needs};
 use crate::sharing::widen_all;
@@ -31,7 +31,7 @@ pub(crate) const NO_TRACK: Part = Part {
 
 /// The constraints of a pane's columns or rows.
 pub(crate) fn given_on(axis: Axis, pane: &PaneFacts) -> &[Track]
-    ensures { result.now ≡ given_on axis pane.now }
+    ensures { result.now ≡ spec.given_on axis pane.now }
 {
     match axis {
         Axis::Across => pane.columns.as_slice(),
@@ -41,7 +41,7 @@ pub(crate) fn given_on(axis: Axis, pane: &PaneFacts) -> &[Track]
 
 /// The constraint of a track.
 pub(crate) fn track_at(given: &[Track], k: usize) -> Track
-    ensures { result ≡ track_at given.now k }
+    ensures { result ≡ spec.track_at given.now k }
 {
     match given.get(k) {
         Some(track) => *track,
@@ -52,8 +52,8 @@ pub(crate) fn track_at(given: &[Track], k: usize) -> Track
 /// How many tracks a grid has: no more than 319.
 pub(crate) fn track_count(axis: Axis, given: &[Track], children: &[ChildSize]) -> usize
     requires given { length given.now ≤ 256 }
-    requires cells { All (IsCell axis) children.now }
-    ensures value { result ≡ track_count given.now (along axis children.now) }
+    requires cells { All (spec.IsCell axis) children.now }
+    ensures value { result ≡ spec.track_count given.now (along axis children.now) }
     ensures few { result ≤ 319 }
 {
     let mut count = given.len();
@@ -73,11 +73,11 @@ pub(crate) fn fill_tracks<const N: usize>(
     tracks: &mut [Part],
 )
     requires gap { gap ≤ 100000 }
-    requires cells { All (IsCell axis) children.now }
-    requires count { length tracks.old ≡ track_count given.now (along axis children.now) }
+    requires cells { All (spec.IsCell axis) children.now }
+    requires count { length tracks.old ≡ spec.track_count given.now (along axis children.now) }
     requires few { length tracks.old ≤ N }
     requires most { N ≤ 320 }
-    ensures { tracks.new ≡ tracks_of gap given.now (along axis children.now) }
+    ensures { tracks.new ≡ spec.tracks_of gap given.now (along axis children.now) }
 {
     let mut needs = [NO_NEED; N];
     let needs = &mut needs[..tracks.len()];
@@ -96,7 +96,7 @@ pub(crate) fn fill_tracks<const N: usize>(
 /// Fills in the tracks by what is needed there and by their lengths.
 fn fill_by(given: &[Track], needs: &[Need], leasts: &[u64], wishes: &[u64], tracks: &mut [Part])
     requires { length tracks.old ≡ length needs.now }
-    ensures { tracks.new ≡ map (track_at_place given.now needs.now leasts.now wishes.now)
+    ensures { tracks.new ≡ map (spec.track_at_place given.now needs.now leasts.now wishes.now)
         (range_with_len 0 (length needs.now)) }
 {
     for k in 0..tracks.len() {
@@ -106,7 +106,7 @@ fn fill_by(given: &[Track], needs: &[Need], leasts: &[u64], wishes: &[u64], trac
 
 #[tactic(auto, unfolding(crate::specs::Tracks::track_by))]
 fn track_at_place(given: &[Track], needs: &[Need], leasts: &[u64], wishes: &[u64], k: usize) -> Part
-    ensures { result ≡ track_at_place given.now needs.now leasts.now wishes.now k }
+    ensures { result ≡ spec.track_at_place given.now needs.now leasts.now wishes.now k }
 {
     let track = track_at(given, k);
     let least = leasts.get(k).copied().unwrap_or(0);
@@ -120,7 +120,7 @@ fn track_at_place(given: &[Track], needs: &[Need], leasts: &[u64], wishes: &[u64
 }
 
 fn need_at(needs: &[Need], k: usize) -> Need
-    ensures { result ≡ slice_index_or needs.now k no_need }
+    ensures { result ≡ slice_index_or needs.now k spec.no_need }
 {
     match needs.get(k) {
         Some(need) => *need,
@@ -130,7 +130,7 @@ fn need_at(needs: &[Need], k: usize) -> Need
 
 #[tactic(auto, unfolding(crate::specs::Tracks::part_by))]
 fn part_by(track: Track, least: u64, wish: u64, priority: u8) -> Part
-    ensures { result ≡ part_by track least wish priority }
+    ensures { result ≡ spec.part_by track least wish priority }
 {
     let low = least.min(100_000);
     let asked = wish.min(100_000);
@@ -161,7 +161,7 @@ fn greatest_length(own: i64, pref: u64) -> u64
 /// Fills in the lengths of all tracks before any child covers more than one, and before they are clamped.
 fn fill_alone(bound: Bound, given: &[Track], needs: &[Need], lengths: &mut [u64])
     requires { length lengths.old ≡ length needs.now }
-    ensures { lengths.new ≡ map (length_at_place bound given.now needs.now) (range_with_len 0 (length needs.now)) }
+    ensures { lengths.new ≡ map (spec.length_at_place bound given.now needs.now) (range_with_len 0 (length needs.now)) }
 {
     for k in 0..lengths.len() {
         lengths[k] = length_at_place(bound, given, needs, k);
@@ -170,7 +170,7 @@ fn fill_alone(bound: Bound, given: &[Track], needs: &[Need], lengths: &mut [u64]
 
 #[tactic(auto, unfolding(crate::specs::Tracks::length_by))]
 fn length_at_place(bound: Bound, given: &[Track], needs: &[Need], k: usize) -> u64
-    ensures { result ≡ length_at_place bound given.now needs.now k }
+    ensures { result ≡ spec.length_at_place bound given.now needs.now k }
 {
     let track = track_at(given, k);
     let need = need_at(needs, k);
@@ -183,14 +183,14 @@ fn length_at_place(bound: Bound, given: &[Track], needs: &[Need], k: usize) -> u
 
 #[tactic(auto, unfolding(crate::specs::Tracks::own_pref))]
 fn own_pref(own: i64, computed: u64) -> u64
-    ensures { result ≡ own_pref own computed }
+    ensures { result ≡ spec.own_pref own computed }
 {
     if own >= 0 { length_of(own) } else { computed }
 }
 
 #[tactic(auto, unfolding(crate::specs::Tracks::own_min))]
 fn own_min(own: i64, pref: u64, computed: u64) -> u64
-    ensures { result ≡ own_min own pref computed }
+    ensures { result ≡ spec.own_min own pref computed }
 {
     if own >= 0 {
         length_of(own)

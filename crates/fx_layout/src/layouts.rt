@@ -3,7 +3,7 @@ ghost use Rattle.std.specs.Prelude.{ℕ, ◌≡◌, ◌≤◌, ◌<◌, ◌+◌,
 ghost use Rattle.fx_layout_sweeps.specs.Nodes.{AreNodes, children_lists, extent_at, keys, parents};
 ghost use Rattle.fx_panes_parts.specs.declared.axes.Axis.TheVariants.{Across, Down};
 ghost use Rattle.fx_layout.specs.Keeping.{AreSwept, IsWhole, kept_of};
-ghost use Rattle.fx_layout.specs.Updates.{AreDifferent, AreTold, IsUpdate, laid_bound, laid_count, resized, root_length, root_size, window_height, window_width};
+ghost use Rattle.fx_layout.specs.Updates as spec;
 
 use crate::along::{Along, Moved, Scene, Sweep, lay_again, lay_moved};
 use crate::keys::{count_marked, keys_of, marks_of, old_places};
@@ -161,16 +161,16 @@ impl Layouts {
     ) -> Result<(u32, u32), AllocError>
         requires some { 0 < length nodes.now }
         requires nodes { AreNodes nodes.now }
-        requires keys { AreDifferent (keys nodes.now) }
+        requires keys { spec.AreDifferent (keys nodes.now) }
         requires looks { length looks.now ≡ length nodes.now }
-        ensures update { OnOk result (IsUpdate self.old nodes.now looks.now window remeasure.now self.new) }
-        ensures size { IfOk result (λ size. size ≡ root_size self.new) }
+        ensures update { OnOk result (spec.IsUpdate self.old nodes.now looks.now window remeasure.now self.new) }
+        ensures size { IfOk result (λ size. size ≡ spec.root_size self.new) }
         ensures err { OnErr result (self.new ≡ self.old) }
         ensures others { OnOk result (work.new ≡ record work.old { laid = work.new.laid }) }
         ensures cost { OnOk result (work.new.laid
-            ≤ work.old.laid + laid_bound (length remeasure.now) (resized self.old nodes.now self.new)) }
+            ≤ work.old.laid + spec.laid_bound (length remeasure.now) (spec.resized self.old nodes.now self.new)) }
         ensures count { OnOk result (work.new.laid
-            ≡ work.old.laid + laid_count self.old nodes.now remeasure.now self.new) }
+            ≡ work.old.laid + spec.laid_count self.old nodes.now remeasure.now self.new) }
     {
         let told = self.update_telling(alloc, nodes, looks, window, remeasure, work)?;
         Ok(told.size)
@@ -189,12 +189,12 @@ impl Layouts {
     ) -> Result<Updated, AllocError>
         requires some { 0 < length nodes.now }
         requires nodes { AreNodes nodes.now }
-        requires keys { AreDifferent (keys nodes.now) }
+        requires keys { spec.AreDifferent (keys nodes.now) }
         requires looks { length looks.now ≡ length nodes.now }
-        ensures update { OnOk result (IsUpdate self.old nodes.now looks.now window remeasure.now self.new) }
-        ensures size { IfOk result (λ told. told.size ≡ root_size self.new) }
-        ensures changed { IfOk result (λ told. AreTold self.old nodes.now self.new told.changed) }
-        ensures laid { IfOk result (λ told. told.laid ≡ laid_count self.old nodes.now remeasure.now self.new) }
+        ensures update { OnOk result (spec.IsUpdate self.old nodes.now looks.now window remeasure.now self.new) }
+        ensures size { IfOk result (λ told. told.size ≡ spec.root_size self.new) }
+        ensures changed { IfOk result (λ told. spec.AreTold self.old nodes.now self.new told.changed) }
+        ensures laid { IfOk result (λ told. told.laid ≡ spec.laid_count self.old nodes.now remeasure.now self.new) }
         ensures err { OnErr result (self.new ≡ self.old) }
         ensures others { OnOk result (work.new ≡ record work.old { laid = work.new.laid }) }
         ensures cost { IfOk result (λ told. work.new.laid ≡ work.old.laid + told.laid) }
@@ -221,16 +221,16 @@ impl Layouts {
     ) -> Result<Updated, AllocError>
         requires some { 0 < length input.nodes.now }
         requires nodes { AreNodes input.nodes.now }
-        requires keys { AreDifferent (keys input.nodes.now) }
+        requires keys { spec.AreDifferent (keys input.nodes.now) }
         requires looks { length input.looks.now ≡ length input.nodes.now }
         requires same_keys { self.old.keys ≡ keys input.nodes.now }
         requires same_children { self.old.children ≡ children_lists (parents input.nodes.now) }
-        ensures update { OnOk result (IsUpdate self.old input.entry.nodes.now input.entry.looks.now input.entry.window
-            input.entry.remeasure.now self.new) }
-        ensures size { IfOk result (λ told. told.size ≡ root_size self.new) }
-        ensures changed { IfOk result (λ told. AreTold self.old input.entry.nodes.now self.new told.changed) }
+        ensures update { OnOk result (spec.IsUpdate self.old input.entry.nodes.now input.entry.looks.now
+            input.entry.window input.entry.remeasure.now self.new) }
+        ensures size { IfOk result (λ told. told.size ≡ spec.root_size self.new) }
+        ensures changed { IfOk result (λ told. spec.AreTold self.old input.entry.nodes.now self.new told.changed) }
         ensures laid { IfOk result (λ told. told.laid
-            ≡ laid_count self.old input.entry.nodes.now input.entry.remeasure.now self.new) }
+            ≡ spec.laid_count self.old input.entry.nodes.now input.entry.remeasure.now self.new) }
         ensures err { OnErr result (self.new ≡ self.old) }
         ensures others { OnOk result (work.new ≡ record work.old { laid = work.new.laid }) }
         ensures cost { IfOk result (λ told. work.new.laid ≡ work.old.laid + told.laid) }
@@ -273,14 +273,14 @@ impl Layouts {
     ) -> Result<Updated, AllocError>
         requires some { 0 < length input.nodes.now }
         requires nodes { AreNodes input.nodes.now }
-        requires keys { AreDifferent (keys input.nodes.now) }
+        requires keys { spec.AreDifferent (keys input.nodes.now) }
         requires looks { length input.looks.now ≡ length input.nodes.now }
-        ensures update { OnOk result (IsUpdate self.old input.entry.nodes.now input.entry.looks.now input.entry.window
-            input.entry.remeasure.now self.new) }
-        ensures size { IfOk result (λ told. told.size ≡ root_size self.new) }
-        ensures changed { IfOk result (λ told. AreTold self.old input.entry.nodes.now self.new told.changed) }
+        ensures update { OnOk result (spec.IsUpdate self.old input.entry.nodes.now input.entry.looks.now
+            input.entry.window input.entry.remeasure.now self.new) }
+        ensures size { IfOk result (λ told. told.size ≡ spec.root_size self.new) }
+        ensures changed { IfOk result (λ told. spec.AreTold self.old input.entry.nodes.now self.new told.changed) }
         ensures laid { IfOk result (λ told. told.laid
-            ≡ laid_count self.old input.entry.nodes.now input.entry.remeasure.now self.new) }
+            ≡ spec.laid_count self.old input.entry.nodes.now input.entry.remeasure.now self.new) }
         ensures err { OnErr result (self.new ≡ self.old) }
         ensures others { OnOk result (work.new ≡ record work.old { laid = work.new.laid }) }
         ensures cost { IfOk result (λ told. work.new.laid ≡ work.old.laid + told.laid) }
@@ -308,7 +308,7 @@ impl Layouts {
         ensures axis { result.axis ≡ Across }
         ensures old_lengths { result.old_lengths.now ≡ self.now.widths }
         ensures old_spans { result.old_spans.now ≡ self.now.across }
-        ensures root { result.root ≡ window_width window }
+        ensures root { result.root ≡ spec.window_width window }
         ensures widths { result.widths.now ≡ [] }
         ensures spans { result.spans.now ≡ [] }
     {
@@ -327,7 +327,7 @@ impl Layouts {
         ensures axis { result.axis ≡ Down }
         ensures old_lengths { result.old_lengths.now ≡ self.now.heights }
         ensures old_spans { result.old_spans.now ≡ self.now.down }
-        ensures root { result.root ≡ window_height window }
+        ensures root { result.root ≡ spec.window_height window }
         ensures widths { result.widths.now ≡ across.now.lengths.items }
         ensures spans { result.spans.now ≡ across.now.spans.items }
     {
@@ -365,7 +365,7 @@ impl Layouts {
     ) -> Result<Swept, AllocError>
         requires some { 0 < length input.nodes.now }
         requires nodes { AreNodes input.nodes.now }
-        requires keys { AreDifferent (keys input.nodes.now) }
+        requires keys { spec.AreDifferent (keys input.nodes.now) }
         requires looks { length input.looks.now ≡ length input.nodes.now }
         requires same_keys { self.now.keys ≡ keys input.nodes.now }
         requires same_children { self.now.children ≡ children_lists (parents input.nodes.now) }
@@ -377,7 +377,7 @@ impl Layouts {
             input.entry.window input.entry.remeasure.now made.across.lengths.items made.down.lengths.items
             made.across.spans.items made.down.spans.items made.marks) }
         ensures others { OnOk result (work.new ≡ record work.old { laid = work.new.laid }) }
-        ensures laid { IfOk result (λ made. made.laid ≡ laid_count self.now input.entry.nodes.now
+        ensures laid { IfOk result (λ made. made.laid ≡ spec.laid_count self.now input.entry.nodes.now
             input.entry.remeasure.now (kept_of input.entry.nodes.now made.across.lengths.items
             made.down.lengths.items made.across.spans.items made.down.spans.items [])) }
         ensures cost { IfOk result (λ made. work.new.laid ≡ work.old.laid + made.laid) }
@@ -413,20 +413,20 @@ impl Layouts {
     ) -> Result<Told, AllocError>
         requires some { 0 < length input.nodes.now }
         requires nodes { AreNodes input.nodes.now }
-        requires keys { AreDifferent (keys input.nodes.now) }
+        requires keys { spec.AreDifferent (keys input.nodes.now) }
         requires looks { length input.looks.now ≡ length input.nodes.now }
         requires tree { tree.now ≡ parents input.nodes.now }
-        ensures update { IfOk result (λ told. IsUpdate self.now input.entry.nodes.now input.entry.looks.now
+        ensures update { IfOk result (λ told. spec.IsUpdate self.now input.entry.nodes.now input.entry.looks.now
             input.entry.window input.entry.remeasure.now (kept_of input.entry.nodes.now
             told.made.across.lengths.items told.made.down.lengths.items told.made.across.spans.items
             told.made.down.spans.items told.made.rects.items)) }
         ensures whole { IfOk result (λ told. IsWhole (kept_of input.entry.nodes.now
             told.made.across.lengths.items told.made.down.lengths.items told.made.across.spans.items
             told.made.down.spans.items told.made.rects.items)) }
-        ensures changed { IfOk result (λ told. AreTold self.now input.entry.nodes.now (kept_of
+        ensures changed { IfOk result (λ told. spec.AreTold self.now input.entry.nodes.now (kept_of
             input.entry.nodes.now told.made.across.lengths.items told.made.down.lengths.items
             told.made.across.spans.items told.made.down.spans.items told.made.rects.items) told.changed) }
-        ensures laid { IfOk result (λ told. told.laid ≡ laid_count self.now input.entry.nodes.now
+        ensures laid { IfOk result (λ told. told.laid ≡ spec.laid_count self.now input.entry.nodes.now
             input.entry.remeasure.now (kept_of input.entry.nodes.now told.made.across.lengths.items
             told.made.down.lengths.items told.made.across.spans.items told.made.down.spans.items
             told.made.rects.items)) }
@@ -508,8 +508,8 @@ impl Laid {
 /// The size of the root in the window, of what is laid along both axes.
 fn size_of(window: Option<(u32, u32)>, across: &Along, down: &Along) -> (u32, u32)
     ensures { result ≡ (
-      root_length (window_width window) (extent_at across.now.lengths.items 0),
-      root_length (window_height window) (extent_at down.now.lengths.items 0),
+      spec.root_length (spec.window_width window) (extent_at across.now.lengths.items 0),
+      spec.root_length (spec.window_height window) (extent_at down.now.lengths.items 0),
     ) }
 {
     (

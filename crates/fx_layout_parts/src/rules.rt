@@ -1,6 +1,6 @@
 //! The rules of the classes: what is asked of a node, by its class.
 ghost use Rattle.std.specs.Prelude.{◌≡◌, ℕ, ◌+◌, ◌≤◌, IfOk, length};
-ghost use Rattle.fx_layout_parts.specs.Rules.{AreSizes, AreSizesBy, CanBeAsked, across_half, across_span, down_half, down_span, rects_by, rects_in, rule_of};
+ghost use Rattle.fx_layout_parts.specs.Rules as spec;
 ghost use Rattle.fx_panes_parts.specs.Lengths.{length_of};
 
 use fx_base::{ChildSize, Ledgers, PaneFacts, Rect, Sizes, Work};
@@ -36,7 +36,7 @@ pub struct NodeBox {
 /// The rule of a class.
 #[tactic(auto, unfolding(crate::specs::Rules::rule_of))]
 pub fn rule_of(class: Class) -> Rule
-    ensures { result ≡ rule_of class }
+    ensures { result ≡ spec.rule_of class }
 {
     match class {
         Class::Pane => Rule::Free,
@@ -59,8 +59,8 @@ pub fn measure<L: Ledgers>(
     children: &[ChildSize],
     work: &mut Work<L>,
 ) -> Result<Sizes, AllocError>
-    requires { CanBeAsked node.now children.now }
-    ensures sizes { IfOk result (λ sizes. (w : ℕ) × AreSizes node.now children.now w sizes) }
+    requires { spec.CanBeAsked node.now children.now }
+    ensures sizes { IfOk result (λ sizes. (w : ℕ) × spec.AreSizes node.now children.now w sizes) }
     ensures work { work.new ≡ record work.old { laid = work.old.laid + 1 } }
 {
     let facts = &node.facts;
@@ -85,8 +85,8 @@ pub fn measure_in<L: Ledgers>(
     w: i64,
     work: &mut Work<L>,
 ) -> Result<Sizes, AllocError>
-    requires { CanBeAsked node.now children.now }
-    ensures sizes { IfOk result (AreSizes node.now children.now (length_of w)) }
+    requires { spec.CanBeAsked node.now children.now }
+    ensures sizes { IfOk result (spec.AreSizes node.now children.now (length_of w)) }
     ensures work { work.new ≡ record work.old { laid = work.old.laid + 1 } }
 {
     let facts = &node.facts;
@@ -113,8 +113,9 @@ pub fn place<L: Ledgers>(
     h: i64,
     work: &mut Work<L>,
 ) -> Result<Vec<Rect>, AllocError>
-    requires { CanBeAsked node.now children.now }
-    ensures rects { IfOk result (λ rects. rects.items ≡ rects_in node.now children.now (length_of w) (length_of h)) }
+    requires { spec.CanBeAsked node.now children.now }
+    ensures rects { IfOk result (λ rects. rects.items
+        ≡ spec.rects_in node.now children.now (length_of w) (length_of h)) }
     ensures work { work.new ≡ record work.old { laid = work.old.laid + 1 } }
 {
     let facts = &node.facts;
@@ -133,7 +134,7 @@ pub fn place<L: Ledgers>(
 
 /// The horizontal half of sizes.
 pub fn across_half(sizes: Sizes) -> Extent
-    ensures { result ≡ across_half sizes }
+    ensures { result ≡ spec.across_half sizes }
 {
     Extent {
         min: length_of(sizes.min_w),
@@ -144,7 +145,7 @@ pub fn across_half(sizes: Sizes) -> Extent
 
 /// The vertical half of sizes.
 pub fn down_half(sizes: Sizes) -> Extent
-    ensures { result ≡ down_half sizes }
+    ensures { result ≡ spec.down_half sizes }
 {
     Extent {
         min: length_of(sizes.min_h),
@@ -155,7 +156,7 @@ pub fn down_half(sizes: Sizes) -> Extent
 
 /// The horizontal half of a rectangle.
 pub fn across_span(rect: Rect) -> Span
-    ensures { result ≡ across_span rect }
+    ensures { result ≡ spec.across_span rect }
 {
     Span {
         start: place_of(rect.x),
@@ -165,7 +166,7 @@ pub fn across_span(rect: Rect) -> Span
 
 /// The vertical half of a rectangle.
 pub fn down_span(rect: Rect) -> Span
-    ensures { result ≡ down_span rect }
+    ensures { result ≡ spec.down_span rect }
 {
     Span {
         start: place_of(rect.y),

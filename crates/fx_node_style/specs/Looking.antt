@@ -11,7 +11,7 @@ use Rattle.fx_node_style.specs.declared.looking.Layers.{Layers}
 use Rattle.fx_look.specs.declared.looks.Look.{Look}
 use Rattle.fx_css_types.specs.declared.declarations.FoundValue.{FoundValue}
 use Rattle.fx_node_style.specs.declared.looking.Rows.{Rows}
-use Rattle.fx_node_style.specs.Rows.{padding_row, alignment_row, spacing_row, hgap_row, vgap_row, fill_width_row, fill_height_row, min_width_row, min_height_row, pref_width_row, pref_height_row, max_width_row, max_height_row, background_color_row, background_insets_row, border_color_row, border_width_row, border_insets_row, text_fill_row, font_size_row, wrap_text_row, visibility_row}
+use Rattle.fx_node_style.specs.Rows as spec
 use Rattle.fx_node_style.specs.Kinds.{color_in, colors_in, layers_in, length_in, place_in, sides_in, truth_in}
 use Rattle.fx_node_style.specs.Values.{row_value}
 
@@ -23,39 +23,39 @@ no_sides = sides (pos 0) (pos 0) (pos 0) (pos 0)
 
 abbrev pub lengths_of : (ℕ → Option FoundValue) → Look → Lengths
 lengths_of row parent = record {
-  min_width = length_in (row min_width_row) (negsuc 0) parent.min_width;
-  min_height = length_in (row min_height_row) (negsuc 0) parent.min_height;
-  pref_width = length_in (row pref_width_row) (negsuc 0) parent.pref_width;
-  pref_height = length_in (row pref_height_row) (negsuc 0) parent.pref_height;
-  max_width = length_in (row max_width_row) (negsuc 0) parent.max_width;
-  max_height = length_in (row max_height_row) (negsuc 0) parent.max_height;
+  min_width = length_in (row spec.min_width_row) (negsuc 0) parent.min_width;
+  min_height = length_in (row spec.min_height_row) (negsuc 0) parent.min_height;
+  pref_width = length_in (row spec.pref_width_row) (negsuc 0) parent.pref_width;
+  pref_height = length_in (row spec.pref_height_row) (negsuc 0) parent.pref_height;
+  max_width = length_in (row spec.max_width_row) (negsuc 0) parent.max_width;
+  max_height = length_in (row spec.max_height_row) (negsuc 0) parent.max_height;
 }
 
 -- without a winner the font size is the parent's
 abbrev pub spaces_of : (ℕ → Option FoundValue) → Look → Spaces
 spaces_of row parent = record {
-  spacing = length_in (row spacing_row) (pos 0) parent.spacing;
-  hgap = length_in (row hgap_row) (pos 0) parent.hgap;
-  vgap = length_in (row vgap_row) (pos 0) parent.vgap;
-  font_size = length_in (row font_size_row) parent.font_size parent.font_size;
+  spacing = length_in (row spec.spacing_row) (pos 0) parent.spacing;
+  hgap = length_in (row spec.hgap_row) (pos 0) parent.hgap;
+  vgap = length_in (row spec.vgap_row) (pos 0) parent.vgap;
+  font_size = length_in (row spec.font_size_row) parent.font_size parent.font_size;
 }
 
 abbrev pub truths_of : (ℕ → Option FoundValue) → Look → Truths
 truths_of row parent = record {
-  fill_width = truth_in (row fill_width_row) true parent.fill_width;
-  fill_height = truth_in (row fill_height_row) true parent.fill_height;
-  wrap_text = truth_in (row wrap_text_row) false parent.wrap_text;
-  visibility = truth_in (row visibility_row) true parent.visibility;
+  fill_width = truth_in (row spec.fill_width_row) true parent.fill_width;
+  fill_height = truth_in (row spec.fill_height_row) true parent.fill_height;
+  wrap_text = truth_in (row spec.wrap_text_row) false parent.wrap_text;
+  visibility = truth_in (row spec.visibility_row) true parent.visibility;
 }
 
 abbrev pub layers_of : (ℕ → Option FoundValue) → (List ℕ → Option Rgba) → Look → Layers
 layers_of row resolve parent = record {
-  background_color = colors_in resolve (row background_color_row) parent.background_color;
-  background_insets = layers_in (row background_insets_row) no_sides parent.background_insets;
-  border_color = colors_in resolve (row border_color_row) parent.border_color;
-  border_width = layers_in (row border_width_row) (sides (pos 1) (pos 1) (pos 1) (pos 1)) parent.border_width;
-  border_insets = layers_in (row border_insets_row) no_sides parent.border_insets;
-  text_fill = color_in resolve (row text_fill_row) (color 0 0 0 255) parent.text_fill;
+  background_color = colors_in resolve (row spec.background_color_row) parent.background_color;
+  background_insets = layers_in (row spec.background_insets_row) no_sides parent.background_insets;
+  border_color = colors_in resolve (row spec.border_color_row) parent.border_color;
+  border_width = layers_in (row spec.border_width_row) (sides (pos 1) (pos 1) (pos 1) (pos 1)) parent.border_width;
+  border_insets = layers_in (row spec.border_insets_row) no_sides parent.border_insets;
+  text_fill = color_in resolve (row spec.text_fill_row) (color 0 0 0 255) parent.text_fill;
 }
 
 abbrev pub joined : Sides → ℕ → Spaces → Lengths → Truths → Layers → Look
@@ -87,6 +87,6 @@ joined padding alignment spaces lengths truths layers = record {
 -- the look of a node by the values of its rows, and by its parent's look
 unfoldable pub look_of : (ℕ → Option FoundValue) → (List ℕ → Option Rgba) → ℕ → Look → Look
 look_of row resolve alignment parent =
-    joined (sides_in (row padding_row) no_sides parent.padding)
-    (place_in (row alignment_row) alignment parent.alignment)
+    joined (sides_in (row spec.padding_row) no_sides parent.padding)
+    (place_in (row spec.alignment_row) alignment parent.alignment)
     (spaces_of row parent) (lengths_of row parent) (truths_of row parent) (layers_of row resolve parent)

@@ -6,7 +6,7 @@ ghost use Rattle.fx_look.specs.StyleRows.{style_named};
 ghost use Rattle.fx_css_types.specs.Limits.{AreWithinLimits, IsKeptDeclaration, row_of};
 ghost use Rattle.fx_css_types.specs.declared.declarations.FoundValue.TheVariants as found;
 ghost use Rattle.fx_cascade.specs.Sources.{best_source, declarations_of, rule_at};
-ghost use Rattle.fx_node_style.specs.Keeping.{declared_names, fill_paint, named_paint, names_of, own_paints, paint_at, paint_of, paint_of_value, paints_of, won_paint};
+ghost use Rattle.fx_node_style.specs.Keeping as spec;
 ghost use Rattle.fx_node_style.specs.Rows.{text_fill_row};
 ghost use Rattle.fx_node_style.specs.Values.{WinsBy, found_value, row_value};
 
@@ -25,7 +25,7 @@ pub fn kept_paints(alloc: Global, rows: Rows<'_>) -> Result<Vec<NamedPaint>, All
     requires wins { WinsBy rows.winners.now rows.sheets.now rows.matched.now rows.codes.now }
     requires sheets { AreWithinLimits rows.sheets.now }
     ensures { IfOk result (λ paints. paints.items
-        ≡ paints_of rows.entry.sheets.now rows.entry.matched.now rows.entry.codes.now) }
+        ≡ spec.paints_of rows.entry.sheets.now rows.entry.matched.now rows.entry.codes.now) }
 {
     let mut paints = Vec::new(alloc);
     push_fill(&mut paints, alloc, fill_value(rows))?;
@@ -53,7 +53,8 @@ fn push_fill(
     alloc: Global,
     found: Option<Winning>,
 ) -> Result<(), AllocError>
-    ensures { OnOk result (paints.new.items ≡ paints.old.items ++ fill_paint (option_map found_value found.entry)) }
+    ensures { OnOk result (paints.new.items ≡ paints.old.items ++ spec.fill_paint
+        (option_map found_value found.entry)) }
 {
     match found {
         Some(value) => {
@@ -79,7 +80,7 @@ fn push_own(paints: &mut Vec<NamedPaint>, alloc: Global, rows: Rows<'_>) -> Resu
     requires wins { WinsBy rows.winners.now rows.sheets.now rows.matched.now rows.codes.now }
     requires sheets { AreWithinLimits rows.sheets.now }
     ensures { OnOk result (paints.new.items
-        ≡ paints.old.items ++ own_paints rows.entry.sheets.now rows.entry.matched.now rows.entry.codes.now) }
+        ≡ paints.old.items ++ spec.own_paints rows.entry.sheets.now rows.entry.matched.now rows.entry.codes.now) }
 {
     let sheets = rows.sheets;
     let matched = rows.matched;
@@ -98,8 +99,8 @@ fn push_rule(
     requires wins { WinsBy rows.winners.now rows.sheets.now rows.matched.now rows.codes.now }
     requires kept { All IsKeptDeclaration declarations.now }
     ensures { OnOk result (paints.new.items ≡ paints.old.items
-        ++ flat_map (named_paint rows.entry.sheets.now rows.entry.matched.now rows.entry.codes.now)
-        (names_of declarations.now)) }
+        ++ flat_map (spec.named_paint rows.entry.sheets.now rows.entry.matched.now rows.entry.codes.now)
+        (spec.names_of declarations.now)) }
 {
     for declaration in declarations {
         push_paint(paints, alloc, rows, declaration)?;
@@ -116,7 +117,7 @@ fn push_paint(
     requires wins { WinsBy rows.winners.now rows.sheets.now rows.matched.now rows.codes.now }
     requires row { declaration.now.row ≡ row_of declaration.now.name }
     ensures { OnOk result (paints.new.items ≡ paints.old.items
-        ++ named_paint rows.entry.sheets.now rows.entry.matched.now rows.entry.codes.now declaration.now.name) }
+        ++ spec.named_paint rows.entry.sheets.now rows.entry.matched.now rows.entry.codes.now declaration.now.name) }
 {
     match declaration.row {
         Some(_) => Ok(()),
@@ -133,7 +134,7 @@ fn push_other(
     requires wins { WinsBy rows.winners.now rows.sheets.now rows.matched.now rows.codes.now }
     requires other { style_named name.now ≡ None }
     ensures { OnOk result (paints.new.items ≡ paints.old.items
-        ++ paint_at rows.entry.sheets.now rows.entry.matched.now rows.entry.codes.now name.now None) }
+        ++ spec.paint_at rows.entry.sheets.now rows.entry.matched.now rows.entry.codes.now name.now None) }
 {
     let paint = other_paint(alloc, rows, name)?;
     let name = name.copy(alloc)?;
@@ -144,7 +145,7 @@ fn push_other(
 fn other_paint(alloc: Global, rows: Rows<'_>, name: &Text) -> Result<Option<Paint>, AllocError>
     requires wins { WinsBy rows.winners.now rows.sheets.now rows.matched.now rows.codes.now }
     requires other { style_named name.now ≡ None }
-    ensures { IfOk result (λ paint. paint ≡ won_paint rows.entry.sheets.now rows.entry.matched.now
+    ensures { IfOk result (λ paint. paint ≡ spec.won_paint rows.entry.sheets.now rows.entry.matched.now
         (best_source rows.entry.sheets.now rows.entry.matched.now rows.entry.codes.now name.now)) }
 {
     won_paint(alloc, rows, rows.winners.other(name))
@@ -155,7 +156,7 @@ fn won_paint(
     rows: Rows<'_>,
     source: Option<Source>,
 ) -> Result<Option<Paint>, AllocError>
-    ensures { IfOk result (λ paint. paint ≡ won_paint rows.entry.sheets.now rows.entry.matched.now source) }
+    ensures { IfOk result (λ paint. paint ≡ spec.won_paint rows.entry.sheets.now rows.entry.matched.now source) }
 {
     match source {
         Some(Source::Declared(at, place)) => {
@@ -166,7 +167,7 @@ fn won_paint(
 }
 
 fn paint_of_value(alloc: Global, found: Option<Winning>) -> Result<Option<Paint>, AllocError>
-    ensures { IfOk result (λ paint. paint ≡ paint_of_value (option_map found_value found.entry)) }
+    ensures { IfOk result (λ paint. paint ≡ spec.paint_of_value (option_map found_value found.entry)) }
 {
     match found {
         None => Ok(None),
@@ -175,7 +176,7 @@ fn paint_of_value(alloc: Global, found: Option<Winning>) -> Result<Option<Paint>
 }
 
 fn paint_of(alloc: Global, found: Winning) -> Result<Option<Paint>, AllocError>
-    ensures { IfOk result (λ paint. paint ≡ paint_of (found_value found.entry)) }
+    ensures { IfOk result (λ paint. paint ≡ spec.paint_of (found_value found.entry)) }
 {
     match found {
         Winning::Code(value) => Ok(code_paint(value)),
@@ -184,7 +185,7 @@ fn paint_of(alloc: Global, found: Winning) -> Result<Option<Paint>, AllocError>
 }
 
 fn code_paint(value: &Value) -> Option<Paint>
-    ensures { result ≡ paint_of (found.Code value.now) }
+    ensures { result ≡ spec.paint_of (found.Code value.now) }
 {
     match value {
         Value::Color(color) => Some(Paint::Color(*color)),
@@ -193,7 +194,7 @@ fn code_paint(value: &Value) -> Option<Paint>
 }
 
 fn declared_paint(alloc: Global, declared: &Declared) -> Result<Option<Paint>, AllocError>
-    ensures { IfOk result (λ paint. paint ≡ paint_of (found.Declared declared.now)) }
+    ensures { IfOk result (λ paint. paint ≡ spec.paint_of (found.Declared declared.now)) }
 {
     match declared {
         Declared::Paint(paint) => Ok(Some(paint.copy(alloc)?)),

@@ -4,7 +4,7 @@ ghost use Rattle.std.specs.Prelude.{◌≡◌, ◌+◌, ◌≤◌, IfOk, length}
 ghost use Rattle.fx_panes_parts.specs.Axes.{IsChildAxis, IsPaneAxis, along, child_axis, pane_axis};
 ghost use Rattle.fx_panes_parts.specs.Lengths.{length_of};
 ghost use Rattle.fx_panes_parts.specs.Panes.{IsAcrossFirst};
-ghost use Rattle.fx_panes.specs.Border.{IsRoom, area_of, areas_by, areas_with, border_computed, border_extent, border_rects, border_sizes, border_span, bordered, edge_of, side_of, tail_start, widened};
+ghost use Rattle.fx_panes.specs.Border as spec;
 ghost use Rattle.fx_panes_parts.specs.Sizes.{held, in_area};
 ghost use Rattle.fx_panes.specs.Rules.{inner};
 
@@ -51,7 +51,7 @@ pub fn measure<L: Ledgers>(
     children: &[ChildSize],
     work: &mut Work<L>,
 ) -> Result<Sizes, AllocError>
-    ensures sizes { result ≡ Ok (border_sizes pane.now children.now) }
+    ensures sizes { result ≡ Ok (spec.border_sizes pane.now children.now) }
     ensures work { work.new ≡ record work.old { laid = work.old.laid + 1 } }
 {
     work.laid.tick();
@@ -71,7 +71,7 @@ pub fn place<L: Ledgers>(
     work: &mut Work<L>,
 ) -> Result<Vec<Rect>, AllocError>
     ensures rects { IfOk result (λ rects. rects.items
-        ≡ border_rects pane.now children.now (length_of w) (length_of h)) }
+        ≡ spec.border_rects pane.now children.now (length_of w) (length_of h)) }
     ensures each { IfOk result (λ rects. length rects.items ≡ length children.now) }
     ensures work { work.new ≡ record work.old { laid = work.old.laid + 1 } }
 {
@@ -81,7 +81,7 @@ pub fn place<L: Ledgers>(
 
 /// What is across depends on nothing vertical.
 pub fn across_first()
-    ensures { IsAcrossFirst border_sizes border_rects }
+    ensures { IsAcrossFirst spec.border_sizes spec.border_rects }
 {}
 
 fn rects(
@@ -93,7 +93,7 @@ fn rects(
 ) -> Result<Vec<Rect>, AllocError>
     requires width { width ≤ 100000 }
     requires height { height ≤ 100000 }
-    ensures { IfOk result (λ rects. rects.items ≡ border_rects pane.now children.now width height) }
+    ensures { IfOk result (λ rects. rects.items ≡ spec.border_rects pane.now children.now width height) }
 {
     let across = pane_axis(Axis::Across, pane);
     let down = pane_axis(Axis::Down, pane);
@@ -110,7 +110,7 @@ fn rects(
 
 #[tactic(auto, unfolding(crate::specs::Border::border_extent))]
 fn extent(axis: Axis, pane: &PaneFacts, children: &[ChildSize]) -> Extent
-    ensures { result ≡ border_extent axis (pane_axis axis pane.now) (along axis children.now) }
+    ensures { result ≡ spec.border_extent axis (pane_axis axis pane.now) (along axis children.now) }
 {
     let pane = pane_axis(axis, pane);
     pane_extent(
@@ -123,7 +123,7 @@ fn extent(axis: Axis, pane: &PaneFacts, children: &[ChildSize]) -> Extent
 #[tactic(auto, unfolding(crate::specs::Border::border_computed))]
 fn computed(axis: Axis, bound: Bound, pane: &PaneAxis, children: &[ChildSize]) -> u64
     requires { IsPaneAxis pane.now }
-    ensures { result ≡ border_computed axis bound pane.now (along axis children.now) }
+    ensures { result ≡ spec.border_computed axis bound pane.now (along axis children.now) }
 {
     let kept = areas_by(Bound::Preferred, axis, children);
     let areas = areas_by(bound, axis, children);
@@ -133,8 +133,8 @@ fn computed(axis: Axis, bound: Bound, pane: &PaneAxis, children: &[ChildSize]) -
 /// What each area has to hold.
 #[tactic(auto, unfolding(crate::specs::Border::areas_by))]
 fn areas_by(bound: Bound, axis: Axis, children: &[ChildSize]) -> Areas
-    ensures value { result ≡ areas_by bound axis (along axis children.now) }
-    ensures few { IsRoom result }
+    ensures value { result ≡ spec.areas_by bound axis (along axis children.now) }
+    ensures few { spec.IsRoom result }
 {
     let mut areas = Areas {
         head: 0,
@@ -150,10 +150,10 @@ fn areas_by(bound: Bound, axis: Axis, children: &[ChildSize]) -> Areas
 
 #[tactic(auto, unfolding(crate::specs::Border::areas_with))]
 fn areas_with(bound: Bound, axis: Axis, areas: Areas, child: &ChildAxis) -> Areas
-    requires areas { IsRoom areas }
+    requires areas { spec.IsRoom areas }
     requires child { IsChildAxis child.now }
-    ensures value { result ≡ areas_with bound axis areas child.now }
-    ensures few { IsRoom result }
+    ensures value { result ≡ spec.areas_with bound axis areas child.now }
+    ensures few { spec.IsRoom result }
 {
     widened(
         area_of(axis, edge_of(child.edge)),
@@ -165,9 +165,9 @@ fn areas_with(bound: Bound, axis: Axis, areas: Areas, child: &ChildAxis) -> Area
 #[tactic(auto, unfolding(crate::specs::Border::widened))]
 fn widened(area: Area, length: u64, areas: Areas) -> Areas
     requires length { length ≤ 300000 }
-    requires areas { IsRoom areas }
-    ensures value { result ≡ widened area length areas }
-    ensures few { IsRoom result }
+    requires areas { spec.IsRoom areas }
+    ensures value { result ≡ spec.widened area length areas }
+    ensures few { spec.IsRoom result }
 {
     let mut areas = areas;
     match area {
@@ -181,7 +181,7 @@ fn widened(area: Area, length: u64, areas: Areas) -> Areas
 
 #[tactic(auto, unfolding(crate::specs::Border::edge_of))]
 fn edge_of(number: Option<u8>) -> Edge
-    ensures { result ≡ edge_of number }
+    ensures { result ≡ spec.edge_of number }
 {
     match number {
         Some(0) => Edge::Top,
@@ -194,7 +194,7 @@ fn edge_of(number: Option<u8>) -> Edge
 
 #[tactic(auto, unfolding(crate::specs::Border::area_of))]
 fn area_of(axis: Axis, edge: Edge) -> Area
-    ensures { result ≡ area_of axis edge }
+    ensures { result ≡ spec.area_of axis edge }
 {
     match axis {
         Axis::Across => match edge {
@@ -214,7 +214,7 @@ fn area_of(axis: Axis, edge: Edge) -> Area
 /// The side of its area at which a child stands that says nothing of it.
 #[tactic(auto, unfolding(crate::specs::Border::side_of))]
 fn side_of(axis: Axis, edge: Edge) -> u8
-    ensures { result ≡ side_of axis edge }
+    ensures { result ≡ spec.side_of axis edge }
 {
     match edge {
         Edge::Center => 1,
@@ -233,9 +233,9 @@ fn side_of(axis: Axis, edge: Edge) -> u8
 #[tactic(auto, unfolding(crate::specs::Border::border_span))]
 fn span(axis: Axis, pane: &PaneAxis, kept: Areas, length: u64, child: &ChildSize) -> Span
     requires pane { IsPaneAxis pane.now }
-    requires kept { IsRoom kept }
+    requires kept { spec.IsRoom kept }
     requires length { length ≤ 100000 }
-    ensures { result ≡ border_span axis pane.now kept length (child_axis axis child.now) }
+    ensures { result ≡ spec.border_span axis pane.now kept length (child_axis axis child.now) }
 {
     let child = child_axis(axis, child);
     let edge = edge_of(child.edge);
@@ -260,10 +260,10 @@ fn bordered(
     child: &ChildAxis,
 ) -> Span
     requires pane { IsPaneAxis pane.now }
-    requires kept { IsRoom kept }
+    requires kept { spec.IsRoom kept }
     requires space { space ≤ 100000 }
     requires child { IsChildAxis child.now }
-    ensures { result ≡ bordered area how pane.now kept space child.now }
+    ensures { result ≡ spec.bordered area how pane.now kept space child.now }
 {
     let tail = tail_start(kept, space);
     match area {
@@ -281,9 +281,9 @@ fn bordered(
 
 /// Where the area at the tail begins in the content.
 fn tail_start(kept: Areas, space: u64) -> u64
-    requires kept { IsRoom kept }
+    requires kept { spec.IsRoom kept }
     requires space { space ≤ 100000 }
-    ensures value { result ≡ tail_start kept space }
+    ensures value { result ≡ spec.tail_start kept space }
     ensures most { result ≤ 300000 }
 {
     kept.head.max(space.saturating_sub(kept.tail))

@@ -4,7 +4,7 @@ ghost use Rattle.std.specs.Prelude.{◌≡◌, ◌++◌, ◌<◌, ◌≤◌, ◌
 ghost use Rattle.std.specs.List.{filter_map, list_any};
 ghost use Rattle.std.specs.Option.{ForSome, option_copied, option_to_list};
 ghost use Rattle.fx_select.specs.Chains.{ParentsStandBefore, chain};
-ghost use Rattle.fx_select.specs.Hits.{bare_weight, hit_in, hit_of, is_inline, is_own, is_visible, lists_sheet, own_hit, own_hits, own_hits_at, own_hits_in, selector_weight, weight_at};
+ghost use Rattle.fx_select.specs.Hits as spec;
 ghost use Rattle.fx_css_types.specs.Limits.{AreShort, AreShortRules, AreShortSelectors};
 ghost use Rattle.fx_css_types.specs.Specificity.{part_count};
 
@@ -34,7 +34,7 @@ pub fn push_hits(
     requires there { at < length facts.now }
     requires short { AreShort sheets.now }
     ensures { OnOk result (hits.new.items
-        ≡ hits.old.items ++ filter_map (hit_of sheets.now (chain facts.now at)) listed.now) }
+        ≡ hits.old.items ++ filter_map (spec.hit_of sheets.now (chain facts.now at)) listed.now) }
 {
     let mut last = None;
     for selector in listed {
@@ -66,7 +66,7 @@ pub fn push_own_hits(
     inline: Option<usize>,
     sheets: &[SheetAt],
 ) -> Result<(), AllocError>
-    ensures { OnOk result (hits.new.items ≡ hits.old.items ++ own_hits inline sheets.now) }
+    ensures { OnOk result (hits.new.items ≡ hits.old.items ++ spec.own_hits inline sheets.now) }
 {
     match inline {
         Some(own) => push_sheet_hits(hits, own, sheets.get(own)),
@@ -79,7 +79,7 @@ fn push_sheet_hits(
     own: usize,
     sheet: Option<&SheetAt>,
 ) -> Result<(), AllocError>
-    ensures { OnOk result (hits.new.items ≡ hits.old.items ++ own_hits_at own (option_copied sheet.entry)) }
+    ensures { OnOk result (hits.new.items ≡ hits.old.items ++ spec.own_hits_at own (option_copied sheet.entry)) }
 {
     match sheet {
         Some(sheet) => push_rule_hits(hits, own, sheet.origin, sheet.sheet.rules.as_slice()),
@@ -93,7 +93,7 @@ fn push_rule_hits(
     origin: SheetOrigin,
     rules: &[Rule],
 ) -> Result<(), AllocError>
-    ensures { OnOk result (hits.new.items ≡ hits.old.items ++ own_hits_in own origin rules.now) }
+    ensures { OnOk result (hits.new.items ≡ hits.old.items ++ spec.own_hits_in own origin rules.now) }
 {
     for (place, rule) in rules.iter().enumerate() {
         push_rule_hit(hits, own, origin, place, rule.selectors.as_slice())?;
@@ -108,7 +108,7 @@ fn push_rule_hit(
     rule: usize,
     selectors: &[Selector],
 ) -> Result<(), AllocError>
-    ensures { OnOk result (hits.new.items ≡ hits.old.items ++ own_hit own origin rule selectors.now) }
+    ensures { OnOk result (hits.new.items ≡ hits.old.items ++ spec.own_hit own origin rule selectors.now) }
 {
     match selectors {
         [] => {
@@ -135,8 +135,8 @@ fn hit_of(
     requires before { ParentsStandBefore facts.now }
     requires there { at < length facts.now }
     requires short { AreShort sheets.now }
-    requires seen { visible ≡ is_visible (chain facts.now at) listed.sheet }
-    ensures { result ≡ hit_of sheets.now (chain facts.now at) listed }
+    requires seen { visible ≡ spec.is_visible (chain facts.now at) listed.sheet }
+    ensures { result ≡ spec.hit_of sheets.now (chain facts.now at) listed }
 {
     let sheet = sheets.get(listed.sheet)?;
     hit_in(listed, visible, sheet, facts, at)
@@ -153,8 +153,8 @@ fn hit_in(
     requires before { ParentsStandBefore facts.now }
     requires there { at < length facts.now }
     requires short { AreShortRules sheet.now.sheet.rules }
-    requires seen { visible ≡ is_visible (chain facts.now at) listed.sheet }
-    ensures { result ≡ hit_in (chain facts.now at) listed sheet.now }
+    requires seen { visible ≡ spec.is_visible (chain facts.now at) listed.sheet }
+    ensures { result ≡ spec.hit_in (chain facts.now at) listed sheet.now }
 {
     let rule = sheet.sheet.rules.as_slice().get(listed.rule)?;
     let selectors = rule.selectors.as_slice();
@@ -182,8 +182,8 @@ fn weight_at(
     requires before { ParentsStandBefore facts.now }
     requires there { at < length facts.now }
     requires short { AreShortSelectors selectors.now }
-    requires seen { seen.visible ≡ is_visible (chain facts.now at) seen.sheet }
-    ensures { result ≡ weight_at (chain facts.now at) seen.sheet selectors.now place }
+    requires seen { seen.visible ≡ spec.is_visible (chain facts.now at) seen.sheet }
+    ensures { result ≡ spec.weight_at (chain facts.now at) seen.sheet selectors.now place }
 {
     match place {
         Some(place) => selector_weight(selectors.get(place)?, seen, facts, at),
@@ -201,8 +201,8 @@ fn selector_weight(
     requires before { ParentsStandBefore facts.now }
     requires there { at < length facts.now }
     requires short { part_count selector.now ≤ 4194304 }
-    requires seen { seen.visible ≡ is_visible (chain facts.now at) seen.sheet }
-    ensures { result ≡ selector_weight (chain facts.now at) seen.sheet selector.now }
+    requires seen { seen.visible ≡ spec.is_visible (chain facts.now at) seen.sheet }
+    ensures { result ≡ spec.selector_weight (chain facts.now at) seen.sheet selector.now }
 {
     if is_match(selector, facts, at) && seen.visible {
         Some(specificity(selector))
@@ -219,7 +219,7 @@ fn bare_weight(
 ) -> Option<(u32, u32, u32)>
     requires before { ParentsStandBefore facts.now }
     requires there { at < length facts.now }
-    ensures { result ≡ bare_weight (chain facts.now at) sheet selectors.now }
+    ensures { result ≡ spec.bare_weight (chain facts.now at) sheet selectors.now }
 {
     if selectors.is_empty() && is_own(sheet, facts, at) {
         Some((0, 0, 0))
@@ -232,8 +232,8 @@ fn bare_weight(
 fn is_seen(last: Option<Seen>, sheet: usize, facts: &[StyleFacts], at: usize) -> bool
     requires before { ParentsStandBefore facts.now }
     requires there { at < length facts.now }
-    requires last { ForSome last (λ s. s.visible ≡ is_visible (chain facts.now at) s.sheet) }
-    ensures { result ≡ is_visible (chain facts.now at) sheet }
+    requires last { ForSome last (λ s. s.visible ≡ spec.is_visible (chain facts.now at) s.sheet) }
+    ensures { result ≡ spec.is_visible (chain facts.now at) sheet }
 {
     match last {
         Some(seen) if seen.sheet == sheet => seen.visible,
@@ -245,7 +245,7 @@ fn is_seen(last: Option<Seen>, sheet: usize, facts: &[StyleFacts], at: usize) ->
 fn is_visible(sheet: usize, facts: &[StyleFacts], at: usize) -> bool
     requires before { ParentsStandBefore facts.now }
     requires there { at < length facts.now }
-    ensures { result ≡ is_visible (chain facts.now at) sheet }
+    ensures { result ≡ spec.is_visible (chain facts.now at) sheet }
 {
     is_own(sheet, facts, at) || is_listed(sheet, facts, at)
 }
@@ -253,13 +253,13 @@ fn is_visible(sheet: usize, facts: &[StyleFacts], at: usize) -> bool
 fn is_own(sheet: usize, facts: &[StyleFacts], at: usize) -> bool
     requires before { ParentsStandBefore facts.now }
     requires there { at < length facts.now }
-    ensures { result ≡ is_own (chain facts.now at) sheet }
+    ensures { result ≡ spec.is_own (chain facts.now at) sheet }
 {
     is_inline(node_at(facts, at), sheet)
 }
 
 fn is_inline(node: &StyleFacts, sheet: usize) -> bool
-    ensures { result ≡ is_inline node.now sheet }
+    ensures { result ≡ spec.is_inline node.now sheet }
 {
     match node.inline {
         Some(own) => own == sheet,
@@ -270,7 +270,7 @@ fn is_inline(node: &StyleFacts, sheet: usize) -> bool
 fn is_listed(sheet: usize, facts: &[StyleFacts], at: usize) -> bool
     requires before { ParentsStandBefore facts.now }
     requires there { at < length facts.now }
-    ensures { result ≡ list_any (lists_sheet sheet) (chain facts.now at) }
+    ensures { result ≡ list_any (spec.lists_sheet sheet) (chain facts.now at) }
 {
     let mut above = Some(at);
     while let Some(place) = above {
@@ -284,7 +284,7 @@ fn is_listed(sheet: usize, facts: &[StyleFacts], at: usize) -> bool
 }
 
 fn lists_sheet(node: &StyleFacts, sheet: usize) -> bool
-    ensures { result ≡ lists_sheet sheet node.now }
+    ensures { result ≡ spec.lists_sheet sheet node.now }
 {
     node.sheets.as_slice().contains(&sheet)
 }

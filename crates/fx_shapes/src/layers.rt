@@ -2,7 +2,7 @@
 ghost use Rattle.std.specs.Prelude.{◌≡◌, ◌++◌, ◌∷◌, [], ◌≤ℤ◌, ◌+ℤ◌, ◌-ℤ◌, ◌⊎◌, OnOk, pos, negsuc};
 ghost use Rattle.fx_panes_parts.specs.Lengths.{place_of};
 ghost use Rattle.fx_shapes.specs.Drawings.{is_shown, shown};
-ghost use Rattle.fx_shapes.specs.Layers.{background_at, backgrounds, border_layer, borders, cut_widths, inner, on_side, placed, shrunk, strip, strip_on, strips};
+ghost use Rattle.fx_shapes.specs.Layers as spec;
 ghost use Rattle.fx_shapes.specs.Rects.{AreLimited, AreShort, IsNear, IsNearby};
 
 use crate::sides::{Side, on_side, sides_at};
@@ -19,7 +19,7 @@ pub(crate) fn add_backgrounds(
     rect: Rect,
 ) -> Result<(), AllocError>
     requires { IsNear rect }
-    ensures { OnOk result (shapes.new.items ≡ shapes.old.items ++ shown (backgrounds look.now rect)) }
+    ensures { OnOk result (shapes.new.items ≡ shapes.old.items ++ shown (spec.backgrounds look.now rect)) }
 {
     for (layer, color) in look.background_color.as_slice().iter().enumerate() {
         add_background(shapes, look, rect, layer, *color)?;
@@ -36,7 +36,7 @@ fn add_background(
 ) -> Result<(), AllocError>
     requires { IsNear rect }
     ensures { OnOk result (shapes.new.items
-        ≡ shapes.old.items ++ shown (background_at look.now rect (layer, color) ∷ [])) }
+        ≡ shapes.old.items ++ shown (spec.background_at look.now rect (layer, color) ∷ [])) }
 {
     let insets = sides_at(look.background_insets.as_slice(), layer);
     add_fill(shapes, inner(rect, insets), color)
@@ -49,7 +49,7 @@ pub(crate) fn add_borders(
     rect: Rect,
 ) -> Result<(), AllocError>
     requires { IsNear rect }
-    ensures { OnOk result (shapes.new.items ≡ shapes.old.items ++ shown (borders look.now rect)) }
+    ensures { OnOk result (shapes.new.items ≡ shapes.old.items ++ shown (spec.borders look.now rect)) }
 {
     for (layer, color) in look.border_color.as_slice().iter().enumerate() {
         add_border(shapes, look, rect, layer, *color)?;
@@ -66,7 +66,7 @@ fn add_border(
 ) -> Result<(), AllocError>
     requires { IsNear rect }
     ensures { OnOk result (shapes.new.items
-        ≡ shapes.old.items ++ shown (border_layer look.now rect (layer, color))) }
+        ≡ shapes.old.items ++ shown (spec.border_layer look.now rect (layer, color))) }
 {
     let insets = sides_at(look.border_insets.as_slice(), layer);
     let widths = sides_at(look.border_width.as_slice(), layer);
@@ -103,7 +103,7 @@ fn add_strips(
     color: Color,
 ) -> Result<(), AllocError>
     requires { IsNearby rect }
-    ensures { OnOk result (shapes.new.items ≡ shapes.old.items ++ shown (strips rect widths color)) }
+    ensures { OnOk result (shapes.new.items ≡ shapes.old.items ++ shown (spec.strips rect widths color)) }
 {
     let widths = cut_widths(rect, widths);
     add_fill(shapes, strip_on(Side::Top, rect, widths), color)?;
@@ -115,7 +115,7 @@ fn add_strips(
 /// The rectangle of a layer with these insets.
 fn inner(rect: Rect, insets: Sides) -> Rect
     requires { IsNear rect }
-    ensures value { result ≡ inner rect insets }
+    ensures value { result ≡ spec.inner rect insets }
     ensures near { IsNearby result }
 {
     shrunk(rect, placed(insets))
@@ -123,7 +123,7 @@ fn inner(rect: Rect, insets: Sides) -> Rect
 
 /// The lengths as layout takes them for places.
 fn placed(sides: Sides) -> Sides
-    ensures value { result ≡ placed sides }
+    ensures value { result ≡ spec.placed sides }
     ensures limited { AreLimited result }
 {
     Sides {
@@ -135,7 +135,7 @@ fn placed(sides: Sides) -> Sides
 }
 
 fn place_on(side: Side, sides: Sides) -> i64
-    ensures value { result ≡ place_of (on_side side sides) }
+    ensures value { result ≡ place_of (spec.on_side side sides) }
     ensures least { negsuc 99999 ≤ℤ result }
     ensures most { result ≤ℤ pos 100000 }
 {
@@ -146,7 +146,7 @@ fn place_on(side: Side, sides: Sides) -> i64
 pub(crate) fn shrunk(rect: Rect, sides: Sides) -> Rect
     requires near { IsNear rect }
     requires sides { AreLimited sides }
-    ensures value { result ≡ shrunk rect sides }
+    ensures value { result ≡ spec.shrunk rect sides }
     ensures near { IsNearby result }
 {
     Rect {
@@ -170,7 +170,7 @@ fn less(length: i64, one: i64, other: i64) -> i64
 /// The widths of the four strips in a rectangle.
 fn cut_widths(rect: Rect, widths: Sides) -> Sides
     requires { IsNearby rect }
-    ensures value { result ≡ cut_widths rect widths }
+    ensures value { result ≡ spec.cut_widths rect widths }
     ensures short { AreShort result }
 {
     Sides {
@@ -183,7 +183,7 @@ fn cut_widths(rect: Rect, widths: Sides) -> Sides
 
 fn top_width(rect: Rect, widths: Sides) -> i64
     requires { IsNearby rect }
-    ensures value { result ≡ strip widths.top rect.h }
+    ensures value { result ≡ spec.strip widths.top rect.h }
     ensures least { negsuc 1999999999999 ≤ℤ result }
     ensures most { result ≤ℤ pos 100000 }
 {
@@ -192,7 +192,7 @@ fn top_width(rect: Rect, widths: Sides) -> i64
 
 fn bottom_width(rect: Rect, widths: Sides) -> i64
     requires { IsNearby rect }
-    ensures value { result ≡ strip widths.bottom (rect.h -ℤ strip widths.top rect.h) }
+    ensures value { result ≡ spec.strip widths.bottom (rect.h -ℤ spec.strip widths.top rect.h) }
     ensures least { negsuc 3999999999999 ≤ℤ result }
     ensures most { result ≤ℤ pos 100000 }
 {
@@ -201,7 +201,7 @@ fn bottom_width(rect: Rect, widths: Sides) -> i64
 
 fn left_width(rect: Rect, widths: Sides) -> i64
     requires { IsNearby rect }
-    ensures value { result ≡ strip widths.left rect.w }
+    ensures value { result ≡ spec.strip widths.left rect.w }
     ensures least { negsuc 1999999999999 ≤ℤ result }
     ensures most { result ≤ℤ pos 100000 }
 {
@@ -210,7 +210,7 @@ fn left_width(rect: Rect, widths: Sides) -> i64
 
 fn right_width(rect: Rect, widths: Sides) -> i64
     requires { IsNearby rect }
-    ensures value { result ≡ strip widths.right (rect.w -ℤ strip widths.left rect.w) }
+    ensures value { result ≡ spec.strip widths.right (rect.w -ℤ spec.strip widths.left rect.w) }
     ensures least { negsuc 3999999999999 ≤ℤ result }
     ensures most { result ≤ℤ pos 100000 }
 {
@@ -232,7 +232,7 @@ fn rest_of(length: i64, taken: i64) -> i64
 #[tactic(auto, unfolding(crate::specs::Layers::strip))]
 fn strip(width: i64, length: i64) -> i64
     requires { (negsuc 3999999999999 ≤ℤ length) × (length ≤ℤ pos 4000000000000) }
-    ensures value { result ≡ strip width length }
+    ensures value { result ≡ spec.strip width length }
     ensures least { (negsuc 0 ≤ℤ result) ⊎ (length ≤ℤ result) }
     ensures most { result ≤ℤ pos 100000 }
 {
@@ -243,7 +243,7 @@ fn strip(width: i64, length: i64) -> i64
 fn strip_on(side: Side, rect: Rect, widths: Sides) -> Rect
     requires near { IsNearby rect }
     requires short { AreShort widths }
-    ensures { result ≡ strip_on side rect widths }
+    ensures { result ≡ spec.strip_on side rect widths }
 {
     let between = less(rect.h, widths.top, widths.bottom);
     match side {

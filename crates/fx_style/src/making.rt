@@ -11,7 +11,7 @@ ghost use Rattle.fx_style.specs.Kept.{HaveDifferentKeys, entry, entry_in, fresh_
 ghost use Rattle.fx_style.specs.Turns.{AreRightBelow, IsLeft};
 ghost use Rattle.fx_style.specs.Places.{parent_at, places_up};
 ghost use Rattle.fx_style.specs.Plans.{AreSteps, made_fresh, plan_style, put_step, seen_style};
-ghost use Rattle.fx_style.specs.Rules.{AreIndexed, HaveRows, anew, chain_style, matching_nodes, needs, needs_by, renewed_by, ticks, updated_style, worked};
+ghost use Rattle.fx_style.specs.Rules as spec;
 
 use crate::above::{Plan, Seen, look_above, paints_above, parent_at, styles_up};
 use crate::kept::{Entry, Fresh, Rest, place_of_key, stands_at};
@@ -36,9 +36,9 @@ pub struct Scene<'a> {
 fn matched_rules(alloc: Global, scene: Scene<'_>, at: usize) -> Result<Vec<Candidate>, AllocError>
     requires before { ParentsStandBefore scene.facts.now }
     requires there { at < length scene.facts.now }
-    requires sheets { AreIndexed scene.index.now scene.sheets.now }
+    requires sheets { spec.AreIndexed scene.index.now scene.sheets.now }
     ensures { IfOk result (λ found. found.items
-        ≡ matching_nodes scene.entry.sheets.now (chain scene.entry.facts.now at)) }
+        ≡ spec.matching_nodes scene.entry.sheets.now (chain scene.entry.facts.now at)) }
 {
     sheets_within_limits_are_short();
     scene.index.matched(alloc, scene.sheets, scene.facts, at)
@@ -61,10 +61,10 @@ fn node_style<L: Ledgers>(
 ) -> Result<NodeStyle, AllocError>
     requires before { ParentsStandBefore scene.facts.now }
     requires there { at < length scene.facts.now }
-    requires sheets { AreIndexed scene.index.now scene.sheets.now }
-    requires codes { HaveRows scene.facts.now }
+    requires sheets { spec.AreIndexed scene.index.now scene.sheets.now }
+    requires codes { spec.HaveRows scene.facts.now }
     ensures style { IfOk result (λ made. made
-        ≡ chain_style scene.entry.sheets.now (chain scene.entry.facts.now at) (map seen_style above.now)) }
+        ≡ spec.chain_style scene.entry.sheets.now (chain scene.entry.facts.now at) (map seen_style above.now)) }
     ensures cost { OnOk result (work.new ≡ record work.old { styled = work.old.styled + 1 }) }
 {
     let matched = matched_rules(alloc, scene, at)?;
@@ -93,9 +93,9 @@ fn style_anew<L: Ledgers>(
     requires there { at < length scene.facts.now }
     requires long { length plan.steps.now ≡ length scene.facts.now }
     requires plan { AreSteps plan.fresh.now plan.steps.now }
-    requires sheets { AreIndexed scene.index.now scene.sheets.now }
-    requires codes { HaveRows scene.facts.now }
-    ensures style { IfOk result (λ made. made ≡ anew scene.entry.sheets.now scene.entry.facts.now at
+    requires sheets { spec.AreIndexed scene.index.now scene.sheets.now }
+    requires codes { spec.HaveRows scene.facts.now }
+    ensures style { IfOk result (λ made. made ≡ spec.anew scene.entry.sheets.now scene.entry.facts.now at
         (filter_map (plan_style plan.entry) (places_up scene.entry.facts.now (parent_at scene.entry.facts.now at)))) }
     ensures cost { OnOk result (work.new ≡ record work.old { styled = work.old.styled + 1 }) }
 {
@@ -175,21 +175,21 @@ fn remade<L: Ledgers>(
     requires there { turn.at < length scene.facts.now }
     requires long { length plan.steps.now ≡ length scene.facts.now }
     requires plan { AreSteps plan.fresh.now plan.steps.now }
-    requires sheets { AreIndexed scene.index.now scene.sheets.now }
-    requires codes { HaveRows scene.facts.now }
+    requires sheets { spec.AreIndexed scene.index.now scene.sheets.now }
+    requires codes { spec.HaveRows scene.facts.now }
     requires place { turn.place ≡ place_of_key plan.rest.now turn.key }
     requires stay { turn.stay ≡ true → (turn.at < length plan.looks.now) × (turn.at < length plan.rest.now) }
     ensures style { IfOk result (λ made.
         or_else (option_map (entry turn.key) made) (entry_in plan.entry.looks.now plan.entry.rest.now turn.at)
         ≡ Some (entry turn.key
-        (renewed_by turn.listed (kept_under plan.entry.looks.now plan.entry.rest.now turn.key)
-        (anew scene.entry.sheets.now scene.entry.facts.now turn.at
+        (spec.renewed_by turn.listed (kept_under plan.entry.looks.now plan.entry.rest.now turn.key)
+        (spec.anew scene.entry.sheets.now scene.entry.facts.now turn.at
         (filter_map (plan_style plan.entry)
         (places_up scene.entry.facts.now (parent_at scene.entry.facts.now turn.at))))))) }
     ensures made { IfOk result (λ made. turn.stay ≡ false → is_some made ≡ true) }
     ensures cost { OnOk result (work.new ≡ record work.old {
       styled = work.old.styled
-          + ticks (needs_by turn.listed (kept_under plan.entry.looks.now plan.entry.rest.now turn.key));
+          + spec.ticks (spec.needs_by turn.listed (kept_under plan.entry.looks.now plan.entry.rest.now turn.key));
     }) }
 {
     match left_of(alloc, plan.looks, plan.rest, turn)? {
@@ -275,8 +275,8 @@ pub(crate) fn made<L: Ledgers>(
     work: &mut Work<L>,
 ) -> Result<Vec<Fresh>, AllocError>
     requires before { ParentsStandBefore scene.facts.now }
-    requires sheets { AreIndexed scene.index.now scene.sheets.now }
-    requires codes { HaveRows scene.facts.now }
+    requires sheets { spec.AreIndexed scene.index.now scene.sheets.now }
+    requires codes { spec.HaveRows scene.facts.now }
     requires keys { HaveDifferentKeys old.rest.now }
     requires stay { old.stay ≡ true
         → (length old.looks.now ≡ length scene.facts.now) × (length old.rest.now ≡ length scene.facts.now) }
@@ -286,8 +286,8 @@ pub(crate) fn made<L: Ledgers>(
     ensures all { IfOk result (λ fresh. old.entry.stay ≡ false → (at : ℕ) → at < length scene.entry.facts.now
         → is_some (fresh_at fresh.items at) ≡ true) }
     ensures cost { OnOk result (work.new ≡ record work.old {
-      styled = work.old.styled + worked
-          (needs restyle.now (kept_at old.entry.looks.now old.entry.rest.now scene.entry.facts.now))
+      styled = work.old.styled + spec.worked
+          (spec.needs restyle.now (kept_at old.entry.looks.now old.entry.rest.now scene.entry.facts.now))
           (length scene.entry.facts.now);
     }) }
 {

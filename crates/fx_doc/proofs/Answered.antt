@@ -9,14 +9,14 @@ use Rattle.fx_doc_grammar.specs.Grammar.{Spells}
 use Rattle.fx_doc_grammar.specs.Beginnings.{IsWithinLimits}
 use Rattle.fx_doc_grammar.specs.Verdicts.{Verdict, Reads, Stops, Deep, Long as TooLong, IsVerdict}
 use Rattle.fx_doc_grammar.proofs.Verdicts.{one_verdict}
-use Rattle.fx_doc.specs.Views.{reading}
+use Rattle.fx_doc_runs.specs.Views.{reading}
 use Rattle.fx_doc.specs.Reads.{IsRead, HasFault, IsGiven, IsRefused, IsAnswer}
 use Rattle.fx_doc.specs.Judgements.{Tells}
 use Rattle.fx_doc_grammar.specs.Judgements.{NoText, Judged, judgement, unmarked, document_text}
 use Rattle.fx_doc_grammar.proofs.JudgementLemmas.{one_judgement}
-use Rattle.fx_doc.specs.declared.document.Document.{Document}
-use Rattle.fx_doc.specs.declared.document.DocError.{DocError}
-use Rattle.fx_doc.specs.declared.document.DocError.TheVariants.{NotUtf8, Markup, Depth, Long, Memory}
+use Rattle.fx_doc_runs.specs.declared.document.Document.{Document}
+use Rattle.fx_doc_runs.specs.declared.document.DocError.{DocError}
+use Rattle.fx_doc_runs.specs.declared.document.DocError.TheVariants.{NotUtf8, Markup, Depth, Long, Memory}
 
 pub chars_first : (c : ℕ) (text rest : List ℕ) → scalar c ≡ true → text ≡ encode c ++ rest → chars text ≡ c ∷ chars rest
 chars_first c text rest s e =

@@ -1,5 +1,6 @@
 -- What the machine does at every class that a mode does not single out.
 -- Code's last arms cite these.
+pub use Rattle.fx_doc_runs.proofs.Calm.{quoted_rest}
 use Rattle.std.proofs.Common.{◌≡◌, ◌≢◌, ℕ, Bool, true, List, [], ◌∷◌, ◌++◌, refl, ap, ◌∙◌, ◌||◌, ◌+◌, length, length-append, arith}
 use lib.Dec.{ltb}
 use Rattle.fx_doc_grammar.specs.Characters.{in_name}
@@ -41,11 +42,6 @@ full_long n c e = ap (λ y. ltb 4096 y) (length-append n (c ∷ [])) ∙ past (l
 
 pub long_name : (n : List ℕ) (c : ℕ) (b : Bool) → length n ≡ 4096 → (ltb 4096 (length (n ++ (c ∷ []))) || b) ≡ true
 long_name n c b e = ap (λ y. y || b) (full_long n c e)
-
-pub quoted_rest : (p : Position) (head : Head) (q : Position) (key : List ℕ) (u : Quote) (v : List ℕ) (n : ℕ) (h : Held) (c : ℕ) (k : Class) → k ≢ Less → k ≢ Ampersand → in_quoted p head q key u v n h c k ≡ in_value (is_quote u k) head q key u v n h c k
-quoted_rest p head q key u v n h c Less a b = absurd (a refl)
-quoted_rest p head q key u v n h c Ampersand a b = absurd (b refl)
-quoted_rest p head q key u v n h c k a b = refl
 
 past : (n : ℕ) → n ≡ 4096 → ltb 4096 (n + 1) ≡ true
 past n e = grind (arith, e)

@@ -1,13 +1,5 @@
-pub mod Trees
 pub mod Defaults
-pub mod Names
-pub mod Stacks
-pub mod Calm
+pub mod Depths
 pub mod Loops
-pub mod Firsts
-pub mod Flowing
-pub mod Whole
-pub mod Carried
-pub mod Keying
 pub mod Turning
 pub mod Answered

@@ -1,25 +1,24 @@
 -- A loop over the characters of a text: what has come so far, the character at hand, and the rest; and what a turn gives.
 -- Below the answers on the reader's loop.
-use Rattle.std.proofs.Common.{◌≡◌, ℕ, ◌+◌, ◌<◌, ◌≤◌, ◌^◌, Bool, true, false, List, [], ◌∷◌, ◌++◌, suc, map, length, take, drop, get_or, drop-cons, refl, sym, ◌∙◌, ap, subst, arith, Some, None, Result, Ok, Err, ◌||◌}
+use Rattle.std.proofs.Common.{◌≡◌, ℕ, ◌+◌, ◌<◌, ◌≤◌, ◌^◌, Bool, true, false, List, [], ◌∷◌, ◌++◌, suc, map, length, take, drop, get_or, drop-cons, refl, sym, ◌∙◌, ap, subst, arith, Some, None, Result, Ok, Err}
 use Rattle.std.proofs.lemmas.List.{take-append-drop, map-id}
 use Rattle.std.specs.Result.{IsErrAnd}
-use lib.Dec.{leb, ltb}
+use lib.Dec.{leb}
 use Rattle.fx_base.specs.Positions.{start, after_all}
 use Rattle.fx_doc_grammar.specs.Grammar.{Spells}
-use Rattle.fx_doc_grammar.specs.Machine.{Mode, Naming, initial, run, answer, is_long, mode_long, level_long, stack_depth}
+use Rattle.fx_doc_grammar.specs.Machine.{Mode, Naming, initial, run, answer, is_long, stack_depth}
 use Rattle.fx_doc_grammar.specs.Beginnings.{IsWithinLimits, IsStopped}
 use Rattle.fx_doc_grammar.proofs.Advance.{sound}
 use Rattle.fx_doc_grammar.proofs.Roots.{line_bound, column_bound}
 use Rattle.fx_doc_grammar.proofs.Turns.{run_more, limits_more, stopped_here, stopped_end, too_long, too_deep}
 use Rattle.fx_base.specs.declared.positions.Position.{Position}
-use Rattle.fx_doc.specs.Views.{view, reading, IsDeepMode, mode_view, stack_view}
+use Rattle.fx_doc_runs.specs.Views.{view, reading, IsDeepMode}
 use Rattle.fx_doc.specs.Reads.{IsNext, IsRead}
-use Rattle.fx_doc.specs.declared.document.Document.{Document}
-use Rattle.fx_doc.specs.declared.document.DocError.{DocError}
-use Rattle.fx_doc.specs.declared.document.DocError.TheVariants.{NotUtf8, Markup, Depth, Long, Memory}
-use Rattle.fx_doc.specs.declared.modes.Reader.{Reader}
-use Rattle.fx_doc.specs.declared.modes.Mode.{Mode as ModeHere}
-use Rattle.fx_doc.specs.declared.modes.Mode.TheVariants as v
+use Rattle.fx_doc_runs.specs.declared.document.Document.{Document}
+use Rattle.fx_doc_runs.specs.declared.document.DocError.{DocError}
+use Rattle.fx_doc_runs.specs.declared.document.DocError.TheVariants.{NotUtf8, Markup, Depth, Long, Memory}
+use Rattle.fx_doc_runs.specs.declared.modes.Reader.{Reader}
+use Rattle.fx_doc_runs.proofs.Shorts.{never_long}
 
 pub record IsTurn (all said : List ℕ) (c : ℕ) : Type 0 where
   pub more : List ℕ
@@ -42,29 +41,6 @@ column_small all said p n h k m q =
     let b : (after_all start said).column ≤ 1 + length said = column_bound start said in
     let e : p.column ≡ (after_all start said).column = ap (λ (y : Position). y.column) q in
     omega arith
-
--- no reader holds a text that is too long: its drafts are short
-
-pub not_past : (n : ℕ) → n ≤ 4096 → ltb 4096 n ≡ false
-not_past n h = grind arith
-
-or_none : (a b : Bool) → a ≡ false → b ≡ false → (a || b) ≡ false
-or_none true b e f = Prim.cc
-or_none false b e f = f
-
-mode_short : (r : Reader) (m : ModeHere) → r.mode ≡ m → mode_long (mode_view (stack_view r.held.stack.items) m) ≡ false
-mode_short r (v.Instructing w) e = not_past _ w.short
-mode_short r (v.Naming p w) e = not_past _ w.short
-mode_short r (v.Keyed h p w) e = not_past _ w.short
-mode_short r (v.Quoted x) e = not_past x.value.count x.value.short
-mode_short r (v.ValueReferring x p f) e = not_past x.value.count x.value.short
-mode_short r m e = refl
-
-pub never_long : (r : Reader) → is_long (view r) ≡ false
-never_long r = or_none (mode_long (view r).mode) (level_long (view r).held) (mode_short r r.mode refl) (not_past r.held.level.run.count r.held.level.run.short)
-
-pub level_short : (r : Reader) → level_long (view r).held ≡ false
-level_short r = not_past r.held.level.run.count r.held.level.run.short
 
 -- a turn that goes on
 

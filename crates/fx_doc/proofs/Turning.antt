@@ -12,13 +12,13 @@ use Rattle.fx_base.specs.declared.positions.Position.{Position}
 use Rattle.fx_doc_grammar.proofs.Bounds.{within_start}
 use Rattle.fx_doc_grammar.proofs.Roots.{line_bound, column_bound, answered_root}
 use Rattle.fx_doc.specs.Reads.{IsNext, IsRead}
-use Rattle.fx_doc.specs.Reached.{Calm, Said, TookFlat, IsReached}
-use Rattle.fx_doc.specs.Views.{view, reading}
-use Rattle.fx_doc.specs.declared.document.Document.{Document}
-use Rattle.fx_doc.specs.declared.document.DocError.{DocError}
-use Rattle.fx_doc.specs.declared.modes.Reader.{Reader}
-use Rattle.fx_doc.proofs.Calm.{said_more}
-use Rattle.fx_doc.proofs.Firsts.{flat_chars, utf8_behind, along_is}
+use Rattle.fx_doc_runs.specs.Reached.{Calm, Said, TookFlat, IsReached}
+use Rattle.fx_doc_runs.specs.Views.{view, reading}
+use Rattle.fx_doc_runs.specs.declared.document.Document.{Document}
+use Rattle.fx_doc_runs.specs.declared.document.DocError.{DocError}
+use Rattle.fx_doc_runs.specs.declared.modes.Reader.{Reader}
+use Rattle.fx_doc_runs.proofs.Calm.{said_more}
+use Rattle.fx_doc_runs.proofs.Firsts.{flat_chars, utf8_behind, along_is}
 use Rattle.fx_doc.proofs.Loops.{goes_on, within_on, stops, passed, ends_read, ends_stopped}
 use Rattle.fx_doc_grammar.proofs.Turns.{place_more}
 

@@ -2,10 +2,10 @@
 use Rattle.std.specs.Prelude.{◌≡◌, Result, Ok, Err}
 use Rattle.fx_doc_grammar.specs.Judgements.{Judgement, NoText, Judged}
 use Rattle.fx_doc_grammar.specs.Verdicts.{Reads, Stops, Deep, Long as TooLong}
-use Rattle.fx_doc.specs.Views.{reading}
-use Rattle.fx_doc.specs.declared.document.Document.{Document}
-use Rattle.fx_doc.specs.declared.document.DocError.{DocError}
-use Rattle.fx_doc.specs.declared.document.DocError.TheVariants.{NotUtf8, Markup, Depth, Long, Memory}
+use Rattle.fx_doc_runs.specs.Views.{reading}
+use Rattle.fx_doc_runs.specs.declared.document.Document.{Document}
+use Rattle.fx_doc_runs.specs.declared.document.DocError.{DocError}
+use Rattle.fx_doc_runs.specs.declared.document.DocError.TheVariants.{NotUtf8, Markup, Depth, Long, Memory}
 
 -- the answer is this judgement, unless memory ran out
 abbrev pub Tells : Result Document DocError → Judgement → Type 0

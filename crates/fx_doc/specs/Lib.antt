@@ -1,8 +1,3 @@
-pub mod Attributes
-pub mod Views
+pub use Rattle.fx_doc_runs.specs.Views
 pub mod Reads
 pub mod Judgements
-pub mod Taking
-pub mod Reached
-pub mod Light
-pub mod Keys

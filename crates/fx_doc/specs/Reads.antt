@@ -8,11 +8,11 @@ use Rattle.fx_doc_grammar.specs.Machine.{State, step, is_deep, is_long, sign_pos
 use Rattle.fx_doc_grammar.specs.Beginnings.{IsWithinLimits, IsTooDeep, IsTooLong, IsStopped}
 use Rattle.fx_doc_grammar.specs.Judgements.{document_text}
 use Rattle.fx_doc_grammar.specs.Verdicts.{Verdict, Reads, Stops, Deep, Long as TooLong}
-use Rattle.fx_doc.specs.Views.{view, reading, IsDeepAt}
-use Rattle.fx_doc.specs.declared.document.Document.{Document}
-use Rattle.fx_doc.specs.declared.document.DocError.{DocError}
-use Rattle.fx_doc.specs.declared.document.DocError.TheVariants.{NotUtf8, Markup, Depth, Long, Memory}
-use Rattle.fx_doc.specs.declared.modes.Reader.{Reader}
+use Rattle.fx_doc_runs.specs.Views.{view, reading, IsDeepAt}
+use Rattle.fx_doc_runs.specs.declared.document.Document.{Document}
+use Rattle.fx_doc_runs.specs.declared.document.DocError.{DocError}
+use Rattle.fx_doc_runs.specs.declared.document.DocError.TheVariants.{NotUtf8, Markup, Depth, Long, Memory}
+use Rattle.fx_doc_runs.specs.declared.modes.Reader.{Reader}
 
 -- one character further, where the machine goes to o and the reader is r: its next state, or why there is none; the
 -- character stands at p, and its sign begins at sign

@@ -4,12 +4,11 @@ ghost use Rattle.std.specs.Prelude.{◌≡◌, true, [], ◌∷◌, ◌++◌};
 ghost use Rattle.std.specs.String.{string_bytes};
 ghost use Rattle.fx_doc_grammar.specs.Characters.{class_of, in_name};
 ghost use Rattle.fx_doc_grammar.specs.Machine.{some_if, with_instruction, in_asked, in_instructing, in_name_asked, in_instructed, in_end_asked};
-ghost use Rattle.fx_doc.specs.Views.{held_view, Moves, inside_state, instructing_state};
+ghost use Rattle.fx_doc_runs.specs.Views.{held_view, Moves, inside_state, instructing_state};
 
-use crate::levels::goes;
-use crate::modes::{Held, Mode};
 use fx_doc_drafts::{Halt, Word};
 use fx_doc_grammar::Class;
+use fx_doc_runs::{Held, Mode, goes};
 use std::alloc::Global;
 
 pub fn asked(alloc: Global, held: &Held, c: char) -> Result<Option<Mode>, Halt>

@@ -4,13 +4,12 @@ ghost use Rattle.std.specs.Prelude.{◌≡◌, true, [], ◌∷◌, ◌++◌};
 ghost use Rattle.std.specs.String.{string_bytes};
 ghost use Rattle.fx_doc_grammar.specs.Characters.{class_of, in_name};
 ghost use Rattle.fx_doc_grammar.specs.Machine as spec;
-ghost use Rattle.fx_doc.specs.Views.{stack_view, held_view, Moves, inside_state, referring_state, naming_state, instructing_state};
+ghost use Rattle.fx_doc_runs.specs.Views.{stack_view, held_view, Moves, inside_state, referring_state, naming_state, instructing_state};
 
-use crate::levels::goes;
-use crate::modes::{Held, Mode};
 use fx_base::Position;
 use fx_doc_drafts::{Halt, Word};
 use fx_doc_grammar::{Class, Entity, Turn};
+use fx_doc_runs::{Held, Mode, goes};
 use std::alloc::Global;
 
 #[tactic(auto, using(crate::proofs::Defaults::inside_rest))]
@@ -107,50 +106,4 @@ fn begins_end(held: &Held) -> Result<Option<Mode>, Halt>
         return Ok(None);
     }
     goes(held, Mode::Ending(0))
-}
-
-pub fn banged(held: &Held, c: char) -> Result<Option<Mode>, Halt>
-    ensures { Moves (spec.in_banged (held_view held.now) (class_of c)) held.now result }
-{
-    match Class::of(c) {
-        Class::Dash => goes(held, Mode::BangDashed),
-        _ => Ok(None),
-    }
-}
-
-pub fn bang_dashed(held: &Held, c: char) -> Result<Option<Mode>, Halt>
-    ensures { Moves (spec.in_bang_dashed (held_view held.now) (class_of c)) held.now result }
-{
-    match Class::of(c) {
-        Class::Dash => goes(held, Mode::Commented),
-        _ => Ok(None),
-    }
-}
-
-pub fn commented(held: &Held, c: char) -> Result<Option<Mode>, Halt>
-    ensures { Moves (spec.in_commented (held_view held.now) (class_of c)) held.now result }
-{
-    match Class::of(c) {
-        Class::Dash => goes(held, Mode::Dashed),
-        _ => goes(held, Mode::Commented),
-    }
-}
-
-pub fn dashed(held: &Held, c: char) -> Result<Option<Mode>, Halt>
-    ensures { Moves (spec.in_dashed (held_view held.now) (class_of c)) held.now result }
-{
-    match Class::of(c) {
-        Class::Dash => goes(held, Mode::DashDashed),
-        _ => goes(held, Mode::Commented),
-    }
-}
-
-pub fn dash_dashed(held: &Held, c: char) -> Result<Option<Mode>, Halt>
-    ensures { Moves (spec.in_dash_dashed (held_view held.now) (class_of c)) held.now result }
-{
-    match Class::of(c) {
-        Class::Dash => goes(held, Mode::DashDashed),
-        Class::Greater => goes(held, Mode::Inside),
-        _ => goes(held, Mode::Commented),
-    }
 }

@@ -11,153 +11,141 @@ ghost use Rattle.fx_base.specs.declared.positions.Position.{Position};
 ghost use Rattle.fx_doc_grammar.specs.Judgements.{document_text, judgement};
 ghost use Rattle.fx_doc.specs.Judgements.{Tells};
 ghost use Rattle.fx_doc.specs.Reads.{IsNext, IsStep, IsRead, HasFault, IsGiven, IsRefused};
-ghost use Rattle.fx_doc.specs.Views as spec;
+ghost use Rattle.fx_doc_runs.specs.Views as spec;
 
 use crate::bytes::text_in;
-use crate::document::{Content, DocError, Document, Element};
 use crate::instructions::{asked, end_asked, instructed, instructing, name_asked};
-use crate::markup::{
-    bang_dashed, banged, commented, dash_dashed, dashed, inside, opening, referring,
-};
-use crate::modes::{Held, Level, Mode, Reader};
+use crate::markup::{inside, opening, referring};
 use crate::reading::read_text;
 use crate::tags::{ended, key_spaced, keyed, naming, signed, slashed, spaced, tight};
 use crate::values::{ending, quoted, value_referring};
 use fx_base::{List, Position};
 use fx_doc_drafts::Halt;
+use fx_doc_runs::{
+    Content, DocError, Document, Element, Held, Level, Mode, Reader, from_bang_dashed, from_banged,
+    from_commented, from_dash_dashed, from_dashed, goes_lightly,
+};
 use std::alloc::Global;
 use std::mem;
 
 /// The greatest number of elements that may be open where one begins.
 const DEPTH_LIMIT: usize = 128;
 
-impl Reader {
-    pub fn new(alloc: Global) -> Reader
-        ensures { spec.view result ≡ initial }
-    {
-        let held = Held {
-            imports: Vec::new(alloc),
-            stack: Vec::new(alloc),
-            level: Level::new(alloc),
-        };
-        Reader {
-            held,
-            mode: Mode::Inside,
-        }
+/// Reads this character, which stands at that position; false where no document goes on so.
+fn step(alloc: Global, reader: &mut Reader, position: Position, c: char) -> Result<bool, Halt>
+    ensures { spec.Steps (step position (spec.view reader.old) c) reader.new result }
+{
+    if reader.absorb(position, c)? {
+        return Ok(true);
     }
-
-    /// Reads this character, which stands at that position; false where no document goes on so.
-    fn step(&mut self, alloc: Global, position: Position, c: char) -> Result<bool, Halt>
-        ensures { spec.Steps (step position (spec.view self.old) c) self.new result }
-    {
-        if self.absorb(position, c)? {
-            return Ok(true);
-        }
-        if self.step_lightly(position, c) {
-            return Ok(true);
-        }
-        let mode = mem::replace(&mut self.mode, Mode::Ended);
-        match moved(alloc, &mut self.held, mode, position, c)? {
-            Some(mode) => {
-                self.mode = mode;
-                Ok(true)
-            }
-            None => Ok(false),
-        }
+    if reader.step_lightly(position, c) {
+        return Ok(true);
     }
-
-    /// Where the sign begins whose last character stands at that position: a reference at its `&`.
-    fn sign_position(&self, position: Position) -> Position
-        ensures { result ≡ sign_position position (spec.view self.now).mode }
-    {
-        match &self.mode {
-            Mode::Referring(at, _) => *at,
-            Mode::ValueReferring(_, at, _) => *at,
-            _ => position,
+    let mode = mem::replace(&mut reader.mode, Mode::Ended);
+    match moved(alloc, &mut reader.held, mode, position, c)? {
+        Some(mode) => {
+            reader.mode = mode;
+            Ok(true)
         }
-    }
-
-    /// The position of the element that begins within 128 others.
-    fn deep_position(&self) -> Option<Position>
-        ensures { MatchOption result (is_deep (spec.view self.now) ≡ false)
-            (λ p. spec.IsDeepAt (spec.view self.now) p) }
-    {
-        match &self.mode {
-            Mode::Naming(at, _) => {
-                if self.held.stack.len() >= DEPTH_LIMIT {
-                    Some(*at)
-                } else {
-                    None
-                }
-            }
-            _ => None,
-        }
-    }
-
-    /// One character further, within the limits on depth and length.
-    pub fn next(&mut self, alloc: Global, position: Position, c: char) -> Result<(), DocError>
-        ensures { IsNext (spec.view self.old) position c self.new result }
-    {
-        let sign = self.sign_position(position);
-        match self.step(alloc, position, c) {
-            Ok(true) => self.within_depth(),
-            Ok(false) => Err(DocError::Markup(position)),
-            Err(Halt::Long) => Err(DocError::Long(sign)),
-            Err(Halt::Memory) => Err(DocError::Memory),
-        }
-    }
-
-    /// Refuses an element that begins too deep.
-    fn within_depth(&self) -> Result<(), DocError>
-        ensures { (p sign : Position) → IsStep (Some (spec.view self.now)) p sign self.now result }
-    {
-        match self.deep_position() {
-            None => Ok(()),
-            Some(deep) => Err(DocError::Depth(deep)),
-        }
-    }
-
-    /// The document, if the text may end here.
-    pub fn into_document(self) -> Option<Document>
-        requires { spec.AnswersRoot (spec.view self) }
-        ensures { MatchOption result (answer (spec.view self) ≡ None) (λ d. answer (spec.view self)
-            ≡ Some (spec.reading d)) }
-    {
-        let Reader { held, mode } = self;
-        let Mode::Inside = mode else {
-            return None;
-        };
-        held.into_document()
+        None => Ok(false),
     }
 }
 
-impl Held {
-    fn into_document(self) -> Option<Document>
-        requires { spec.AnswersRoot (spec.inside_view self) }
-        ensures { MatchOption result (answer (spec.inside_view self) ≡ None) (λ d. answer (spec.inside_view self)
-            ≡ Some (spec.reading d)) }
-    {
-        if self.is_within() {
-            return None;
+/// Where the sign begins whose last character stands at that position: a reference at its `&`.
+fn sign_position(reader: &Reader, position: Position) -> Position
+    ensures { result ≡ sign_position position (spec.view reader.now).mode }
+{
+    match &reader.mode {
+        Mode::Referring(at, _) => *at,
+        Mode::ValueReferring(_, at, _) => *at,
+        _ => position,
+    }
+}
+
+/// The position of the element that begins within 128 others.
+fn deep_position(reader: &Reader) -> Option<Position>
+    ensures { MatchOption result (is_deep (spec.view reader.now) ≡ false)
+        (λ p. spec.IsDeepAt (spec.view reader.now) p) }
+{
+    match &reader.mode {
+        Mode::Naming(at, _) => {
+            if reader.held.stack.len() >= DEPTH_LIMIT {
+                Some(*at)
+            } else {
+                None
+            }
         }
-        let Held {
-            imports,
-            stack: _,
-            level,
-        } = self;
-        let Level {
-            mut content,
-            run: _,
-            first: _,
-        } = level;
-        let piece = content.pop()?;
-        match child_in(piece) {
-            Some(root) => Some(Document {
-                imports: List::from_vec(imports),
-                root,
-            }),
-            None => None,
-        }
+        _ => None,
+    }
+}
+
+/// One character further, within the limits on depth and length.
+pub fn read_character(
+    alloc: Global,
+    reader: &mut Reader,
+    position: Position,
+    c: char,
+) -> Result<(), DocError>
+    ensures { IsNext (spec.view reader.old) position c reader.new result }
+{
+    let sign = sign_position(reader, position);
+    match step(alloc, reader, position, c) {
+        Ok(true) => within_depth(reader),
+        Ok(false) => Err(DocError::Markup(position)),
+        Err(Halt::Long) => Err(DocError::Long(sign)),
+        Err(Halt::Memory) => Err(DocError::Memory),
+    }
+}
+
+/// Refuses an element that begins too deep.
+fn within_depth(reader: &Reader) -> Result<(), DocError>
+    ensures { (p sign : Position) → IsStep (Some (spec.view reader.now)) p sign reader.now result }
+{
+    match deep_position(reader) {
+        None => Ok(()),
+        Some(deep) => Err(DocError::Depth(deep)),
+    }
+}
+
+/// The document, if the text may end here.
+pub fn into_document(reader: Reader) -> Option<Document>
+    requires { spec.AnswersRoot (spec.view reader) }
+    ensures { MatchOption result (answer (spec.view reader) ≡ None) (λ d. answer (spec.view reader)
+        ≡ Some (spec.reading d)) }
+{
+    let Reader { held, mode } = reader;
+    let Mode::Inside = mode else {
+        return None;
+    };
+    document_in(held)
+}
+
+/// The document that is held, if the text may end here.
+fn document_in(held: Held) -> Option<Document>
+    requires { spec.AnswersRoot (spec.inside_view held) }
+    ensures { MatchOption result (answer (spec.inside_view held) ≡ None) (λ d. answer (spec.inside_view held)
+        ≡ Some (spec.reading d)) }
+{
+    if held.is_within() {
+        return None;
+    }
+    let Held {
+        imports,
+        stack: _,
+        level,
+    } = held;
+    let Level {
+        mut content,
+        run: _,
+        first: _,
+    } = level;
+    let piece = content.pop()?;
+    match child_in(piece) {
+        Some(root) => Some(Document {
+            imports: List::from_vec(imports),
+            root,
+        }),
+        None => None,
     }
 }
 
@@ -177,11 +165,11 @@ fn moved(
         Mode::Inside => inside(held, position, c),
         Mode::Referring(at, entity) => referring(held, at, entity, c),
         Mode::Opening(at) => opening(alloc, held, at, c),
-        Mode::Banged => banged(held, c),
-        Mode::BangDashed => bang_dashed(held, c),
-        Mode::Commented => commented(held, c),
-        Mode::Dashed => dashed(held, c),
-        Mode::DashDashed => dash_dashed(held, c),
+        Mode::Banged => goes_lightly(held, from_banged(c)),
+        Mode::BangDashed => goes_lightly(held, from_bang_dashed(c)),
+        Mode::Commented => goes_lightly(held, Some(from_commented(c))),
+        Mode::Dashed => goes_lightly(held, Some(from_dashed(c))),
+        Mode::DashDashed => goes_lightly(held, Some(from_dash_dashed(c))),
         Mode::Asked => asked(alloc, held, c),
         Mode::Instructing(name) => instructing(alloc, held, name, c),
         Mode::NameAsked(name) => name_asked(alloc, held, name, c),

@@ -4,13 +4,12 @@ ghost use Rattle.std.specs.Prelude.{◌≡◌, true, [], ◌∷◌, ◌++◌, dr
 ghost use Rattle.std.specs.String.{string_bytes};
 ghost use Rattle.fx_doc_grammar.specs.Characters.{class_of, in_name};
 ghost use Rattle.fx_doc_grammar.specs.Machine as machine;
-ghost use Rattle.fx_doc.specs.Views as views;
+ghost use Rattle.fx_doc_runs.specs.Views as views;
 
-use crate::levels::goes;
-use crate::modes::{Head, Held, Mode, Valued};
 use fx_base::Position;
 use fx_doc_drafts::{Draft, Halt, Word};
 use fx_doc_grammar::{Class, Quote};
+use fx_doc_runs::{Head, Held, Mode, Valued, goes};
 use std::alloc::Global;
 
 /// An element begins with this tag.

@@ -6,14 +6,13 @@ ghost use Rattle.std.specs.Char.{encode_utf8};
 ghost use Rattle.fx_doc_grammar.specs.Characters.{class_of};
 ghost use Rattle.fx_doc_grammar.specs.Grammar.{is_quote, value_byte};
 ghost use Rattle.fx_doc_grammar.specs.Machine.{with_attribute, entity_step, in_quoted, in_value, in_value_referring, in_ending};
-ghost use Rattle.fx_doc.specs.Views.{head_view, stack_view, held_view, open_name, Moves, tight_state, quoted_state};
+ghost use Rattle.fx_doc_runs.specs.Views.{head_view, stack_view, held_view, open_name, Moves, tight_state, quoted_state};
 
-use crate::levels::goes;
-use crate::modes::{Head, Held, Mode, Valued};
 use crate::tags::ended;
 use fx_base::Position;
-use fx_doc_drafts::{Halt, Word};
+use fx_doc_drafts::Halt;
 use fx_doc_grammar::{Class, Entity, Turn};
+use fx_doc_runs::{Held, Mode, Valued, goes, shown};
 use std::alloc::Global;
 
 #[tactic(auto, using(crate::proofs::Defaults::quoted_rest))]
@@ -51,16 +50,6 @@ fn in_text(
         return whole(alloc, held, valued);
     }
     longer(held, valued, shown(c, class))
-}
-
-/// Tab, CR and LF in a value become a space.
-pub fn shown(c: char, class: Class) -> char
-    ensures { encode_utf8 result ≡ value_byte class c }
-{
-    match class {
-        Class::White => ' ',
-        _ => c,
-    }
 }
 
 fn whole(alloc: Global, held: &Held, valued: Valued) -> Result<Option<Mode>, Halt>
@@ -104,24 +93,6 @@ pub fn value_referring(
         Some(Turn::Further(next)) => goes(held, Mode::ValueReferring(valued, position, next)),
         Some(Turn::Whole(found)) => longer(held, valued, found),
         None => Ok(None),
-    }
-}
-
-impl Held {
-    /// The byte at that index of the innermost open name.
-    pub fn name_byte(&self, at: usize) -> Option<u8>
-        ensures found { IfSome result (λ b. drop at (open_name (stack_view self.now.stack.items))
-            ≡ b ∷ drop (at + 1) (open_name (stack_view self.now.stack.items))) }
-        ensures none { IfNone result (drop at (open_name (stack_view self.now.stack.items)) ≡ []) }
-        ensures small { IfSome result (λ _. at + 1 < 2 ^ 64) }
-    {
-        let open = self.stack.last()?;
-        let name = open.head.name.as_str().as_bytes();
-        if at < name.len() {
-            Some(name[at])
-        } else {
-            None
-        }
     }
 }
 

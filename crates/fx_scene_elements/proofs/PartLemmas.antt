@@ -7,7 +7,7 @@ use Rattle.fx_base.specs.declared.positions.Position.{Position}
 use Rattle.fx_doc_grammar.specs.Grammar.{Head, Nodes, Nothing, Letters, Node}
 use Rattle.fx_doc_grammar.specs.Machine.{is_nothing}
 use Rattle.fx_doc.specs.Views.{nodes_of, onto}
-use Rattle.fx_doc.specs.declared.document.Content.{Content}
+use Rattle.fx_doc_runs.specs.declared.document.Content.{Content}
 use Rattle.fx_scene_acts.specs.Acts.{is_node_act}
 use Rattle.fx_scene_acts.specs.declared.acts.Act.{Act}
 use Rattle.fx_scene_elements.specs.Added.{Asked, asked_then, stops}

@@ -2,7 +2,7 @@
 use Rattle.std.proofs.Common.{◌≡◌, ◌<◌, ℕ, ◌+◌, List, ◌∷◌, drop, length, get_or, map, refl, sym, ◌∙◌, ap}
 use Rattle.std.proofs.lemmas.List.{drop_more}
 use Rattle.fx_doc.specs.Views.{attr_view}
-use Rattle.fx_doc.specs.declared.document.Attribute.{Attribute}
+use Rattle.fx_doc_runs.specs.declared.document.Attribute.{Attribute}
 use Rattle.fx_kinds.specs.declared.classes.Class.{Class}
 use Rattle.fx_scene_literals.specs.Literals.{Told, attribute_told, found_then, made_from, told}
 use Rattle.fx_scene_literals.specs.declared.made.Found.{Found}

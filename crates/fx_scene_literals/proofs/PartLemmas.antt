@@ -5,12 +5,12 @@ use Rattle.fx_base.specs.declared.positions.Position.{Position}
 use Rattle.fx_doc_grammar.specs.Grammar.{Head, Nodes, Nothing, Letters, Node}
 use Rattle.fx_doc_grammar.specs.Machine.{is_nothing}
 use Rattle.fx_doc.specs.Views.{Onto, content_step, element_step, nodes_of, onto}
-use Rattle.fx_doc.specs.declared.document.Content.{Content}
-use Rattle.fx_doc.specs.declared.document.Content.TheOpen as o
-use Rattle.fx_doc.specs.declared.document.Content.TheFolds as f
-use Rattle.fx_doc.specs.declared.document.Content.TheViews as w
-use Rattle.fx_doc.specs.declared.document.Element.{Element}
-use Rattle.fx_doc.proofs.Trees.{element_head, element_node, nodes_of_push, onto_something}
+use Rattle.fx_doc_runs.specs.declared.document.Content.{Content}
+use Rattle.fx_doc_runs.specs.declared.document.Content.TheOpen as o
+use Rattle.fx_doc_runs.specs.declared.document.Content.TheFolds as f
+use Rattle.fx_doc_runs.specs.declared.document.Content.TheViews as w
+use Rattle.fx_doc_runs.specs.declared.document.Element.{Element}
+use Rattle.fx_doc_runs.proofs.Trees.{element_head, element_node, nodes_of_push, onto_something}
 use Rattle.fx_scene_literals.specs.Literals.{Told, read_in, told}
 use Rattle.fx_scene_literals.specs.Views.{part_told}
 use Rattle.fx_scene_literals.specs.declared.made.Found.{Found}

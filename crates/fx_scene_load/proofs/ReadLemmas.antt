@@ -5,7 +5,7 @@ use Rattle.std.proofs.lemmas.Bool.{leb-false, ltb-false}
 use Rattle.std.proofs.lemmas.List.{at_drop_all, drop_more, map-append, take_more}
 use Rattle.fx_base.specs.declared.positions.Place.{Place}
 use Rattle.fx_base.specs.declared.positions.Position.{Position}
-use Rattle.fx_doc.specs.declared.document.Element.{Element}
+use Rattle.fx_doc_runs.specs.declared.document.Element.{Element}
 use Rattle.fx_doc_grammar.specs.Grammar.{Attr, Head, Reading as Document}
 use Rattle.fx_load_parts.specs.Says.{LoadSays}
 use Rattle.fx_load_parts.specs.Views.{fault_of}

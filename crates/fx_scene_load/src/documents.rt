@@ -3,7 +3,7 @@ ghost use Rattle.std.specs.Prelude.{◌≡◌, ◌<◌, ◌≤◌, Err, IfOk, Ok
 ghost use Rattle.fx_doc.specs.Judgements.{Tells};
 ghost use Rattle.fx_doc.specs.Reads.{HasFault};
 ghost use Rattle.fx_doc.specs.Views.{reading};
-ghost use Rattle.fx_doc.specs.declared.document.Document.{Document as Held};
+ghost use Rattle.fx_doc_runs.specs.declared.document.Document.{Document as Held};
 ghost use Rattle.fx_doc_grammar.specs.Judgements.{Judgement};
 ghost use Rattle.fx_load_parts.specs.Says.{LoadSays};
 ghost use Rattle.fx_load_parts.specs.declared.files.LoadError.TheVariants.{Failed};

@@ -3,12 +3,12 @@ use Rattle.std.proofs.lemmas.List.{append-nil}
 use Rattle.std.proofs.Common.{◌≡◌, ◌<◌, ℕ, ◌+◌, Bool, List, ◌++◌, length, get_or, take, sym, ◌∙◌, ap, refl, append_assoc}
 use Rattle.fx_doc_grammar.specs.Grammar.{Nodes, Nothing}
 use Rattle.fx_doc.specs.Views.{Onto, content_step, element_step, nodes_of, onto}
-use Rattle.fx_doc.specs.declared.document.Content.{Content}
-use Rattle.fx_doc.specs.declared.document.Content.TheOpen as o
-use Rattle.fx_doc.specs.declared.document.Content.TheFolds as f
-use Rattle.fx_doc.specs.declared.document.Content.TheViews as w
-use Rattle.fx_doc.specs.declared.document.Element.{Element}
-use Rattle.fx_doc.proofs.Trees.{element_node}
+use Rattle.fx_doc_runs.specs.declared.document.Content.{Content}
+use Rattle.fx_doc_runs.specs.declared.document.Content.TheOpen as o
+use Rattle.fx_doc_runs.specs.declared.document.Content.TheFolds as f
+use Rattle.fx_doc_runs.specs.declared.document.Content.TheViews as w
+use Rattle.fx_doc_runs.specs.declared.document.Element.{Element}
+use Rattle.fx_doc_runs.proofs.Trees.{element_node}
 use Rattle.fx_scene_outline.specs.Defined.{Defined, nodes_within}
 use Rattle.fx_scene_outline.specs.Views.{part_nodes}
 use Rattle.fx_scene_outline.proofs.PartLemmas.{nodes_more, opened}

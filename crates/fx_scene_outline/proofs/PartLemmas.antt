@@ -4,12 +4,12 @@ use Rattle.std.proofs.lemmas.List.{length-append, length-map, take_more}
 use Rattle.fx_doc_grammar.specs.Grammar.{Nodes, Nothing}
 use Rattle.fx_doc_grammar.specs.Machine.{is_nothing}
 use Rattle.fx_doc.specs.Views.{Onto, content_step, element_step, nodes_of, onto, onto_element}
-use Rattle.fx_doc.specs.declared.document.Content.{Content}
-use Rattle.fx_doc.specs.declared.document.Content.TheOpen as o
-use Rattle.fx_doc.specs.declared.document.Content.TheFolds as f
-use Rattle.fx_doc.specs.declared.document.Content.TheViews as w
-use Rattle.fx_doc.specs.declared.document.Element.{Element}
-use Rattle.fx_doc.proofs.Trees.{element_node, nodes_of_push, nothing_is}
+use Rattle.fx_doc_runs.specs.declared.document.Content.{Content}
+use Rattle.fx_doc_runs.specs.declared.document.Content.TheOpen as o
+use Rattle.fx_doc_runs.specs.declared.document.Content.TheFolds as f
+use Rattle.fx_doc_runs.specs.declared.document.Content.TheViews as w
+use Rattle.fx_doc_runs.specs.declared.document.Element.{Element}
+use Rattle.fx_doc_runs.proofs.Trees.{element_node, nodes_of_push, nothing_is}
 use Rattle.fx_scene_outline.specs.Edges.{earlier_in}
 use Rattle.fx_scene_outline.specs.Entries.{Entry, listed}
 use Rattle.fx_scene_outline.specs.Outlines.{edge_flaws, pieces, root_pieces}

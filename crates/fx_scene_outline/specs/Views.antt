@@ -2,8 +2,8 @@
 use Rattle.std.specs.Prelude.{◌≡◌, ℕ, Bool, List, [], ◌∷◌, ◌++◌, map, Option, Result, Ok, Err}
 use Rattle.std.specs.Borrow.{Bor}
 use Rattle.fx_doc.specs.Views.{attr_view, nodes_of}
-use Rattle.fx_doc.specs.declared.document.Content.TheViews.{out-Element}
-use Rattle.fx_doc.specs.declared.document.Element.{Element}
+use Rattle.fx_doc_runs.specs.declared.document.Content.TheViews.{out-Element}
+use Rattle.fx_doc_runs.specs.declared.document.Element.{Element}
 use Rattle.fx_doc_grammar.specs.Grammar.{Head, Nodes, Nothing, Letters, Node}
 use Rattle.fx_scene_flaws.specs.declared.flaws.Flaw.TheVariants as flaw
 use Rattle.fx_scene_outline.specs.Defined.{Defined, defined, element_nodes, nodes_within}

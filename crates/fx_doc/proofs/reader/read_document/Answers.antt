@@ -1,6 +1,6 @@
 use Rattle.std.proofs.Common.{Err}
 use Rattle.std.specs.Str.{chars}
-use Rattle.fx_doc.specs.declared.document.DocError.TheVariants.{NotUtf8}
+use Rattle.fx_doc_runs.specs.declared.document.DocError.TheVariants.{NotUtf8}
 use Rattle.fx_doc.proofs.Answered.{on_bytes, read_by, within_by, exact_by, refused_by, fault_by, judged_by}
 use Rattle.fx_doc.proofs.reader.read_document.Goals as goal
 

@@ -1,4 +1,4 @@
-use Rattle.fx_doc.proofs.Firsts.{first_is}
+use Rattle.fx_doc_runs.proofs.Firsts.{first_is}
 use Rattle.fx_doc.proofs.reading.first_character.Goals as goal
 
 pub returns-clause-some : goal.returns-clause-some

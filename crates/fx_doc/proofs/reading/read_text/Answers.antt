@@ -1,6 +1,6 @@
 use Rattle.std.proofs.Common.{arith}
 use Rattle.std.specs.Str.{chars}
-use Rattle.fx_doc.specs.Views.{view}
+use Rattle.fx_doc_runs.specs.Views.{view}
 use Rattle.fx_doc.proofs.Turning.{line_fits, column_fits, one_reached, flat_reached, still_reached, stops_reached, ends_reached, stopped_reached, root_reached}
 use Rattle.fx_doc.proofs.Loops.{passed}
 use Rattle.fx_doc.proofs.reading.read_text.Goals as goal
@@ -8,17 +8,17 @@ use Rattle.fx_doc.proofs.reading.read_text.Goals as goal
 pub loop-c-preserved : goal.loop-c-preserved
 loop-c-preserved c =
     let h = still_reached c.args.text.now c.loop-c.rest.now c.in_ok-left.left.now c.loop-c.position (view c.loop-c.reader) (view c.take_ahead.new.self) c.loop-c.invariant c.in_ok-left.ensures.took (λ e. omega (arith, e, c.if-left-rest.false)) in
-    one_reached c.args.text.now c.loop-c.rest.now c.in-Some.behind.now c.loop-c.position c.after-position.result c.take_ahead.new.self c.next.new.self c.in-Some.c h c.in-Some.ensures.some.0 c.in-Some.ensures.some.1 c.in-Some.ensures.utf8 c.in_ok-next.ensures c.after-position.ensures
+    one_reached c.args.text.now c.loop-c.rest.now c.in-Some.behind.now c.loop-c.position c.after-position.result c.take_ahead.new.self c.read_character.new.reader c.in-Some.c h c.in-Some.ensures.some.0 c.in-Some.ensures.some.1 c.in-Some.ensures.utf8 c.in_ok-read_character.ensures c.after-position.ensures
 
 pub loop-c-preserved-then-left-rest : goal.loop-c-preserved-then-left-rest
 loop-c-preserved-then-left-rest c =
     flat_reached c.args.text.now c.loop-c.rest.now c.in_ok-left.left.now c.loop-c.position c.along-position.result c.loop-c.reader c.take_ahead.new.self c.loop-c.invariant c.in_ok-left.ensures.took c.along-position.ensures.line c.along-position.ensures.column
 
-pub returns-in_err-next : goal.returns-in_err-next
-returns-in_err-next c =
+pub returns-in_err-read_character : goal.returns-in_err-read_character
+returns-in_err-read_character c =
     let h = still_reached c.args.text.now c.loop-c.rest.now c.in_ok-left.left.now c.loop-c.position (view c.loop-c.reader) (view c.take_ahead.new.self) c.loop-c.invariant c.in_ok-left.ensures.took (λ e. omega (arith, e, c.if-left-rest.false)) in
-    passed (chars c.args.text.now) c.from_residual-in_err-next.result c.in_err-next.field-0.0 c.from_residual-in_err-next.ensures.1
-    (stops_reached c.args.text.now c.loop-c.rest.now c.in-Some.behind.now c.loop-c.position c.take_ahead.new.self c.next.new.self c.in-Some.c c.in_err-next.field-0.0 h c.in-Some.ensures.some.0 c.in_err-next.ensures)
+    passed (chars c.args.text.now) c.from_residual-in_err-read_character.result c.in_err-read_character.field-0.0 c.from_residual-in_err-read_character.ensures.1
+    (stops_reached c.args.text.now c.loop-c.rest.now c.in-Some.behind.now c.loop-c.position c.take_ahead.new.self c.read_character.new.reader c.in-Some.c c.in_err-read_character.field-0.0 h c.in-Some.ensures.some.0 c.in_err-read_character.ensures)
 
 pub first_character-requires-text-text : goal.first_character-requires-text-text
 first_character-requires-text-text c = λ _. c.loop-c.invariant.utf8

@@ -1,6 +1,6 @@
 use Rattle.std.proofs.Common.{length}
-use Rattle.fx_doc.specs.Reached.{IsReached}
-use Rattle.fx_doc.specs.Views.{view}
+use Rattle.fx_doc_runs.specs.Reached.{IsReached}
+use Rattle.fx_doc_runs.specs.Views.{view}
 use Rattle.fx_doc.proofs.reading.read_text.Given as goal
 
 abbrev pub invariant-loop-c : goal.invariant-loop-c

@@ -3,7 +3,7 @@ use Rattle.std.proofs.Common.{Vec, map, ◌∙◌}
 use Rattle.std.specs.Global.{Global}
 use Rattle.fx_css_types.specs.declared.sheets.Sheet.{Sheet}
 use Rattle.fx_doc.specs.Views.{reading}
-use Rattle.fx_doc.specs.declared.document.Document.{Document}
+use Rattle.fx_doc_runs.specs.declared.document.Document.{Document}
 use Rattle.fx_load.specs.Loads.{loaded_of}
 use Rattle.fx_load.proofs.LoadLemmas.{all_told, fetch_stops, scene_stops, script_stops, sheets_stop}
 use Rattle.fx_load_parts.specs.Views.{run_of}

@@ -3,8 +3,8 @@ use Rattle.std.proofs.Common.{◌≡◌, ◌∙◌, List, Option, ap, map, refl,
 use Rattle.std.specs.Result.{IfOk, OnOk}
 use Rattle.fx_base.specs.declared.kinds.Kind.{Kind}
 use Rattle.fx_doc.specs.Views.{attr_view, nodes_of}
-use Rattle.fx_doc.specs.declared.document.Attribute.{Attribute}
-use Rattle.fx_doc.specs.declared.document.Content.{Content}
+use Rattle.fx_doc_runs.specs.declared.document.Attribute.{Attribute}
+use Rattle.fx_doc_runs.specs.declared.document.Content.{Content}
 use Rattle.fx_doc_grammar.specs.Grammar.{Attr}
 use Rattle.fx_scene_flaws.specs.declared.flaws.Fault.{Fault}
 use Rattle.fx_scene_literals.specs.declared.instances.Want.{Want}

@@ -5,8 +5,8 @@ use Rattle.std.specs.Global.{Global}
 use Rattle.std.specs.Option.{option_map}
 use Rattle.fx_base.specs.declared.positions.Place.{Place}
 use Rattle.fx_doc.specs.Views.{attr_view, reading}
-use Rattle.fx_doc.specs.declared.document.Attribute.{Attribute}
-use Rattle.fx_doc.specs.declared.document.Document.{Document}
+use Rattle.fx_doc_runs.specs.declared.document.Attribute.{Attribute}
+use Rattle.fx_doc_runs.specs.declared.document.Document.{Document}
 use Rattle.fx_load_parts.specs.Says.{LoadSays}
 use Rattle.fx_scene_load.specs.Asking.{asked_of}
 use Rattle.fx_scene_course.specs.Courses.{with_class, with_file, with_flaw}

@@ -1,0 +1,11 @@
+pub mod Trees
+pub mod Names
+pub mod Stacks
+pub mod Shorts
+pub mod Lights
+pub mod Calm
+pub mod Firsts
+pub mod Flowing
+pub mod Whole
+pub mod Carried
+pub mod Keying

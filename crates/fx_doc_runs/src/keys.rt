@@ -1,0 +1,96 @@
+//! The name of an attribute, with its `=`, white round it, and its quote: taken whole where its value isn't.
+ghost use Rattle.std.specs.Prelude.{◌≡◌, ◌≤◌, length, true, IfSome, IfOk, IfErr};
+ghost use Rattle.std.specs.List.{list_all};
+ghost use Rattle.fx_doc_drafts.specs.Ahead.{is_named, begins_name};
+ghost use Rattle.fx_base.specs.declared.positions.Position.{Position};
+ghost use Rattle.fx_doc_runs.specs.Reached.{TookFlat};
+ghost use Rattle.fx_doc_runs.specs.Keys.{IsKey, IsNameAhead};
+ghost use Rattle.fx_doc_runs.specs.Views.{view};
+ghost use Rattle.fx_doc_runs.specs.declared.document.DocError.TheVariants as fault;
+
+use crate::document::DocError;
+use crate::modes::{Mode, Reader, Valued};
+use crate::runs::gap_ahead;
+use fx_base::Position;
+use fx_doc_drafts::{Draft, Word, begins_name, behind_byte, name_length, quote_ahead};
+use fx_doc_grammar::Quote;
+use std::alloc::Global;
+use std::mem;
+
+/// The greatest length of a name.
+const NAME_LIMIT: usize = 4096;
+
+/// The name of an attribute ahead, the quote of its value, and the text behind that.
+#[derive(Clone, Copy)]
+struct Key<'a> {
+    name: &'a str,
+    quote: Quote,
+    behind: &'a str,
+}
+
+/// The name in front, and the text behind it.
+fn name_ahead(text: &str) -> Option<(&str, &str)>
+    ensures { IfSome result (λ x. IsNameAhead text.now x.0.now x.1.now) }
+{
+    let count = name_length(text.as_bytes());
+    if count > NAME_LIMIT {
+        return None;
+    }
+    let (name, rest) = text.split_at_checked(count)?;
+    if !begins_name(name) {
+        return None;
+    }
+    Some((name, rest))
+}
+
+fn key_ahead(text: &str) -> Option<Key<'_>>
+    ensures { IfSome result (λ k. IsKey text.now k.name.now k.quote k.behind.now) }
+{
+    let (name, rest) = name_ahead(text)?;
+    let (_, rest) = gap_ahead(rest);
+    let rest = behind_byte(rest, b'=')?;
+    let (_, rest) = gap_ahead(rest);
+    let (quote, behind) = quote_ahead(rest)?;
+    Some(Key {
+        name,
+        quote,
+        behind,
+    })
+}
+
+impl Reader {
+    /// Takes the name and the quote of the attribute that stands ahead, and gives the text behind them.
+    pub fn take_key<'a>(
+        &mut self,
+        alloc: Global,
+        position: Position,
+        rest: &'a str,
+    ) -> Result<&'a str, DocError>
+        ensures took { IfOk result (λ left. TookFlat rest.now position (view self.old) left.now (view self.new)) }
+        ensures memory { IfErr result (λ e. e ≡ fault.Memory) }
+    {
+        let Mode::Spaced(head) = &self.mode else {
+            return Ok(rest);
+        };
+        let Some(ahead) = key_ahead(rest) else {
+            return Ok(rest);
+        };
+        let Ok(key) = Word::of_text(alloc, ahead.name) else {
+            return Err(DocError::Memory);
+        };
+        if !head.is_fresh(&key) {
+            return Ok(rest);
+        }
+        let Mode::Spaced(head) = mem::replace(&mut self.mode, Mode::Ended) else {
+            unreachable!()
+        };
+        self.mode = Mode::Quoted(Valued {
+            head,
+            position,
+            key,
+            quote: ahead.quote,
+            value: Draft::new(alloc),
+        });
+        Ok(ahead.behind)
+    }
+}

@@ -15,3 +15,4 @@ pub mod OwnLemmas
 pub mod RuleLemmas
 pub mod StrongestLemmas
 pub mod WeightLemmas
+pub mod RisingLemmas

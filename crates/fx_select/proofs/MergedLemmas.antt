@@ -83,7 +83,7 @@ lt_cases false true false false = refl
 lt_cases false false then next = refl
 
 -- the order of the sort is that of rules
-lt-before : (one other : Candidate) → is_lt (compare_places (place_of one) (place_of other)) ≡ is_before one other
+pub lt-before : (one other : Candidate) → is_lt (compare_places (place_of one) (place_of other)) ≡ is_before one other
 lt-before one other = lt_cases (ltb one.sheet other.sheet) (eqb one.sheet other.sheet) (ltb one.rule other.rule) (eqb one.rule other.rule)
 
 add_one : (k : ℕ) → k + 1 ≡ suc k

@@ -15,7 +15,7 @@ ghost use Rattle.fx_select.specs.Listing.{IsBare, IsListing, Listing, listed, se
 use crate::hits::{push_hits, push_own_hits};
 use crate::lists::{NamedLists, SelectorAt};
 use crate::matching::node_at;
-use crate::strongest::{sort_hits, strongest};
+use crate::strongest::merge_hits;
 use fx_base::Text;
 use fx_css_types::{Candidate, Compound, Rule, Selector, SheetAt};
 use fx_kinds::{StyleFacts, name_of};
@@ -76,43 +76,56 @@ impl RuleIndex {
         requires short { AreShort sheets.now }
         ensures { IfOk result (λ found. found.items ≡ matched_of self.now sheets.now facts.now at) }
     {
-        let mut hits = self.hits(alloc, sheets, facts, at)?;
-        sort_hits(&mut hits)?;
-        strongest(alloc, hits.as_slice())
+        let mut found = Vec::with_capacity(alloc, FEW_HITS)?;
+        self.find_matched(alloc, sheets, facts, at, &mut found)?;
+        Ok(found)
     }
 
-    fn hits(
+    /// Puts the same rules in the place of what was found before, whose memory serves again.
+    pub fn find_matched(
         &self,
         alloc: Global,
         sheets: &[SheetAt],
         facts: &[StyleFacts],
         at: usize,
-    ) -> Result<Vec<Candidate>, AllocError>
+        found: &mut Vec<Candidate>,
+    ) -> Result<(), AllocError>
         requires before { ParentsStandBefore facts.now }
         requires there { at < length facts.now }
         requires short { AreShort sheets.now }
-        ensures { IfOk result (λ hits. hits.items ≡ hits_of self.now sheets.now (chain facts.now at)) }
+        ensures { OnOk result (found.new.items ≡ matched_of self.now sheets.now facts.now at) }
+    {
+        self.find_hits(sheets, facts, at, found)?;
+        merge_hits(alloc, found)?;
+        Ok(())
+    }
+
+    fn find_hits(
+        &self,
+        sheets: &[SheetAt],
+        facts: &[StyleFacts],
+        at: usize,
+        hits: &mut Vec<Candidate>,
+    ) -> Result<(), AllocError>
+        requires before { ParentsStandBefore facts.now }
+        requires there { at < length facts.now }
+        requires short { AreShort sheets.now }
+        ensures { OnOk result (hits.new.items ≡ hits_of self.now sheets.now (chain facts.now at)) }
     {
         let node = node_at(facts, at);
-        let mut hits = Vec::with_capacity(alloc, FEW_HITS)?;
+        hits.clear();
+        push_hits(hits, self.ids.under(node.id.as_str()), sheets, facts, at)?;
+        self.push_class_hits(hits, node.classes.as_slice(), sheets, facts, at)?;
         push_hits(
-            &mut hits,
-            self.ids.under(node.id.as_str()),
-            sheets,
-            facts,
-            at,
-        )?;
-        self.push_class_hits(&mut hits, node.classes.as_slice(), sheets, facts, at)?;
-        push_hits(
-            &mut hits,
+            hits,
             self.kinds.under(name_of(node.class)),
             sheets,
             facts,
             at,
         )?;
-        push_hits(&mut hits, self.rest.as_slice(), sheets, facts, at)?;
-        push_own_hits(&mut hits, node.inline, sheets)?;
-        Ok(hits)
+        push_hits(hits, self.rest.as_slice(), sheets, facts, at)?;
+        push_own_hits(hits, node.inline, sheets)?;
+        Ok(())
     }
 
     fn push_class_hits(

@@ -3,14 +3,54 @@
 ghost use Rattle.std.specs.Prelude.{◌≡◌, ◌++◌, ◌∷◌, List as Items, IfOk, OnOk};
 ghost use Rattle.std.specs.List.Sorted.{IsPermutation, IsSortedByKey, IsStableByKey};
 ghost use Rattle.fx_css_types.specs.declared.sheets.Candidate.{Candidate as Hit};
-ghost use Rattle.fx_select.specs.Merged.{compare_places, is_same_rule, merged, merged_of, place_of, raised};
+ghost use Rattle.fx_select.specs.Merged.{AreMerged, compare_places, is_before, is_same_rule, merged, merged_of, place_of, raised, rise};
 ghost use Rattle.fx_select.specs.Strongest.{greater, is_weaker};
 
 use fx_css_types::Candidate;
 use std::alloc::{AllocError, Global};
 
+/// Puts the hits in the order of their sheets and rules, and makes those of one rule one. Hits that stand so already stay
+/// as they are.
+pub fn merge_hits(alloc: Global, hits: &mut Vec<Candidate>) -> Result<(), AllocError>
+    ensures { OnOk result (AreMerged hits.old.items hits.new.items) }
+{
+    if rise(hits.as_slice()) {
+        return Ok(());
+    }
+    sort_hits(hits)?;
+    if rise(hits.as_slice()) {
+        return Ok(());
+    }
+    let found = strongest(alloc, hits.as_slice())?;
+    *hits = found;
+    Ok(())
+}
+
+/// Does each hit stand behind the rule of the one before it?
+fn rise(hits: &[Candidate]) -> bool
+    ensures { result ≡ rise hits.now }
+{
+    let Some((first, more)) = hits.split_first() else {
+        return true;
+    };
+    let mut last = *first;
+    for hit in more {
+        if !is_before(last, *hit) {
+            return false;
+        }
+        last = *hit;
+    }
+    true
+}
+
+fn is_before(one: Candidate, other: Candidate) -> bool
+    ensures { result ≡ is_before one other }
+{
+    one.sheet < other.sheet || (one.sheet == other.sheet && one.rule < other.rule)
+}
+
 /// Puts the hits in the order of their sheets and rules, those of one rule as they stood.
-pub fn sort_hits(hits: &mut Vec<Candidate>) -> Result<(), AllocError>
+fn sort_hits(hits: &mut Vec<Candidate>) -> Result<(), AllocError>
     ensures permutation { IsPermutation hits.old.items hits.new.items }
     ensures stable { IsStableByKey place_of compare_places hits.old.items hits.new.items }
     ensures sorted { OnOk result (IsSortedByKey place_of compare_places hits.new.items) }
@@ -20,7 +60,7 @@ pub fn sort_hits(hits: &mut Vec<Candidate>) -> Result<(), AllocError>
 }
 
 /// The hits with those of one rule, which stand behind one another, made one.
-pub fn strongest(alloc: Global, hits: &[Candidate]) -> Result<Vec<Candidate>, AllocError>
+fn strongest(alloc: Global, hits: &[Candidate]) -> Result<Vec<Candidate>, AllocError>
     ensures { IfOk result (λ found. found.items ≡ merged_of hits.now) }
 {
     let mut found = Vec::with_capacity(alloc, hits.len())?;

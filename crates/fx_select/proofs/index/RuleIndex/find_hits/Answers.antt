@@ -11,7 +11,7 @@ use Rattle.fx_select.specs.Named.{under}
 use Rattle.fx_select.proofs.ChainLemmas.{upward-some}
 use Rattle.fx_select.proofs.HitLemmas.{hits_of-step, joined-hits}
 use Rattle.fx_select.proofs.OwnLemmas.{own-hits}
-use Rattle.fx_select.proofs.index.RuleIndex.hits.Goals as goal
+use Rattle.fx_select.proofs.index.RuleIndex.find_hits.Goals as goal
 
 pub returns : goal.returns
 returns c =
@@ -25,9 +25,9 @@ returns c =
     c.in_ok-push_own_hits.ensures
     ∙ ap (λ (l : List Candidate). l ++ own_hits node.inline c.args.sheets.now)
     (joined-hits (hit_of c.args.sheets.now (chain facts c.args.at)) (listed listing) node.id (name_of node.class) node.classes
-    c.in_ok-hits.hits.items c.push_hits.new.hits.items c.push_class_hits.new.hits.items c.push_hits-2.new.hits.items c.push_hits-3.new.hits.items
+    c.clear.new.self.items c.push_hits.new.hits.items c.push_class_hits.new.hits.items c.push_hits-2.new.hits.items c.push_hits-3.new.hits.items
     c.under.result.now c.under-2.result.now c.as_slice-2.result.now
-    c.in_ok-hits.ensures.items
+    c.clear.ensures.items
     c.in_ok-push_hits.ensures
     (c.in_ok-push_class_hits.ensures
     ∙ ap (λ (cs : List (List ℕ)). c.push_hits.new.hits.items

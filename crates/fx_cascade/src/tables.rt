@@ -48,35 +48,42 @@ pub fn style_node<L: Ledgers>(
         → source_of winners name ≡ best_source sheets.now matched.now codes.now name) }
     ensures cost { work.new ≡ record work.old { styled = work.old.styled + 1 } }
 {
-    work.styled.tick();
-    cascade(alloc, sheets, matched, codes)
-}
-
-fn cascade(
-    alloc: Global,
-    sheets: &[SheetAt],
-    matched: &[Candidate],
-    codes: &[CodeValue],
-) -> Result<Winners, AllocError>
-    requires rows { AreRows codes.now }
-    requires sheets { AreWithinLimits sheets.now }
-    ensures { IfOk result (λ winners. (name : List ℕ)
-        → source_of winners name ≡ best_source sheets.now matched.now codes.now name) }
-{
     let mut winners = Winners::new(alloc);
-    winners.hear_codes(matched, codes);
-    winners.hear_matched(alloc, sheets, matched)?;
+    winners.find(alloc, sheets, matched, codes, work)?;
     Ok(winners)
 }
 
 impl Winners {
-    fn new(alloc: Global) -> Winners
+    /// Nothing has won.
+    pub fn new(alloc: Global) -> Winners
         ensures { (name : List ℕ) → source_of result name ≡ None }
     {
         Winners {
             rows: [None; STYLE_COUNT],
             others: Vec::new(alloc),
         }
+    }
+
+    /// Finds the winners of a node as `style_node` does, in place, where nothing has won.
+    pub fn find<L: Ledgers>(
+        &mut self,
+        alloc: Global,
+        sheets: &[SheetAt],
+        matched: &[Candidate],
+        codes: &[CodeValue],
+        work: &mut Work<L>,
+    ) -> Result<(), AllocError>
+        requires rows { AreRows codes.now }
+        requires sheets { AreWithinLimits sheets.now }
+        requires none { (name : List ℕ) → source_of self.old name ≡ None }
+        ensures winners { OnOk result ((name : List ℕ)
+            → source_of self.new name ≡ best_source sheets.now matched.now codes.now name) }
+        ensures cost { work.new ≡ record work.old { styled = work.old.styled + 1 } }
+    {
+        work.styled.tick();
+        self.hear_codes(matched, codes);
+        self.hear_matched(alloc, sheets, matched)?;
+        Ok(())
     }
 
     /// What wins the row of the style table at this place.

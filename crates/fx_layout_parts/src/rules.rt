@@ -1,6 +1,6 @@
 //! The rules of the classes: what is asked of a node, by its class.
 ghost use Rattle.std.specs.Prelude.{◌≡◌, ℕ, ◌+◌, ◌≤◌, IfOk, length};
-ghost use Rattle.fx_layout_parts.specs.Rules.{AreSizes, AreSizesBy, CanBeAsked, across_half, across_span, down_half, down_span, rects_by, rects_in, rule_of};
+ghost use Rattle.fx_layout_parts.specs.Rules.{AreSizes, AreSizesBy, CanBeAsked, across_half, across_span, down_half, down_span, is_pane, rects_by, rects_in, rule_of};
 ghost use Rattle.fx_panes_parts.specs.Lengths.{length_of};
 
 use fx_base::{ChildSize, Ledgers, PaneFacts, Rect, Sizes, Work};
@@ -49,6 +49,17 @@ pub fn rule_of(class: Class) -> Rule
         Class::Label => Rule::Control,
         Class::Button => Rule::Control,
         _ => Rule::Region,
+    }
+}
+
+/// Have a node's children places?
+pub fn is_pane(rule: Rule) -> bool
+    ensures { result ≡ is_pane rule }
+{
+    match rule {
+        Rule::Region => false,
+        Rule::Control => false,
+        _ => true,
     }
 }
 

@@ -1,8 +1,7 @@
 -- The sums of a row are those of its parts, one child after the other gets its span, and each child has one.
 use Rattle.std.proofs.Common.{◌≡◌, ℕ, suc, ◌+◌, ◌-◌, ◌≤◌, List, [], ◌∷◌, ◌++◌, drop, length, map, refl, sym, ◌∙◌, ap, sum, sum_by, append-nil, arith}
 use Rattle.std.specs.Simd.Lanes.{zip2}
-use Rattle.std.proofs.lemmas.List.{drop_all, length-map}
-use Rattle.std.proofs.lemmas.Simd.{map-map}
+use Rattle.std.proofs.lemmas.List.{drop_all, length-map, map-id}
 use Rattle.fx_base.specs.declared.facts.ChildSize.{ChildSize}
 use Rattle.fx_base.specs.declared.geometry.Rect.{Rect}
 use Rattle.fx_panes_parts.specs.declared.axes.Axis.{Axis}
@@ -22,28 +21,24 @@ use Rattle.fx_panes_parts.proofs.TrackLemmas.{length-tracked}
 use Rattle.fx_boxes.specs.declared.rows.Row.{Row}
 use Rattle.fx_boxes.specs.Rows.{beside_extent, beside_span, beside_spans, parts_of, rect_along, row_extent, row_spans, span_at, spans_by, spans_from}
 
--- the parts of children as the track rule takes them
-pub parts_along : (axis : Axis) (cs : List ChildSize) → map (λ c. part_of (child_axis axis c)) cs ≡ parts_of (along axis cs)
-parts_along axis cs = sym (map-map part_of (child_axis axis) cs)
-
 pub row_extent_is : (axis : Axis) (pane : PaneAxis) (cs : List ChildSize) (result : Extent) (between low wish : ℕ)
     → between ≡ gaps pane.spacing (length cs)
-    → low ≡ sum_by (λ (part : Part). part.min) (map (λ c. part_of (child_axis axis c)) cs)
-    → wish ≡ sum_by (λ (part : Part). part.pref) (map (λ c. part_of (child_axis axis c)) cs)
+    → low ≡ sum_by (λ (part : Part). part.min) (parts_of (along axis cs))
+    → wish ≡ sum_by (λ (part : Part). part.pref) (parts_of (along axis cs))
     → result ≡ pane_extent pane.own (insets pane + between + low) (insets pane + between + wish)
     → result ≡ row_extent pane (along axis cs)
 unfolding row_extent
 row_extent_is axis pane cs result between low wish between_is low_is wish_is result_is =
-    rw (result_is, between_is, low_is, wish_is, parts_along axis cs, length-map cs (child_axis axis)) refl
+    rw (result_is, between_is, low_is, wish_is, length-map cs (child_axis axis)) refl
 
 pub beside_extent_is : (axis : Axis) (pane : PaneAxis) (cs : List ChildSize) (result : Extent) (low wish : ℕ)
-    → low ≡ greatest_of (map (λ (part : Part). part.min) (map (λ c. part_of (child_axis axis c)) cs))
-    → wish ≡ greatest_of (map (λ (part : Part). part.pref) (map (λ c. part_of (child_axis axis c)) cs))
+    → low ≡ greatest_of (map (λ (part : Part). part.min) (parts_of (along axis cs)))
+    → wish ≡ greatest_of (map (λ (part : Part). part.pref) (parts_of (along axis cs)))
     → result ≡ pane_extent pane.own (insets pane + low) (insets pane + wish)
     → result ≡ beside_extent pane (along axis cs)
 unfolding beside_extent
 beside_extent_is axis pane cs result low wish low_is wish_is result_is =
-    rw (result_is, low_is, wish_is, parts_along axis cs) refl
+    rw (result_is, low_is, wish_is) refl
 
 pub next_span : (old new : Row) (c : ChildAxis) (l : ℕ) (span : Span)
     → new.spacing ≡ old.spacing → new.at ≡ old.at + l + old.spacing → span ≡ span_at old.at c l
@@ -75,19 +70,20 @@ zip2-flip f [] (y ∷ ys) = refl
 zip2-flip f (x ∷ xs) [] = refl
 zip2-flip f (x ∷ xs) (y ∷ ys) = ap (λ l. f x y ∷ l) (zip2-flip f xs ys)
 
-pub row_starts : (axis : Axis) (pane : PaneAxis) (cs : List ChildSize) (n space between whole start : ℕ) (plan : Plan)
-    → space ≡ content pane n → between ≡ gaps pane.spacing (length cs)
-    → lengths_by plan (map (λ c. part_of (child_axis axis c)) cs) ≡ tracked (space - between) (map (λ c. part_of (child_axis axis c)) cs)
-    → whole ≡ sum (lengths_by plan (map (λ c. part_of (child_axis axis c)) cs))
+pub row_starts : (pane : PaneAxis) (cs : List ChildAxis) (parts : List Part) (n space between whole start : ℕ) (plan : Plan)
+    → parts ≡ parts_of cs → space ≡ content pane n → between ≡ gaps pane.spacing (length parts)
+    → lengths_by plan (map (λ part. part) parts) ≡ tracked (space - between) (map (λ part. part) parts)
+    → whole ≡ sum (lengths_by plan (map (λ part. part) parts))
     → start ≡ aligned pane.alignment (whole + between) space
-    → spans_by (record { plan = plan; at = pane.before + start; spacing = pane.spacing }) (along axis cs) ≡ row_spans pane (along axis cs) n
+    → spans_by (record { plan = plan; at = pane.before + start; spacing = pane.spacing }) cs ≡ row_spans pane cs n
 unfolding spans_by row_spans
-row_starts axis pane cs n space between whole start plan space_is between_is plan_is whole_is start_is =
-    let lengths : lengths_by plan (parts_of (along axis cs)) ≡ tracked (space - between) (parts_of (along axis cs)) =
-    rw (parts_along axis cs) at plan_is in
-    let sum_is : whole ≡ sum (lengths_by plan (parts_of (along axis cs))) = rw (parts_along axis cs) at whole_is in
-    let all : whole ≡ sum (tracked (space - between) (parts_of (along axis cs))) = sum_is ∙ ap sum lengths in
-    rw (lengths, start_is, all, space_is, between_is, length-map cs (child_axis axis)) refl
+row_starts pane cs parts n space between whole start plan are space_is between_is plan_is whole_is start_is =
+    let same : map (λ part. part) parts ≡ parts_of cs = map-id parts ∙ are in
+    let lengths : lengths_by plan (parts_of cs) ≡ tracked (space - between) (parts_of cs) = rw same at plan_is in
+    let sum_is : whole ≡ sum (lengths_by plan (parts_of cs)) = rw same at whole_is in
+    let all : whole ≡ sum (tracked (space - between) (parts_of cs)) = sum_is ∙ ap sum lengths in
+    let count : length parts ≡ length cs = ap length are ∙ length-map cs part_of in
+    rw (lengths, start_is, all, space_is, between_is, count) refl
 
 -- when all children have come, the rectangles are whole
 pub rows_end : (axis : Axis) (row : Row) (cs : List ChildSize) (i : ℕ) (spans : List Span) → length cs ≤ i

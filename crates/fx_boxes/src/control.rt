@@ -1,12 +1,16 @@
 //! The controls (JavaFX `Label` and `Button`): a text on one line, or wrapped at the width that the control has.
 //! They stand on the cells of texts.
 ghost use Rattle.std.specs.Prelude.{◌≡◌, ◌+◌, ◌*◌, ◌^◌, ◌≤◌, [], IfOk, IsTrue, OnErr, chars, length};
-ghost use Rattle.fx_boxes.specs.Controls.{IsControl, IsLineCount, OneControl, SameWidths, columns_in, control_heights, control_widths, scale_of};
+ghost use Rattle.fx_boxes.specs.Controls.{IsControl, IsLineCount, OneControl, SameWidths, columns_in, control_heights, control_widths, is_given, line_heights, scale_of, text_widths};
+ghost use Rattle.fx_panes_parts.specs.Axes.{IsPaneAxis};
 ghost use Rattle.fx_panes_parts.specs.Lengths.{length_of};
 
 use fx_base::{ChildSize, Ledgers, PaneFacts, Rect, Sizes, Work};
 use fx_cells::{cells, lines};
-use fx_panes_parts::{Axis, Extent, content, control_extent, insets, joined, length_of, pane_axis};
+use fx_panes_parts::{
+    Axis, Extent, OwnLengths, PaneAxis, content, control_extent, insets, joined, length_of,
+    pane_axis,
+};
 use std::alloc::{AllocError, Global};
 
 /// How wide a cell of text is, in pixels, at the smallest scale.
@@ -93,16 +97,15 @@ fn columns_in(control: &PaneFacts, w: u64) -> u64
     ensures some { 1 ≤ result }
 {
     let room = content(&pane_axis(Axis::Across, control), w);
-    (room / (CELL_WIDTH * scale_of(control))).max(1)
+    (room / (CELL_WIDTH * scale_of(control.font_size))).max(1)
 }
 
-/// How much larger than the smallest the letters are.
-fn scale_of(control: &PaneFacts) -> u64
-    ensures value { result ≡ scale_of control.now.font_size }
+/// How much larger than the smallest the letters of a font size are.
+fn scale_of(size: i64) -> u64
+    ensures value { result ≡ scale_of size }
     ensures some { 1 ≤ result }
     ensures most { result ≤ 2 ^ 61 }
 {
-    let size = control.font_size;
     if size < 0 {
         1
     } else {
@@ -110,21 +113,51 @@ fn scale_of(control: &PaneFacts) -> u64
     }
 }
 
+/// The widths of a control of this text in letters of this size. Where it has a preferred width of its own, the text
+/// isn't looked at.
+pub fn text_widths(across: &PaneAxis, font_size: i64, text: &str) -> Extent
+    requires { IsPaneAxis across.now }
+    ensures { result ≡ text_widths across.now font_size (chars text.now) }
+{
+    let around = insets(across);
+    if is_given(across.own) {
+        return control_extent(across.own, around, around);
+    }
+    let letters = (CELL_WIDTH * scale_of(font_size)).saturating_mul(cells(text));
+    control_extent(across.own, around, around.saturating_add(letters))
+}
+
+/// Is a preferred length given, so that none is to be computed?
+fn is_given(own: OwnLengths) -> bool
+    ensures { result ≡ is_given own.pref }
+{
+    own.pref >= 0
+}
+
+/// The heights of a control of so many lines in letters of this size.
+pub fn line_heights(down: &PaneAxis, font_size: i64, lines: u64) -> Extent
+    requires { IsPaneAxis down.now }
+    ensures { result ≡ line_heights down.now font_size lines }
+{
+    let letters = (LINE_HEIGHT * scale_of(font_size)).saturating_mul(lines);
+    let height = insets(down).saturating_add(letters);
+    control_extent(down.own, height, height)
+}
+
+#[tactic(auto, unfolding(crate::specs::Controls::control_widths))]
 fn widths(control: &PaneFacts) -> Extent
     ensures { result ≡ control_widths control.now }
 {
-    let facts = pane_axis(Axis::Across, control);
-    let around = insets(&facts);
-    let letters = (CELL_WIDTH * scale_of(control)).saturating_mul(cells(control.text.as_str()));
-    control_extent(facts.own, around, around.saturating_add(letters))
+    text_widths(
+        &pane_axis(Axis::Across, control),
+        control.font_size,
+        control.text.as_str(),
+    )
 }
 
+#[tactic(auto, unfolding(crate::specs::Controls::control_heights))]
 fn heights(control: &PaneFacts, lines: u64) -> Extent
     ensures { result ≡ control_heights control.now lines }
 {
-    let facts = pane_axis(Axis::Down, control);
-    let height = insets(&facts).saturating_add(
-        (LINE_HEIGHT * scale_of(control)).saturating_mul(lines),
-    );
-    control_extent(facts.own, height, height)
+    line_heights(&pane_axis(Axis::Down, control), control.font_size, lines)
 }

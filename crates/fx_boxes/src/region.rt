@@ -1,10 +1,10 @@
 //! Region (JavaFX `Region`): it has no children, and its computed sizes are its insets.
 ghost use Rattle.std.specs.Prelude.{◌≡◌, ◌+◌, [], IfOk, Ok, length};
 ghost use Rattle.fx_boxes.specs.Regions.{region_extent, region_sizes};
-ghost use Rattle.fx_panes_parts.specs.Axes.{pane_axis};
+ghost use Rattle.fx_panes_parts.specs.Axes.{IsPaneAxis, pane_axis};
 
 use fx_base::{ChildSize, Ledgers, PaneFacts, Rect, Sizes, Work};
-use fx_panes_parts::{Axis, Extent, insets, joined, pane_axis, pane_extent};
+use fx_panes_parts::{Axis, Extent, PaneAxis, insets, joined, pane_axis, pane_extent};
 use std::alloc::{AllocError, Global};
 
 /// The sizes of a region. It takes no memory.
@@ -37,11 +37,18 @@ pub fn place<L: Ledgers>(
     Ok(Vec::new(alloc))
 }
 
+/// The lengths of a region along one axis.
 #[tactic(auto, unfolding(crate::specs::Regions::region_extent))]
+pub fn extent_along(region: &PaneAxis) -> Extent
+    requires { IsPaneAxis region.now }
+    ensures { result ≡ region_extent region.now [] }
+{
+    let around = insets(region);
+    pane_extent(region.own, around, around)
+}
+
 fn extent(axis: Axis, pane: &PaneFacts) -> Extent
     ensures { result ≡ region_extent (pane_axis axis pane.now) [] }
 {
-    let facts = pane_axis(axis, pane);
-    let around = insets(&facts);
-    pane_extent(facts.own, around, around)
+    extent_along(&pane_axis(axis, pane))
 }

@@ -1,16 +1,17 @@
 //! Rows of children along either axis, and what stands beside them: HBox and VBox in one.
 //! It stands on the track rule, below the two panes.
-ghost use Rattle.std.specs.Prelude.{◌≡◌, ◌+◌, ◌*◌, ◌^◌, ◌<◌, ◌≤◌, List, ◌∷◌, IfOk, length};
+ghost use Rattle.std.specs.Prelude.{◌≡◌, ◌+◌, ◌*◌, ◌^◌, ◌<◌, ◌≤◌, List, ◌∷◌, IfOk, length, map, sum_by};
 ghost use Rattle.std.specs.Simd.Lanes.{zip2};
-ghost use Rattle.fx_boxes.specs.Rows.{beside_extent, beside_span, beside_spans, other, rect_along, row_extent, row_spans, span_at, spans_by};
+ghost use Rattle.fx_boxes.specs.Rows.{beside_extent, beside_span, beside_spans, other, parts_of, rect_along, row_extent, row_spans, span_at, spans_by};
 ghost use Rattle.fx_panes_parts.specs.declared.axes.ChildAxis.{ChildAxis};
 ghost use Rattle.fx_panes_parts.specs.Axes.{IsChildAxis, IsPaneAxis, along, child_axis, content, gaps, pane_axis};
+ghost use Rattle.fx_panes_parts.specs.Parts.{greatest_of};
 
 use fx_base::{ChildSize, PaneFacts, Rect};
 use fx_panes_parts::{
-    Axis, ChildAxis, Extent, PaneAxis, Plan, Span, aligned, child_axis, content, filled_length,
-    gaps, greatest_min, greatest_pref, in_area, insets, needed, pane_axis, pane_extent, part_of,
-    pixels, plan_for, rect_of, wanted,
+    Axis, ChildAxis, Extent, PaneAxis, Part, Plan, Span, aligned, child_axis, content,
+    filled_length, gaps, in_area, insets, pane_axis, pane_extent, part_of, pixels, plan_for,
+    rect_of,
 };
 use std::alloc::{AllocError, Global};
 
@@ -22,6 +23,13 @@ pub(crate) struct Row {
     spacing: u64,
 }
 
+/// What children need along an axis: a minimum and a preferred length.
+#[derive(Clone, Copy, PartialEq, Eq, Debug)]
+struct Needs {
+    min: u64,
+    pref: u64,
+}
+
 /// The sizes of a pane along the axis of its row.
 pub(crate) fn row_extent(axis: Axis, pane: &PaneFacts, children: &[ChildSize]) -> Extent
     requires { length children.now ≤ 4096 }
@@ -29,11 +37,8 @@ pub(crate) fn row_extent(axis: Axis, pane: &PaneFacts, children: &[ChildSize]) -
 {
     let facts = pane_axis(axis, pane);
     let rest = insets(&facts) + gaps(facts.spacing, children.len());
-    pane_extent(
-        facts.own,
-        rest + needed(axis, children),
-        rest + wanted(axis, children),
-    )
+    let sums = sums_along(axis, children);
+    pane_extent(facts.own, rest + sums.min, rest + sums.pref)
 }
 
 /// The sizes of a pane along the axis beside its row.
@@ -42,11 +47,43 @@ pub(crate) fn beside_extent(axis: Axis, pane: &PaneFacts, children: &[ChildSize]
 {
     let facts = pane_axis(axis, pane);
     let around = insets(&facts);
-    pane_extent(
-        facts.own,
-        around + greatest_min(axis, children),
-        around + greatest_pref(axis, children),
-    )
+    let most = most_along(axis, children);
+    pane_extent(facts.own, around + most.min, around + most.pref)
+}
+
+/// The minimum and the preferred lengths of all children together, with their margins.
+fn sums_along(axis: Axis, children: &[ChildSize]) -> Needs
+    requires { length children.now ≤ 4096 }
+    ensures min { result.min ≡ sum_by (λ part. part.min) (parts_of (along axis children.now)) }
+    ensures pref { result.pref ≡ sum_by (λ part. part.pref) (parts_of (along axis children.now)) }
+    ensures most_min { result.min ≤ 2 ^ 32 * length children.now }
+    ensures most_pref { result.pref ≤ 2 ^ 32 * length children.now }
+{
+    let mut min = 0;
+    let mut pref = 0;
+    for child in children {
+        let part = part_of(&child_axis(axis, child));
+        min += u64::from(part.min);
+        pref += u64::from(part.pref);
+    }
+    Needs { min, pref }
+}
+
+/// The greatest minimum and the greatest preferred length of the children with their margins, or 0.
+fn most_along(axis: Axis, children: &[ChildSize]) -> Needs
+    ensures min { result.min ≡ greatest_of (map (λ part. part.min) (parts_of (along axis children.now))) }
+    ensures pref { result.pref ≡ greatest_of (map (λ part. part.pref) (parts_of (along axis children.now))) }
+    ensures most_min { result.min < 2 ^ 32 }
+    ensures most_pref { result.pref < 2 ^ 32 }
+{
+    let mut min = 0;
+    let mut pref = 0;
+    for child in children {
+        let part = part_of(&child_axis(axis, child));
+        min = u64::from(part.min).max(min);
+        pref = u64::from(part.pref).max(pref);
+    }
+    Needs { min, pref }
 }
 
 /// The rectangles of the children of a row of this axis, in a pane that is so long along it and so long beside it.
@@ -66,7 +103,8 @@ pub(crate) fn row_rects(
         (beside_spans (pane_axis (other axis) pane.now) (along (other axis) children.now) length_beside)) }
 {
     let facts = pane_axis(other(axis), pane);
-    let mut row = row_for(axis, &pane_axis(axis, pane), children, length_along);
+    let parts = parts_along(alloc, axis, children)?;
+    let mut row = row_for(&pane_axis(axis, pane), parts.as_slice(), length_along);
     let mut rects = Vec::with_capacity(alloc, children.len())?;
     for child in children {
         let along = row.next(&child_axis(axis, child));
@@ -76,20 +114,32 @@ pub(crate) fn row_rects(
     Ok(rects)
 }
 
-/// The row before any child has been placed.
-fn row_for(axis: Axis, pane: &PaneAxis, children: &[ChildSize], length_along: u64) -> Row
+/// The parts of the children along an axis. They are gone over some six times, and are a tenth as long as children.
+fn parts_along(alloc: Global, axis: Axis, children: &[ChildSize]) -> Result<Vec<Part>, AllocError>
+    ensures { IfOk result (λ parts. parts.items ≡ parts_of (along axis children.now)) }
+{
+    let mut parts = Vec::with_capacity(alloc, children.len())?;
+    for child in children {
+        parts.push(part_of(&child_axis(axis, child)))?;
+    }
+    Ok(parts)
+}
+
+/// The row before any child has been placed, of children that have these parts.
+fn row_for(pane: &PaneAxis, parts: &[Part], length_along: u64) -> Row
     requires pane { IsPaneAxis pane.now }
-    requires few { length children.now ≤ 4096 }
+    requires few { length parts.now ≤ 4096 }
     requires long { length_along ≤ 100000 }
-    ensures spans { spans_by result (along axis children.now)
-        ≡ row_spans pane.now (along axis children.now) length_along }
+    ensures spans { (children : List ChildAxis) → parts.now ≡ parts_of children
+        → spans_by result children ≡ row_spans pane.now children length_along }
     ensures at { result.at ≤ 2 ^ 18 }
     ensures spacing { result.spacing ≤ 100000 }
 {
     let space = content(pane, length_along);
-    let between = gaps(pane.spacing, children.len());
-    let plan = plan_for(space.saturating_sub(between), axis, children);
-    let used = plan.whole(axis, children) + between;
+    let between = gaps(pane.spacing, parts.len());
+    // a part is the same along both axes
+    let plan = plan_for(space.saturating_sub(between), Axis::Across, parts);
+    let used = plan.whole(Axis::Across, parts) + between;
     Row {
         plan,
         at: pane.before + aligned(pane.alignment, used, space),

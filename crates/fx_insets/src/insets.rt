@@ -57,8 +57,9 @@ pub fn layer_at(layers: &[Sides], i: usize) -> Sides
     }
 }
 
+/// The inset of a node of this look on a side.
 #[tactic(auto, unfolding(crate::specs::Insets::inset_on))]
-fn inset_on(side: Side, look: &Look) -> u64
+pub fn inset_on(side: Side, look: &Look) -> u64
     ensures { result ≡ inset_on side look.now }
 {
     clamped(border_reach(side, look) + i128::from(length_of(on(side, look.padding))))

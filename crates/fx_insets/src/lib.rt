@@ -4,4 +4,4 @@
 
 mod insets;
 
-pub use insets::{Side, insets_of, layer_at, on};
+pub use insets::{Side, inset_on, insets_of, layer_at, on};

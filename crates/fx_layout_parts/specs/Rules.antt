@@ -18,7 +18,7 @@ use Rattle.fx_panes.specs.Stack.{stack_rects, stack_sizes}
 use Rattle.fx_grid.specs.Grid.{IsGrid, grid_rects, grid_sizes}
 use Rattle.fx_panes_parts.specs.declared.axes.Extent.{Extent}
 use Rattle.fx_panes_parts.specs.declared.axes.Span.{Span}
-use Rattle.fx_panes_parts.specs.Lengths.{length_of, place_of}
+use Rattle.fx_panes_parts.specs.Lengths.{length_of, pixels, place_of}
 use Rattle.fx_layout_parts.specs.declared.rules.NodeBox.{NodeBox}
 use Rattle.fx_layout_parts.specs.declared.rules.Rule.{Rule}
 use Rattle.fx_layout_parts.specs.declared.rules.Rule.TheVariants as rule
@@ -81,6 +81,11 @@ across_half sizes =
 abbrev pub down_half : Sizes → Extent
 down_half sizes =
     record { min = length_of sizes.min_h; pref = length_of sizes.pref_h; max = length_of sizes.max_h }
+
+-- lengths as they are where they are told in pixels
+abbrev pub in_pixels : Extent → Extent
+in_pixels e =
+    record { min = length_of (pixels e.min); pref = length_of (pixels e.pref); max = length_of (pixels e.max) }
 
 -- A node's widths: the horizontal half of its sizes, which is the same in every width.
 abbrev pub IsWide : NodeBox → List ChildSize → Extent → Type 0

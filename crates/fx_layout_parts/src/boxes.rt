@@ -1,12 +1,17 @@
 //! A node's box: the rule of its class, and the facts that it is asked with.
-ghost use Rattle.std.specs.Prelude.{◌≡◌, IfOk};
+ghost use Rattle.std.specs.Prelude.{◌≡◌, ◌≤◌, IfOk};
+ghost use Rattle.fx_kinds.specs.declared.facts.BoxFacts.{BoxFacts as Facts};
+ghost use Rattle.fx_insets.specs.Insets.{inset_on};
+ghost use Rattle.fx_panes_parts.specs.Axes.{IsPaneAxis, pane_axis};
+ghost use Rattle.fx_panes_parts.specs.Lengths.{length_of, pixels};
 ghost use Rattle.fx_layout_parts.specs.Boxes.{box_of, own_sizes, pane_facts};
 
 use crate::rules::{NodeBox, rule_of};
 use fx_base::{List, PaneFacts, Sizes, Track};
-use fx_insets::insets_of;
+use fx_insets::{Side, inset_on, insets_of};
 use fx_kinds::BoxFacts;
 use fx_look::Look;
+use fx_panes_parts::{Axis, OwnLengths, PaneAxis, length_of, pixels};
 use std::alloc::{AllocError, Global};
 
 /// The box of a node. Its text and its tracks are copied.
@@ -37,6 +42,66 @@ fn pane_facts(alloc: Global, node: &BoxFacts, look: &Look) -> Result<PaneFacts, 
         columns: copied(alloc, &node.columns)?,
         rows: copied(alloc, &node.rows)?,
     })
+}
+
+/// A node as a pane along an axis, which its look alone tells.
+#[tactic(auto, unfolding(fx_panes_parts::specs::Axes::pane_axis))]
+pub(crate) fn look_axis(axis: Axis, look: &Look) -> PaneAxis
+    ensures value { (node : Facts) → result ≡ pane_axis axis (pane_facts node look.now) }
+    ensures bounds { IsPaneAxis result }
+{
+    match axis {
+        Axis::Across => look_across(look),
+        Axis::Down => look_down(look),
+    }
+}
+
+#[tactic(auto, unfolding(fx_panes_parts::specs::Axes::pane_axis))]
+fn look_across(look: &Look) -> PaneAxis
+    ensures value { (node : Facts) → result ≡ pane_axis Axis.Across (pane_facts node look.now) }
+    ensures bounds { IsPaneAxis result }
+{
+    PaneAxis {
+        own: OwnLengths {
+            min: look.min_width,
+            pref: look.pref_width,
+            max: look.max_width,
+        },
+        before: inset(Side::Left, look),
+        after: inset(Side::Right, look),
+        alignment: look.alignment % 3,
+        spacing: length_of(look.spacing),
+        gap: length_of(look.hgap),
+        fill: look.fill_width,
+    }
+}
+
+#[tactic(auto, unfolding(fx_panes_parts::specs::Axes::pane_axis))]
+fn look_down(look: &Look) -> PaneAxis
+    ensures value { (node : Facts) → result ≡ pane_axis Axis.Down (pane_facts node look.now) }
+    ensures bounds { IsPaneAxis result }
+{
+    PaneAxis {
+        own: OwnLengths {
+            min: look.min_height,
+            pref: look.pref_height,
+            max: look.max_height,
+        },
+        before: inset(Side::Top, look),
+        after: inset(Side::Bottom, look),
+        alignment: look.alignment / 3,
+        spacing: length_of(look.spacing),
+        gap: length_of(look.vgap),
+        fill: look.fill_height,
+    }
+}
+
+/// The inset on a side as panes take it.
+fn inset(side: Side, look: &Look) -> u64
+    ensures value { result ≡ length_of (pixels (inset_on side look.now)) }
+    ensures most { result ≤ 100000 }
+{
+    length_of(pixels(inset_on(side, look)))
 }
 
 fn own_sizes(look: &Look) -> Sizes

@@ -13,11 +13,11 @@ use fx_panes_parts::{Extent, joined};
 pub fn child_of(pane: Rule, node: &BoxFacts, across: Extent, down: Extent) -> ChildSize
     ensures value { result ≡ child_of pane node.now across down }
 {
-    with_constraints(
-        pane,
-        node.constraints.as_slice(),
-        plain_child(node, across, down),
-    )
+    let said = node.constraints.as_slice();
+    if said.is_empty() {
+        return plain_child(node, across, down);
+    }
+    with_constraints(pane, said, plain_child(node, across, down))
 }
 
 fn with_constraints(pane: Rule, said: &[Constraint], child: ChildSize) -> ChildSize

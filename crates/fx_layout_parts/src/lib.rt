@@ -5,11 +5,13 @@
 mod boxes;
 mod children;
 mod constraints;
+mod leaves;
 mod rules;
 
 pub use boxes::box_of;
 pub use children::child_of;
+pub use leaves::{leaf_heights, leaf_widths};
 pub use rules::{
-    NodeBox, Rule, across_half, across_span, down_half, down_span, measure, measure_in, place,
-    rule_of,
+    NodeBox, Rule, across_half, across_span, down_half, down_span, is_pane, measure, measure_in,
+    place, rule_of,
 };

@@ -52,6 +52,17 @@ pub fn rule_of(class: Class) -> Rule
     }
 }
 
+/// Have a node's children places?
+pub fn is_pane(rule: Rule) -> bool
+    ensures { result ≡ spec.is_pane rule }
+{
+    match rule {
+        Rule::Region => false,
+        Rule::Control => false,
+        _ => true,
+    }
+}
+
 /// The sizes of a node over those of its children. A control has the heights of its preferred width.
 pub fn measure<L: Ledgers>(
     alloc: Global,

@@ -1,5 +1,5 @@
 -- What is read of marks, and what a search among them finds.
-use Rattle.std.proofs.Common.{refl, sym, subst, ap, ◌∙◌, ◌≡◌, ◌==◌, ◌&&◌, ◌||◌, ◌++◌, ℕ, zero, suc, ◌+◌, ◌-◌, ◌<◌, ◌≤◌, Bool, true, false, List, [], Option, None, Some, length, length-take, map, replicate, take, drop, get_or-take, get_or-drop, slice_index, slice_set, inl, inr, arith}
+use Rattle.std.proofs.Common.{refl, sym, subst, ap, ◌∙◌, ◌≡◌, ◌==◌, ◌&&◌, ◌||◌, ◌++◌, ℕ, zero, suc, ◌+◌, ◌-◌, ◌<◌, ◌≤◌, Bool, true, false, true≢false, List, [], Option, None, Some, length, length-take, map, replicate, take, drop, get_or-take, get_or-drop, slice_index, slice_set, inl, inr, arith}
 use Rattle.std.proofs.lemmas.Bool.{cases_lt, eqb-true, eqb-false}
 use Rattle.std.proofs.lemmas.List.{get_or-map, get_or-set_same, get_or-set_other, length-drop, length-map, map-set}
 use Rattle.std.proofs.Math.ListN.{get_or-eq_default}
@@ -120,3 +120,18 @@ set_marks bytes place p test passes within =
     by false differ =
         get_or-set_other (map is_set bytes) place p true false (λ same. eqb-false place p differ (sym same))
         ∙ (or_none (flag_in (map is_set bytes) p) ∙ ap (λ b. flag_in (map is_set bytes) p || (b && true)) (sym differ))
+
+-- what is marked is there
+pub marked_within : (flags : List Bool) (p : ℕ) → flag_in flags p ≡ true → p < length flags
+marked_within flags p is_marked = elim (cases_lt p (length flags)) [
+  | inl within ↦ within
+  | inr past ↦ absurd (true≢false (sym is_marked ∙ get_or-eq_default flags false past))
+]
+
+pub found_here : (flags : List Bool) (from : ℕ) → flag_in flags from ≡ true → IsFirstMark flags from (Some from)
+found_here flags from is_marked =
+    (omega arith, marked_within flags from is_marked, is_marked, λ q late early. absurd (omega (arith, late, early)))
+
+pub found_before : (flags : List Bool) (to : ℕ) → 0 < to → flag_in flags (to - 1) ≡ true → IsLastMark flags to (Some (to - 1))
+found_before flags to some is_marked =
+    (omega (arith, some), is_marked, λ q late early. absurd (omega (arith, late, early, some)))

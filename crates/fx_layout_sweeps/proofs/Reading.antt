@@ -5,8 +5,10 @@ use Rattle.fx_kinds.specs.declared.facts.BoxFacts.{BoxFacts}
 use Rattle.fx_look.specs.declared.looks.Look.{Look}
 use Rattle.fx_look.specs.Looks.{initial_look}
 use Rattle.fx_panes_parts.specs.declared.axes.Extent.{Extent}
+use Rattle.fx_layout_parts.specs.declared.rules.NodeBox.{NodeBox}
 use Rattle.fx_layout_parts.specs.declared.rules.Rule.{Rule}
 use Rattle.fx_layout_parts.specs.Boxes.{box_of}
+use Rattle.fx_layout_parts.specs.Rules.{is_pane, rule_of}
 use Rattle.fx_layout_parts.specs.Children.{child_of}
 use Rattle.fx_layout_sweeps.specs.Nodes.{box_at, child_at, extent_at, no_node, node_at}
 
@@ -18,6 +20,16 @@ box_read nodes looks p node look same within =
     ∙ ap (λ (l : Look). box_of (node_at nodes p) l)
     (get_or_default looks p look (initial_look 0) (subst (λ n. p < n) (sym same) within))
 
+-- what is said of a box that was read is said of the box at its place
+pub at_box : (P : NodeBox → Type 0) (nodes : List BoxFacts) (looks : List Look) (p : ℕ) (node : BoxFacts) (look : Look)
+    → length looks ≡ length nodes → p < length nodes → node ≡ slice_index_or nodes p node
+    → look ≡ slice_index_or looks p look → P (box_of node look) → P (box_at nodes looks p)
+at_box P nodes looks p node look same within is_node is_look said =
+    subst P
+    (ap (λ (n : BoxFacts). box_of n look) is_node
+    ∙ (ap (λ (l : Look). box_of (slice_index_or nodes p node) l) is_look ∙ box_read nodes looks p node look same within))
+    said
+
 pub child_read : (pane : Rule) (nodes : List BoxFacts) (widths heights : List Extent) (p : ℕ) (node : BoxFacts)
     → p < length nodes
     → child_of pane (slice_index_or nodes p node) (extent_at widths p) (extent_at heights p)
@@ -25,3 +37,8 @@ pub child_read : (pane : Rule) (nodes : List BoxFacts) (widths heights : List Ex
 child_read pane nodes widths heights p node within =
     ap (λ (n : BoxFacts). child_of pane n (extent_at widths p) (extent_at heights p))
     (get_or_default nodes p node no_node within)
+
+pub pane_read : (nodes : List BoxFacts) (p : ℕ) (node : BoxFacts) → p < length nodes
+    → is_pane (rule_of (slice_index_or nodes p node).class) ≡ is_pane (rule_of (node_at nodes p).class)
+pane_read nodes p node within =
+    ap (λ (n : BoxFacts). is_pane (rule_of n.class)) (get_or_default nodes p node no_node within)

@@ -1,5 +1,5 @@
 -- Spans that are put at places, and one turn of placing from the root.
-use Rattle.std.proofs.Common.{refl, sym, subst, ap, ◌∙◌, ◌≡◌, ◌≢◌, ◌==◌, ℕ, ◌+◌, ◌<◌, ◌≤◌, Bool, true, false, not, ◌||◌, nat_eq, All, AllPairs, List, length, map, slice_index_or, slice_set, zero-add, arith}
+use Rattle.std.proofs.Common.{refl, sym, subst, ap, ◌∙◌, ◌≡◌, ◌≢◌, ◌==◌, ℕ, ◌+◌, ◌<◌, ◌≤◌, Bool, true, false, true≢false, not, ◌||◌, nat_eq, All, AllPairs, List, [], length, map, slice_index_or, slice_set, zero-add, arith}
 use Rattle.std.proofs.lemmas.List.{ext_get_or, get_or-map, get_or_default, get_or-set_same, get_or-set_other, length-map, length-set}
 use Rattle.std.proofs.Math.ListN.{get_or-eq_default}
 use Rattle.std.proofs.lemmas.Bool.{eqb-true, eqb-false}
@@ -13,7 +13,10 @@ use Rattle.fx_look.specs.declared.looks.Look.{Look}
 use Rattle.fx_panes_parts.specs.declared.axes.Axis.TheVariants.{Across, Down}
 use Rattle.fx_panes_parts.specs.declared.axes.Extent.{Extent}
 use Rattle.fx_layout_parts.specs.declared.rules.NodeBox.{NodeBox}
-use Rattle.fx_layout_parts.specs.Rules.{across_span, down_span, rects_in}
+use Rattle.fx_layout_parts.specs.declared.rules.Rule.{Rule}
+use Rattle.fx_layout_parts.specs.declared.rules.Rule.TheVariants as rule
+use Rattle.fx_layout_parts.specs.Rules.{across_span, down_span, is_pane, rects_by, rects_in}
+use Rattle.fx_base.specs.declared.facts.PaneFacts.{PaneFacts}
 use Rattle.std.proofs.lemmas.List.FromFn.{get_or-map-range_with_len, length-map-range_with_len}
 use Rattle.fx_layout_sweeps.specs.Nodes.{nowhere, places_at, span_at}
 use Rattle.fx_layout_sweeps.specs.Marks.{flag_in}
@@ -87,6 +90,29 @@ put_all places found old now i done so_far =
       put = λ k d within. so_far.put k d (omega (arith, within, done)) within;
       other = λ q apart. so_far.other q (λ k d early within. apart k d within);
     }
+
+no_rects : (r : Rule) (facts : PaneFacts) (children : List ChildSize) (w h : ℕ) → is_pane r ≡ false
+    → rects_by r facts children w h ≡ []
+unfolding rects_by
+no_rects rule.Region facts children w h none = refl
+no_rects rule.Control facts children w h none = refl
+no_rects rule.Free facts children w h none = absurd (true≢false none)
+no_rects rule.HBox facts children w h none = absurd (true≢false none)
+no_rects rule.VBox facts children w h none = absurd (true≢false none)
+no_rects rule.Border facts children w h none = absurd (true≢false none)
+no_rects rule.Stack facts children w h none = absurd (true≢false none)
+no_rects rule.Anchor facts children w h none = absurd (true≢false none)
+no_rects rule.Grid facts children w h none = absurd (true≢false none)
+
+-- what is no pane has no children to place
+pub no_halves : (axis : Axis) (node : NodeBox) (children : List ChildSize) (room : ℕ) (rects : List Rect)
+    → is_pane node.rule ≡ false → rects ≡ [] → map (half axis) rects ≡ spans_along axis node children room
+no_halves Across node children room rects none empty =
+    ap (λ (l : List Rect). map across_span l)
+    (empty ∙ sym (no_rects node.rule node.facts children (held_length room) 0 none))
+no_halves Down node children room rects none empty =
+    ap (λ (l : List Rect). map down_span l)
+    (empty ∙ sym (no_rects node.rule node.facts children 0 (held_length room) none))
 
 pub halves_across : (axis : Axis) (node : NodeBox) (children : List ChildSize) (room : ℕ) (rects : List Rect)
     → axis ≡ Across → rects ≡ rects_in node children (held_length room) 0

@@ -1,6 +1,6 @@
 //! Marks of places. A search for the nearest mark looks at many places at once, so that places which aren't marked cost
 //! next to nothing.
-ghost use Rattle.std.specs.Prelude.{ℕ, ◌≡◌, ◌<◌, ◌≤◌, ◌==◌, ◌||◌, ◌&&◌, false, IfOk, drop, length, slice_set, take};
+ghost use Rattle.std.specs.Prelude.{ℕ, ◌≡◌, ◌<◌, ◌≤◌, ◌-◌, ◌==◌, ◌||◌, ◌&&◌, false, true, IfOk, drop, length, slice_set, take};
 ghost use Rattle.fx_layout_sweeps.specs.Marks.{IsFirstMark, IsLastMark, flag_in, is_set};
 
 use memchr::{memchr, memrchr};
@@ -47,6 +47,14 @@ impl Marks {
         }
     }
 
+    /// Is there a place just before this one, and is it marked?
+    fn is_marked_before(&self, to: usize) -> bool
+        ensures some { result ≡ true → 0 < to }
+        ensures marked { result ≡ true → flag_in self.now (to - 1) ≡ true }
+    {
+        to > 0 && self.is_marked(to - 1)
+    }
+
     /// Sets the mark of a place or takes it away.
     pub fn put(&mut self, place: usize, is_marked: bool)
         requires { place < length self.old }
@@ -70,6 +78,9 @@ impl Marks {
     pub fn first_from(&self, from: usize) -> Option<usize>
         ensures { IsFirstMark self.now from result }
     {
+        if self.is_marked(from) {
+            return Some(from);
+        }
         if from >= self.bytes.len() {
             return None;
         }
@@ -83,6 +94,9 @@ impl Marks {
     pub fn last_before(&self, to: usize) -> Option<usize>
         ensures { IsLastMark self.now to result }
     {
+        if self.is_marked_before(to) {
+            return Some(to - 1);
+        }
         memrchr(SET, first_bytes(self.bytes.as_slice(), to))
     }
 }

@@ -7,7 +7,7 @@ ghost use Rattle.fx_layout_parts.specs.Rules.{IsHigh, IsWide};
 
 use crate::lengths::span_at;
 use crate::marks::Marks;
-use crate::nodes::{box_in, children_in, seen};
+use crate::nodes::{box_in, children_in, leaf_heights_in, leaf_widths_in, seen};
 use crate::places::Places;
 use fx_base::{Ledgers, Work};
 use fx_kinds::BoxFacts;
@@ -82,8 +82,34 @@ fn measured<L: Ledgers>(
     }
 }
 
-#[tactic(auto, using(crate::proofs::Asking::asked))]
 fn widths_of<L: Ledgers>(
+    alloc: Global,
+    sweep: Measuring<'_>,
+    place: usize,
+    widths: &[Extent],
+    work: &mut Work<L>,
+) -> Result<Extent, AllocError>
+    requires looks { length sweep.looks.now ≡ length sweep.nodes.now }
+    requires nodes { AreNodes sweep.nodes.now }
+    requires children { sweep.children.now ≡ children_lists (parents sweep.nodes.now) }
+    requires place { place < length sweep.nodes.now }
+    ensures lengths { IfOk result (IsWide (box_at sweep.entry.nodes.now sweep.entry.looks.now place)
+        (seen (box_at sweep.entry.nodes.now sweep.entry.looks.now place).rule
+        sweep.entry.nodes.now widths.now [] (places_at sweep.entry.children.now place))) }
+    ensures work { OnOk result (work.new ≡ record work.old { laid = work.old.laid + 1 }) }
+{
+    match leaf_widths_in(sweep.nodes, sweep.looks, place) {
+        Some(lengths) => {
+            work.laid.tick();
+            Ok(lengths)
+        }
+        None => pane_widths(alloc, sweep, place, widths, work),
+    }
+}
+
+/// The widths of a node by its pane over those of its children.
+#[tactic(auto, using(crate::proofs::Asking::asked))]
+fn pane_widths<L: Ledgers>(
     alloc: Global,
     sweep: Measuring<'_>,
     place: usize,
@@ -106,8 +132,35 @@ fn widths_of<L: Ledgers>(
     Ok(across_half(sizes))
 }
 
-#[tactic(auto, using(crate::proofs::Asking::asked))]
 fn heights_of<L: Ledgers>(
+    alloc: Global,
+    sweep: Measuring<'_>,
+    place: usize,
+    heights: &[Extent],
+    work: &mut Work<L>,
+) -> Result<Extent, AllocError>
+    requires looks { length sweep.looks.now ≡ length sweep.nodes.now }
+    requires nodes { AreNodes sweep.nodes.now }
+    requires children { sweep.children.now ≡ children_lists (parents sweep.nodes.now) }
+    requires place { place < length sweep.nodes.now }
+    ensures lengths { IfOk result (IsHigh (box_at sweep.entry.nodes.now sweep.entry.looks.now place)
+        (seen (box_at sweep.entry.nodes.now sweep.entry.looks.now place).rule sweep.entry.nodes.now
+        sweep.entry.widths.now heights.now (places_at sweep.entry.children.now place))
+        (held_length (span_at sweep.entry.spans.now place).length)) }
+    ensures work { OnOk result (work.new ≡ record work.old { laid = work.old.laid + 1 }) }
+{
+    match leaf_heights_in(sweep.nodes, sweep.looks, place) {
+        Some(lengths) => {
+            work.laid.tick();
+            Ok(lengths)
+        }
+        None => pane_heights(alloc, sweep, place, heights, work),
+    }
+}
+
+/// The heights of a node in its width, by its pane over those of its children.
+#[tactic(auto, using(crate::proofs::Asking::asked))]
+fn pane_heights<L: Ledgers>(
     alloc: Global,
     sweep: Measuring<'_>,
     place: usize,

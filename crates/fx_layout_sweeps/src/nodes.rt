@@ -1,12 +1,16 @@
 //! Nodes as the sweeps look at them.
-ghost use Rattle.std.specs.Prelude.{◌≡◌, ◌≢◌, ◌<◌, All, AllPairs, IfOk, length, map};
-ghost use Rattle.fx_layout_sweeps.specs.Nodes.{AreNodes, box_at, child_at, children_lists, parents, places_at, seen};
+ghost use Rattle.std.specs.Prelude.{◌≡◌, ◌≢◌, ◌<◌, ℕ, All, AllPairs, IfOk, IfSome, List, length, map};
+ghost use Rattle.fx_base.specs.declared.facts.ChildSize.{ChildSize as Child};
+ghost use Rattle.fx_layout_parts.specs.Rules.{IsHigh, IsWide, is_pane, rule_of};
+ghost use Rattle.fx_layout_sweeps.specs.Nodes.{AreNodes, box_at, child_at, children_lists, node_at, parents, places_at, seen};
 
 use crate::lengths::extent_at;
 use crate::places::Places;
 use fx_base::ChildSize;
 use fx_kinds::BoxFacts;
-use fx_layout_parts::{NodeBox, Rule, box_of, child_of};
+use fx_layout_parts::{
+    NodeBox, Rule, box_of, child_of, is_pane, leaf_heights, leaf_widths, rule_of,
+};
 use fx_look::Look;
 use fx_panes_parts::Extent;
 use std::alloc::{AllocError, Global};
@@ -24,6 +28,35 @@ pub fn box_in(
     ensures { IfOk result (λ made. made ≡ box_at nodes.now looks.now place) }
 {
     box_of(alloc, &nodes[place], &looks[place])
+}
+
+/// The widths of the node at this place, if it needs nothing of its children.
+pub fn leaf_widths_in(nodes: &[BoxFacts], looks: &[Look], place: usize) -> Option<Extent>
+    requires looks { length looks.now ≡ length nodes.now }
+    requires place { place < length nodes.now }
+    ensures { IfSome result (λ widths. (children : List Child)
+        → IsWide (box_at nodes.now looks.now place) children widths) }
+{
+    leaf_widths(&nodes[place], &looks[place])
+}
+
+/// The heights of the node at this place, if it needs nothing of its children.
+pub fn leaf_heights_in(nodes: &[BoxFacts], looks: &[Look], place: usize) -> Option<Extent>
+    requires looks { length looks.now ≡ length nodes.now }
+    requires place { place < length nodes.now }
+    ensures { IfSome result (λ heights. (children : List Child) (w : ℕ)
+        → IsHigh (box_at nodes.now looks.now place) children w heights) }
+{
+    leaf_heights(&nodes[place], &looks[place])
+}
+
+/// Have the children of the node at this place places?
+#[tactic(auto, using(crate::proofs::Reading::pane_read))]
+pub fn is_pane_at(nodes: &[BoxFacts], place: usize) -> bool
+    requires { place < length nodes.now }
+    ensures { result ≡ is_pane (rule_of (node_at nodes.now place).class) }
+{
+    is_pane(rule_of(nodes[place].class))
 }
 
 /// The places of a node's children.

@@ -7,7 +7,7 @@ ghost use Rattle.fx_layout_sweeps.specs.Sweeps.{ArePlaced, IsPut, half, held_len
 
 use crate::lengths::{NOWHERE, span_at};
 use crate::marks::Marks;
-use crate::nodes::{box_in, children_in, seen};
+use crate::nodes::{box_in, children_in, is_pane_at, seen};
 use crate::places::Places;
 use fx_base::{Ledgers, Rect, Work};
 use fx_kinds::BoxFacts;
@@ -128,7 +128,7 @@ fn rects_down<L: Ledgers>(
     place(alloc, &node, children.as_slice(), 0, pixels(height), work)
 }
 
-/// The rectangles of the children of a node that is so long along the axis.
+/// The rectangles of the children of a node that is so long along the axis. What is no pane isn't asked.
 pub(crate) fn rects_of<L: Ledgers>(
     alloc: Global,
     sweep: Placing<'_>,
@@ -146,6 +146,10 @@ pub(crate) fn rects_of<L: Ledgers>(
         sweep.entry.widths.now sweep.entry.heights.now (places_at sweep.entry.children.now at)) room) }
     ensures work { OnOk result (work.new ≡ record work.old { laid = work.old.laid + 1 }) }
 {
+    if !is_pane_at(sweep.nodes, at) {
+        work.laid.tick();
+        return Ok(Vec::new(alloc));
+    }
     match sweep.axis {
         Axis::Across => rects_across(alloc, sweep, at, room, work),
         Axis::Down => rects_down(alloc, sweep, at, room, work),

@@ -1,7 +1,10 @@
-use Rattle.std.proofs.Common.{Bool, List, None, Some, subst, arith, ◌+◌}
+use Rattle.std.proofs.Common.{Bool, List, None, Some, subst, sym, arith, ◌+◌, ◌∙◌}
 use Rattle.fx_layout_sweeps.specs.Marks.{IsFirstMark}
-use Rattle.fx_layout_sweeps.proofs.Marking.{first_found, first_missed}
+use Rattle.fx_layout_sweeps.proofs.Marking.{first_found, first_missed, found_here}
 use Rattle.fx_layout_sweeps.proofs.marks.Marks.first_from.Goals as goal
+
+pub returns-then-is_marked : goal.returns-then-is_marked
+returns-then-is_marked c = found_here c.args.self.now c.args.from (sym c.is_marked.ensures ∙ c.if-is_marked.true)
 
 pub returns-in-Some : goal.returns-in-Some
 returns-in-Some c =

@@ -1,7 +1,12 @@
 use Rattle.std.proofs.Common.{Bool, List, subst}
 use Rattle.fx_layout_sweeps.specs.Marks.{IsLastMark}
-use Rattle.fx_layout_sweeps.proofs.Marking.{last_found}
+use Rattle.fx_layout_sweeps.proofs.Marking.{found_before, last_found}
 use Rattle.fx_layout_sweeps.proofs.marks.Marks.last_before.Goals as goal
+
+pub returns-then-is_marked_before : goal.returns-then-is_marked_before
+returns-then-is_marked_before c =
+    found_before c.args.self.now c.args.to (c.is_marked_before.ensures.some c.if-is_marked_before.true)
+    (c.is_marked_before.ensures.marked c.if-is_marked_before.true)
 
 pub returns : goal.returns
 returns c =

@@ -4,6 +4,7 @@ ghost use Rattle.std.specs.Prelude.{◌≡◌, Err, OnOk, Result as Answer};
 ghost use Rattle.fx_act.specs.Lines.{IsEventLine};
 ghost use Rattle.fx_event_lines.specs.Started.{Started};
 ghost use Rattle.fx_event_lines.specs.Starting.{IsStarted as HasStarted, started};
+ghost use Rattle.fx_plain_dispatch.specs.Costs.{IsDoneWithin};
 ghost use Rattle.fx_plain_dispatch.specs.Taking.{IsActed, IsLine, IsStarted};
 ghost use Rattle.fx_plain_steps.specs.Courses.{begun};
 ghost use Rattle.fx_play_steps.specs.Traces.{course_of};
@@ -33,7 +34,9 @@ pub fn act<L: Ledgers>(
     trace: &mut Trace,
     work: &mut Work<L>,
 ) -> Result<(), AllocError>
-    ensures line { OnOk result (IsLine picture.now.entries (line_view line) stage.old (course_of stage.new trace.new)) }
+    ensures line { OnOk result (IsDoneWithin (IsLine picture.now.entries (line_view line) stage.old
+        (course_of stage.new trace.new))
+        work.old.evaluated work.new.evaluated) }
     ensures others { work.new ≡ record work.old { evaluated = work.new.evaluated } }
 {
     let number = number_of(&line);
@@ -52,8 +55,9 @@ fn take<L: Ledgers>(
     work: &mut Work<L>,
 ) -> Result<(), AllocError>
     requires { (world : World) → course_of world trace.old ≡ begun world }
-    ensures done { OnOk result (IsActed picture.now.entries (line_view line) (line_view line).request stage.old
-        (course_of stage.new trace.new)) }
+    ensures done { OnOk result (IsDoneWithin (IsActed picture.now.entries (line_view line)
+        (line_view line).request stage.old (course_of stage.new trace.new))
+        work.old.evaluated work.new.evaluated) }
     ensures others { work.new ≡ record work.old { evaluated = work.new.evaluated } }
 {
     if let Some(instruction) = event_line(&line) {
@@ -89,8 +93,9 @@ fn take_event_line<L: Ledgers>(
     work: &mut Work<L>,
 ) -> Result<(), AllocError>
     requires { (world : World) → course_of world trace.old ≡ begun world }
-    ensures done { OnOk result (IsStarted number (started picture.now.entries instruction.now stage.old) stage.old
-        (course_of stage.new trace.new)) }
+    ensures done { OnOk result (IsDoneWithin (IsStarted number
+        (started picture.now.entries instruction.now stage.old) stage.old (course_of stage.new trace.new))
+        work.old.evaluated work.new.evaluated) }
     ensures others { work.new ≡ record work.old { evaluated = work.new.evaluated } }
 {
     match start(alloc, stage, picture, instruction) {
@@ -109,7 +114,7 @@ fn print_error(
 ) -> Result<(), AllocError>
     requires { (world : World) → course_of world trace.old ≡ begun world }
     ensures { (starts : Answer Started Word) (before : World) → HasStarted starts before stage.now (Err error)
-        → OnOk result (IsStarted number starts before (course_of stage.now trace.new)) }
+        → OnOk result (IsStarted number starts before (course_of stage.now trace.new) 0) }
 {
     let _stage = stage;
     match error {

@@ -1,8 +1,11 @@
 //! Actions, line by line.
-ghost use Rattle.std.specs.Prelude.{◌≡◌, IfOk, OnOk, map, ℕ};
+ghost use Rattle.std.specs.Prelude.{◌≡◌, ◌≤◌, ◌+◌, IfOk, OnOk, map, ℕ};
+ghost use Rattle.fx_plain_dispatch.specs.Costs.{IsDoneWithin};
 ghost use Rattle.fx_plain_dispatch.specs.Running.{AreCalled, AreRun, behind, lines_of};
 ghost use Rattle.fx_play_steps.specs.Traces.{course_of};
 ghost use Rattle.fx_script_commands.specs.Requests.{line_view};
+ghost use Rattle.fx_stage_model.specs.Answers.{cost_of};
+ghost use Rattle.fx_stage_model.specs.Lines.{taken};
 ghost use Rattle.fx_stage_model.specs.Running.{action_in};
 
 use fx_base::{Ledgers, Text, Work};
@@ -19,8 +22,9 @@ pub(crate) fn run_lines<L: Ledgers>(
     trace: &mut Trace,
     work: &mut Work<L>,
 ) -> Result<(), AllocError>
-    ensures done { OnOk result (AreRun (map line_view lines.now) (course_of stage.old trace.old)
-        (course_of stage.new trace.new)) }
+    ensures done { OnOk result (IsDoneWithin (AreRun (map line_view lines.now)
+        (course_of stage.old trace.old) (course_of stage.new trace.new))
+        work.old.evaluated work.new.evaluated) }
     ensures others { work.new ≡ record work.old { evaluated = work.new.evaluated } }
 {
     for line in lines {
@@ -38,6 +42,8 @@ fn run_line<L: Ledgers>(
 ) -> Result<(), AllocError>
     ensures done { (slot : ℕ) × OnOk result (course_of stage.new trace.new
         ≡ behind slot (line_view line.now) (course_of stage.old trace.old)) }
+    ensures few { (slot : ℕ) → work.new.evaluated
+        ≤ work.old.evaluated + cost_of (taken slot (line_view line.now).request stage.old) }
     ensures others { work.new ≡ record work.old { evaluated = work.new.evaluated } }
 {
     take_inner(alloc, stage, line, trace, work)?;
@@ -54,7 +60,9 @@ pub(crate) fn call_all<L: Ledgers>(
     trace: &mut Trace,
     work: &mut Work<L>,
 ) -> Result<(), AllocError>
-    ensures done { OnOk result (AreCalled names.now (course_of stage.old trace.old) (course_of stage.new trace.new)) }
+    ensures done { OnOk result (IsDoneWithin (AreCalled names.now
+        (course_of stage.old trace.old) (course_of stage.new trace.new))
+        work.old.evaluated work.new.evaluated) }
     ensures others { work.new ≡ record work.old { evaluated = work.new.evaluated } }
 {
     for name in names {
@@ -70,8 +78,9 @@ fn call<L: Ledgers>(
     trace: &mut Trace,
     work: &mut Work<L>,
 ) -> Result<(), AllocError>
-    ensures done { OnOk result (AreRun (lines_of stage.old name.now) (course_of stage.old trace.old)
-        (course_of stage.new trace.new)) }
+    ensures done { OnOk result (IsDoneWithin (AreRun (lines_of stage.old name.now)
+        (course_of stage.old trace.old) (course_of stage.new trace.new))
+        work.old.evaluated work.new.evaluated) }
     ensures others { work.new ≡ record work.old { evaluated = work.new.evaluated } }
 {
     match action_named(stage, name)? {

@@ -3,6 +3,7 @@ ghost use Rattle.std.specs.Prelude.{◌≡◌, ◌&&◌, OnOk, map};
 ghost use Rattle.fx_events.specs.Events.{is_same_type};
 ghost use Rattle.fx_events.specs.Routes.{route_of};
 ghost use Rattle.fx_events.specs.declared.kinds.EventKind.TheVariants.{Action};
+ghost use Rattle.fx_plain_dispatch.specs.Costs.{IsDoneWithin};
 ghost use Rattle.fx_plain_dispatch.specs.Running.{AreCalled};
 ghost use Rattle.fx_plain_dispatch.specs.Sending.{ArePassed, AreSent, calls_at, is_passed_over, passes_of, sent_off, there_and_back};
 ghost use Rattle.fx_play_steps.specs.Traces.{course_of};
@@ -24,7 +25,9 @@ pub(crate) fn send_all<L: Ledgers>(
     trace: &mut Trace,
     work: &mut Work<L>,
 ) -> Result<(), AllocError>
-    ensures done { OnOk result (AreSent events.now (course_of stage.old trace.old) (course_of stage.new trace.new)) }
+    ensures done { OnOk result (IsDoneWithin (AreSent events.now
+        (course_of stage.old trace.old) (course_of stage.new trace.new))
+        work.old.evaluated work.new.evaluated) }
     ensures others { work.new ≡ record work.old { evaluated = work.new.evaluated } }
 {
     for event in events {
@@ -40,8 +43,9 @@ fn send<L: Ledgers>(
     trace: &mut Trace,
     work: &mut Work<L>,
 ) -> Result<(), AllocError>
-    ensures done { OnOk result (ArePassed event.on (passes_of event (course_of stage.old trace.old))
-        (sent_off event (course_of stage.old trace.old)) (course_of stage.new trace.new)) }
+    ensures done { OnOk result (IsDoneWithin (ArePassed event.on (passes_of event (course_of stage.old trace.old))
+        (sent_off event (course_of stage.old trace.old)) (course_of stage.new trace.new))
+        work.old.evaluated work.new.evaluated) }
     ensures others { work.new ≡ record work.old { evaluated = work.new.evaluated } }
 {
     let left_out = is_left_out(event, trace);
@@ -67,9 +71,10 @@ fn go_along<L: Ledgers>(
     trace: &mut Trace,
     work: &mut Work<L>,
 ) -> Result<(), AllocError>
-    ensures done { OnOk result (ArePassed event.on
+    ensures done { OnOk result (IsDoneWithin (ArePassed event.on
         (there_and_back (route_of stage.old.graph.tree.nodes event.on event.target))
-        (course_of stage.old trace.old) (course_of stage.new trace.new)) }
+        (course_of stage.old trace.old) (course_of stage.new trace.new))
+        work.old.evaluated work.new.evaluated) }
     ensures others { work.new ≡ record work.old { evaluated = work.new.evaluated } }
 {
     let mut nodes = route(alloc, stage.graph().tree(), event.on, event.target)?;
@@ -104,8 +109,9 @@ fn pass_all<L: Ledgers>(
     trace: &mut Trace,
     work: &mut Work<L>,
 ) -> Result<(), AllocError>
-    ensures done { OnOk result (ArePassed on (map (λ key. (phase, key)) nodes.now)
-        (course_of stage.old trace.old) (course_of stage.new trace.new)) }
+    ensures done { OnOk result (IsDoneWithin (ArePassed on (map (λ key. (phase, key)) nodes.now)
+        (course_of stage.old trace.old) (course_of stage.new trace.new))
+        work.old.evaluated work.new.evaluated) }
     ensures others { work.new ≡ record work.old { evaluated = work.new.evaluated } }
 {
     for key in nodes {
@@ -124,8 +130,9 @@ fn pass_by<L: Ledgers>(
     trace: &mut Trace,
     work: &mut Work<L>,
 ) -> Result<(), AllocError>
-    ensures done { OnOk result (AreCalled (calls_at on (phase, key) (course_of stage.old trace.old))
-        (course_of stage.old trace.old) (course_of stage.new trace.new)) }
+    ensures done { OnOk result (IsDoneWithin (AreCalled (calls_at on (phase, key) (course_of stage.old trace.old))
+        (course_of stage.old trace.old) (course_of stage.new trace.new))
+        work.old.evaluated work.new.evaluated) }
     ensures others { work.new ≡ record work.old { evaluated = work.new.evaluated } }
 {
     if is_passed_over(stage, key, trace) {

@@ -1,6 +1,7 @@
 //! Listeners that were told while a line was taken, and the actions that they run behind it.
 ghost use Rattle.std.specs.Prelude.{◌≡◌, ◌<◌, IfOk, IfSome, OnOk, drop, length};
 ghost use Rattle.std.specs.Option.{option_map};
+ghost use Rattle.fx_plain_dispatch.specs.Costs.{IsDoneWithin};
 ghost use Rattle.fx_plain_dispatch.specs.Settling.{IsSettled, IsSettledWhole, first_run};
 ghost use Rattle.fx_play_steps.specs.Traces.{course_of};
 
@@ -27,8 +28,9 @@ pub fn settle<L: Ledgers>(
     trace: &mut Trace,
     work: &mut Work<L>,
 ) -> Result<(), AllocError>
-    ensures settled { OnOk result (IsSettledWhole number (course_of stage.old trace.old)
-        (course_of stage.new trace.new)) }
+    ensures settled { OnOk result (IsDoneWithin (IsSettledWhole number
+        (course_of stage.old trace.old) (course_of stage.new trace.new))
+        work.old.evaluated work.new.evaluated) }
     ensures others { work.new ≡ record work.old { evaluated = work.new.evaluated } }
 {
     let mut place = 0;
@@ -52,7 +54,8 @@ fn end_runs(
     place: usize,
     trace: &mut Trace,
 ) -> Result<(), AllocError>
-    ensures { OnOk result (IsSettled number 0 place (course_of stage.now trace.old) (course_of stage.now trace.new)) }
+    ensures { OnOk result (IsSettled number 0 place (course_of stage.now trace.old)
+        (course_of stage.now trace.new) 0) }
 {
     if next_run(stage, trace.heard.as_slice(), place)?.is_some() {
         return print_overrun(alloc, &mut trace.text, number);

@@ -26,33 +26,34 @@ abbrev IsLast : Option Framed → Type 0
 IsLast last = IfSome last IsDrawable
 
 -- a line that draws no frame keeps the last one
-by_other : (form : Form) (line : Numbered) (before now : Game) (told : Told) (timed : Option Instruction)
-    (asked : Option (List (List ℕ) × List ℕ)) → IsToldOf timed asked line before now told → IsLast before.last
+by_other : (form : Form) (line : Numbered) (before now : Game) (told : Told) (cost : ℕ) (timed : Option Instruction)
+    (asked : Option (List (List ℕ) × List ℕ)) → IsToldOf timed asked line before now told cost → IsLast before.last
     → IsLast now.last
-by_other form line before now told (Some instruction) asked s last =
+by_other form line before now told cost (Some instruction) asked s last =
     subst IsLast (sym (ap (λ (g : Game). g.last) s.after)) last
-by_other form line before now told None (Some asked) s last =
+by_other form line before now told cost None (Some asked) s last =
     subst IsLast (sym (ap (λ (g : Game). g.last) s.after)) last
-by_other form line before now told None None s last =
+by_other form line before now told cost None None s last =
     subst IsLast (sym (ap (λ (g : Game). g.last) s.after)) last
 
-by_line : (form : Form) (line : Numbered) (before now : Game) (told : Told) (pulse : Bool)
-    → IsToldBy pulse form line before now told → IsLast before.last → IsLast now.last
-by_line form line before now told true s last =
+by_line : (form : Form) (line : Numbered) (before now : Game) (told : Told) (cost : ℕ) (pulse : Bool)
+    → IsToldBy pulse form line before now told cost → IsLast before.last → IsLast now.last
+by_line form line before now told cost true s last =
     subst IsLast (sym (ap (λ (g : Game). g.last) s.after ∙ s.made.drawn.last_one)) s.made.drawn.drawable
-by_line form line before now told false s last =
-    by_other form line before now told (time_line line.request) (explained_by line.request) s last
+by_line form line before now told cost false s last =
+    by_other form line before now told cost (time_line line.request) (explained_by line.request) s last
 
-line_drawn : (form : Form) (line : Numbered) (before now : Game) (told : Told) → IsTold form line before now told
+line_drawn : (form : Form) (line : Numbered) (before now : Game) (told : Told) (cost : ℕ)
+    → IsTold form line before now told cost
     → IsLast before.last → IsLast now.last
-line_drawn form line before now told s last = by_line form line before now told (is_pulse line.request) s last
+line_drawn form line before now told cost s last = by_line form line before now told cost (is_pulse line.request) s last
 
 pub played_drawn : (form : Form) (first : Game) (lines : List Numbered) (tolds : List Told)
     → IsPlayed form first lines tolds → IsLast first.last → IsPlayedDrawn form first lines tolds
 played_drawn form first lines tolds (no_line game) last = none_played first
-played_drawn form first lines tolds (one_line game next line rest told others one more) last =
-    let behind : IsLast next.last = line_drawn form line game next told one last in
-    one_played game next line rest told others one behind (played_drawn form next rest others more behind)
+played_drawn form first lines tolds (one_line game next line rest told others cost one more) last =
+    let behind : IsLast next.last = line_drawn form line game next told cost one last in
+    one_played game next line rest told others cost one behind (played_drawn form next rest others more behind)
 
 -- a run over files, whatever it tells
 pub streams_are_shown : SameOutside → ViewersShow → (run : Run) (files : Files) (loaded : Loaded) (manner : Manner)

@@ -32,23 +32,27 @@ record Tells (form : Form) (line : Numbered) (before now : Game) (told : Told) :
   same : told ≡ told_in form before.frames before.last telling
 
 -- a frame
-framed : (form : Form) (line : Numbered) (before now : Game) (told : Told) → is_pulse line.request ≡ true
-    → IsShown form line.number before now told → Tells form line before now told
-framed form line before now told pulse s =
+framed : (form : Form) (line : Numbered) (before now : Game) (told : Told) (cost : ℕ) → is_pulse line.request ≡ true
+    → IsShown form line.number before now told cost → Tells form line before now told
+framed form line before now told cost pulse s =
     record {
       telling = telling;
       tells = record {
+        cost = cost;
         told = λ other.
-            subst (λ (t : Bool). IsToldBy t other line before now (told_in other before.frames before.last telling))
+            subst (λ (t : Bool). IsToldBy t other line before now (told_in other before.frames before.last telling) cost)
             (sym pulse)
             (record {
               pulsed = s.pulsed;
               drawn = s.drawn;
+              own = s.own;
               made = s.made;
               course = s.course;
+              further = s.further;
               settled = s.settled;
               after = s.after;
               told_so = sym (in_each other);
+              sum = s.sum;
             });
         number = ap (λ (game : Game). game.frames) s.after ∙ s.made.count;
         last = ap (λ (game : Game). game.last) s.after ∙ s.made.drawn.last_one;
@@ -72,39 +76,41 @@ framed form line before now told pulse s =
         }) s.made.count s.made.drawn.damage
 
 -- no frame
-pub still : (line : Numbered) (before now : Game) (told : Told) (instruction : Option Instruction)
-    (asked : Option (List (List ℕ) × List ℕ)) → IsToldOf instruction asked line before now told
+pub still : (line : Numbered) (before now : Game) (told : Told) (cost : ℕ) (instruction : Option Instruction)
+    (asked : Option (List (List ℕ) × List ℕ)) → IsToldOf instruction asked line before now told cost
     → (now.frames ≡ before.frames) × (now.last ≡ before.last)
-still line before now told (Some instruction) asked s =
+still line before now told cost (Some instruction) asked s =
     (ap (λ (game : Game). game.frames) s.after, ap (λ (game : Game). game.last) s.after)
-still line before now told None (Some asked) s =
+still line before now told cost None (Some asked) s =
     (ap (λ (game : Game). game.frames) s.after, ap (λ (game : Game). game.last) s.after)
-still line before now told None None s =
+still line before now told cost None None s =
     (ap (λ (game : Game). game.frames) s.after, ap (λ (game : Game). game.last) s.after)
 
-unframed : (form : Form) (line : Numbered) (before now : Game) (told : Told) → is_pulse line.request ≡ false
-    → IsToldOf (time_line line.request) (explained_by line.request) line before now told
+unframed : (form : Form) (line : Numbered) (before now : Game) (told : Told) (cost : ℕ) → is_pulse line.request ≡ false
+    → IsToldOf (time_line line.request) (explained_by line.request) line before now told cost
     → Tells form line before now told
-unframed form line before now told pulse s =
-    let as_before = still line before now told (time_line line.request) (explained_by line.request) s in
+unframed form line before now told cost pulse s =
+    let as_before = still line before now told cost (time_line line.request) (explained_by line.request) s in
     record {
       telling = record { frame = None; text = told.text; totals = told.totals };
       tells = record {
-        told = λ other. subst (λ (t : Bool). IsToldBy t other line before now told) (sym pulse) s;
+        cost = cost;
+        told = λ other. subst (λ (t : Bool). IsToldBy t other line before now told cost) (sym pulse) s;
         number = as_before.0;
         last = as_before.1;
       };
       same = refl;
     }
 
-tells : (form : Form) (line : Numbered) (before now : Game) (told : Told) → IsTold form line before now told
+tells : (form : Form) (line : Numbered) (before now : Game) (told : Told) (cost : ℕ)
+    → IsTold form line before now told cost
     → Tells form line before now told
-tells form line before now told is = by (is_pulse line.request) refl is
+tells form line before now told cost is = by (is_pulse line.request) refl is
   where
-    by : (t : Bool) → is_pulse line.request ≡ t → IsToldBy t form line before now told
+    by : (t : Bool) → is_pulse line.request ≡ t → IsToldBy t form line before now told cost
         → Tells form line before now told
-    by true e s = framed form line before now told e s
-    by false e s = unframed form line before now told e s
+    by true e s = framed form line before now told cost e s
+    by false e s = unframed form line before now told cost e s
 
 -- ---- all lines
 pub runs_are_one : (form : Form) (first : Game) (lines : List Numbered) (tolds : List Told)
@@ -112,8 +118,8 @@ pub runs_are_one : (form : Form) (first : Game) (lines : List Numbered) (tolds :
     → (tellings : List Telling) × (IsRun first lines tellings)
     × (tolds ≡ tolds_in form first.frames first.last tellings)
 runs_are_one form first [] tolds (no_line game) = ([], runs.no_line first, refl)
-runs_are_one form first lines tolds (one_line game next line rest told others is played) =
-    let one : Tells form line game next told = tells form line game next told is in
+runs_are_one form first lines tolds (one_line game next line rest told others cost is played) =
+    let one : Tells form line game next told = tells form line game next told cost is in
     let more = runs_are_one form next rest others played in
     let t : Telling = one.telling in (
       t ∷ more.0,
@@ -127,7 +133,7 @@ pub runs_have_each_form : (form : Form) (first : Game) (lines : List Numbered) (
 runs_have_each_form form first lines tellings (runs.no_line game) = no_line game
 runs_have_each_form form first lines tellings (runs.one_line game next line rest telling others is run) =
     one_line game next line rest (told_in form game.frames game.last telling)
-    (tolds_in form _ _ others) (is.told form)
+    (tolds_in form _ _ others) is.cost (is.told form)
     (subst (λ (l : List Told). IsPlayed form next rest l)
     (ap₂ (λ (n : ℕ) (l : Option Framed). tolds_in form n l others) is.number is.last)
     (runs_have_each_form form next rest others run))
@@ -144,8 +150,8 @@ pub drawn_plays : (form : Form) (first : Game) (lines : List Numbered) (tolds : 
     × (tolds ≡ tolds_in form first.frames first.last tellings) × AreDrawn tellings
 drawn_plays form first lines tolds (none_played game) =
     ([], runs.no_line first, refl, All-nil (λ (t : Telling). IfSome t.frame IsDrawable))
-drawn_plays form first lines tolds (one_played game next line rest told others is drawn played) =
-    let one : Tells form line game next told = tells form line game next told is in
+drawn_plays form first lines tolds (one_played game next line rest told others cost is drawn played) =
+    let one : Tells form line game next told = tells form line game next told cost is in
     let more = drawn_plays form next rest others played in
     let t : Telling = one.telling in (
       t ∷ more.0,

@@ -117,12 +117,12 @@ after_tame : (step : Step) (course : Course) → IsTameCourse course → IsTameS
 after_tame step course is next =
     record { text = lines_append course.text step.text is.text next.text; world = next.world }
 
-run_tame : (lines : List Numbered) (course now : Course) → AreTameLines lines → IsTameCourse course
-    → AreRun lines course now → IsTameCourse now
-run_tame lines course now are is (running.no_line c) = is
-run_tame lines course now are is (running.one_line slot l rest c n run) =
+run_tame : (lines : List Numbered) (course now : Course) (cost : ℕ) → AreTameLines lines → IsTameCourse course
+    → AreRun lines course now cost → IsTameCourse now
+run_tame lines course now cost are is (running.no_line c) = is
+run_tame lines course now cost are is (running.one_line slot l rest c n more run) =
     let step = inner_tame slot l.number l.request c.world (All-head IsTameLine l rest are) is.world in
-    run_tame rest (behind slot l c) n (All-tail IsTameLine l rest are)
+    run_tame rest (behind slot l c) n more (All-tail IsTameLine l rest are)
     (record { text = lines_append c.text _ is.text step.text; world = step.world }) run
 
 found_tame : (name : List ℕ) (actions : List (List ℕ × List Numbered))
@@ -145,25 +145,27 @@ lines_of_tame world name is = by (action_in world name) (found_tame name world.n
     by None all = All-nil IsTameLine
     by (Some lines) all = all
 
-called_tame : (names : List (List ℕ)) (course now : Course) → IsTameCourse course → AreCalled names course now
+called_tame : (names : List (List ℕ)) (course now : Course) (cost : ℕ) → IsTameCourse course
+    → AreCalled names course now cost
     → IsTameCourse now
-called_tame names course now is (no_call c) = is
-called_tame names course now is (one_call name more c next n run called) =
-    called_tame more next n
-    (run_tame (lines_of c.world name) c next (lines_of_tame c.world name is.world) is run) called
+called_tame names course now cost is (no_call c) = is
+called_tame names course now cost is (one_call name more c next n one_cost more_cost run called) =
+    called_tame more next n more_cost
+    (run_tame (lines_of c.world name) c next one_cost (lines_of_tame c.world name is.world) is run) called
 
-passed_tame : (on : EventKind) (passes : List Pass) (course now : Course) → IsTameCourse course
-    → ArePassed on passes course now → IsTameCourse now
-passed_tame on passes course now is (no_pass c) = is
-passed_tame on passes course now is (one_pass pass more c next n called passed) =
-    passed_tame on more next n (called_tame (calls_at on pass c) c next is called) passed
+passed_tame : (on : EventKind) (passes : List Pass) (course now : Course) (cost : ℕ) → IsTameCourse course
+    → ArePassed on passes course now cost → IsTameCourse now
+passed_tame on passes course now cost is (no_pass c) = is
+passed_tame on passes course now cost is (one_pass pass more c next n one_cost more_cost called passed) =
+    passed_tame on more next n more_cost (called_tame (calls_at on pass c) c next one_cost is called) passed
 
-sent_tame : (events : List Event) (course now : Course) → IsTameCourse course → AreSent events course now
+sent_tame : (events : List Event) (course now : Course) (cost : ℕ) → IsTameCourse course
+    → AreSent events course now cost
     → IsTameCourse now
-sent_tame events course now is (no_event c) = is
-sent_tame events course now is (one_event event more c next n passed sent) =
-    sent_tame more next n
-    (passed_tame event.on (passes_of event c) (sent_off event c) next
+sent_tame events course now cost is (no_event c) = is
+sent_tame events course now cost is (one_event event more c next n one_cost more_cost passed sent) =
+    sent_tame more next n more_cost
+    (passed_tame event.on (passes_of event c) (sent_off event c) next one_cost
     (record { text = is.text; world = is.world }) passed)
     sent
 
@@ -200,12 +202,12 @@ told_tame place course run e is =
     subst (λ (o : Option Run). IfSome o (λ (run : Run). AreTameLines run.1)) e
     (next_tame course.world place (drop place course.heard) is.world)
 
-pub settled_tame : (number left place : ℕ) (course now : Course) → IsTameCourse course
-    → IsSettled number left place course now → IsTameCourse now
-settled_tame number left place course now is (all_ran l p c e) = is
-settled_tame number left place course now is (one_ran l p run c next n e ran settled) =
-    settled_tame number l (run.0 + 1) next n (run_tame run.1 c next (told_tame p c run e is) is ran) settled
-settled_tame number left place course now is (too_many p run c e) =
+pub settled_tame : (number left place : ℕ) (course now : Course) (cost : ℕ) → IsTameCourse course
+    → IsSettled number left place course now cost → IsTameCourse now
+settled_tame number left place course now cost is (all_ran l p c e) = is
+settled_tame number left place course now cost is (one_ran l p run c next n one_cost more_cost e ran settled) =
+    settled_tame number l (run.0 + 1) next n more_cost (run_tame run.1 c next one_cost (told_tame p c run e is) is ran) settled
+settled_tame number left place course now cost is (too_many p run c e) =
     record { text = lines_append c.text _ is.text (overrun_lines number); world = is.world }
 
 -- ---- event lines
@@ -279,38 +281,38 @@ after_answer number refusal world is =
     after_tame (answered number [] (Err refusal) world) (begun world) (begun_tame world is)
     (answered_tame number [] (Err refusal) world no_path is tt)
 
-began_tame : (number : ℕ) (answer : Result Started Refusal) (world : World) (now : Course) → StartsTame answer
-    → IsTameWorld world → IsStarted number answer world now → IsTameCourse now
-began_tame number (Ok starts) world now tame is sent =
-    sent_tame starts.events (begun starts.world) now (begun_tame starts.world tame) sent
-began_tame number (Err refusal) world now tame is e =
-    subst IsTameCourse (sym e) (after_answer number refusal world is)
+began_tame : (number : ℕ) (answer : Result Started Refusal) (world : World) (now : Course) (cost : ℕ)
+    → StartsTame answer → IsTameWorld world → IsStarted number answer world now cost → IsTameCourse now
+began_tame number (Ok starts) world now cost tame is sent =
+    sent_tame starts.events (begun starts.world) now cost (begun_tame starts.world tame) sent
+began_tame number (Err refusal) world now cost tame is e =
+    subst IsTameCourse (sym e.0) (after_answer number refusal world is)
 
-carried_tame : (l : Numbered) (world : World) (now : Course) → IsTameLine l → IsTameWorld world
-    → IsCarried l world now → IsTameCourse now
-carried_tame l world now one is (slot, e) =
+carried_tame : (l : Numbered) (world : World) (now : Course) (cost : ℕ) → IsTameLine l → IsTameWorld world
+    → IsCarried l world now cost → IsTameCourse now
+carried_tame l world now cost one is (slot, e, spent) =
     subst IsTameCourse (sym e)
     (after_tame (line_step slot l.number l.request world) (begun world) (begun_tame world is)
     (line_tame slot l.number l.request world one is))
 
 told_line : (entries : List Entry) (l : Numbered) (t : Bool) (instruction : Instruction) (world : World)
-    (now : Course) → IsTameLine l → IsTameWorld world → IsInstructed entries l t instruction world now
+    (now : Course) (cost : ℕ) → IsTameLine l → IsTameWorld world → IsInstructed entries l t instruction world now cost
     → IsTameCourse now
-told_line entries l true instruction world now one is acted =
-    began_tame l.number (started entries instruction world) world now (started_tame entries instruction world is) is
+told_line entries l true instruction world now cost one is acted =
+    began_tame l.number (started entries instruction world) world now cost (started_tame entries instruction world is) is
     acted
-told_line entries l false instruction world now one is acted = carried_tame l world now one is acted
+told_line entries l false instruction world now cost one is acted = carried_tame l world now cost one is acted
 
-acted_tame : (entries : List Entry) (l : Numbered) (request : Request) (world : World) (now : Course)
-    → IsTameLine l → IsTameWorld world → IsActed entries l request world now → IsTameCourse now
-acted_tame entries l (asks instruction) world now one is acted =
-    told_line entries l (is_event_line instruction) instruction world now one is acted
-acted_tame entries l (binds path expression) world now one is acted = carried_tame l world now one is acted
-acted_tame entries l (defines name lines) world now one is acted = carried_tame l world now one is acted
-acted_tame entries l bad world now one is acted = carried_tame l world now one is acted
+acted_tame : (entries : List Entry) (l : Numbered) (request : Request) (world : World) (now : Course) (cost : ℕ)
+    → IsTameLine l → IsTameWorld world → IsActed entries l request world now cost → IsTameCourse now
+acted_tame entries l (asks instruction) world now cost one is acted =
+    told_line entries l (is_event_line instruction) instruction world now cost one is acted
+acted_tame entries l (binds path expression) world now cost one is acted = carried_tame l world now cost one is acted
+acted_tame entries l (defines name lines) world now cost one is acted = carried_tame l world now cost one is acted
+acted_tame entries l bad world now cost one is acted = carried_tame l world now cost one is acted
 
-pub whole_line : (entries : List Entry) (l : Numbered) (world : World) (now : Course) → IsTameLine l
-    → IsTameWorld world → IsLine entries l world now → IsTameCourse now
-whole_line entries l world now one is whole =
-    settled_tame l.number 1000 0 whole.first now (acted_tame entries l l.request world whole.first one is whole.acted)
+pub whole_line : (entries : List Entry) (l : Numbered) (world : World) (now : Course) (cost : ℕ) → IsTameLine l
+    → IsTameWorld world → IsLine entries l world now cost → IsTameCourse now
+whole_line entries l world now cost one is whole =
+    settled_tame l.number 1000 0 whole.first now whole.further (acted_tame entries l l.request world whole.first whole.own one is whole.acted)
     whole.settled

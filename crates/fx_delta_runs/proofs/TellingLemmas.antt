@@ -234,27 +234,27 @@ of_course now course text w t is =
       world = subst IsTameWorld (sym w) is.world;
     }
 
-told_stays : (l : Numbered) (before now : Game) (told : Told) (instruction : Option Instruction)
+told_stays : (l : Numbered) (before now : Game) (told : Told) (cost : ℕ) (instruction : Option Instruction)
     (asked : Option (List (List ℕ) × List ℕ)) → IsTameLine l → IsTameWorld before.world
-    → IsToldOf instruction asked l before now told → Stays now told.text
-told_stays l before now told (Some instruction) asked one is s =
+    → IsToldOf instruction asked l before now told cost → Stays now told.text
+told_stays l before now told cost (Some instruction) asked one is s =
     of_course now s.course told.text (ap (λ (game : Game). game.world) s.after)
     (ap (λ (t : Told). t.text) s.told_so)
-    (settled_tame l.number 1000 0 _ s.course (time_tame l.number instruction before.clock before.world is) s.settled)
-told_stays l before now told None (Some asked) one is s =
+    (settled_tame l.number 1000 0 _ s.course s.further (time_tame l.number instruction before.clock before.world is) s.settled)
+told_stays l before now told cost None (Some asked) one is s =
     let step =
     explained_tame l.number asked.1 before.world (find_attached before.world asked.0) s.step is s.explained in
     record {
       lines = subst AreLines (sym (ap (λ (t : Told). t.text) s.told_so)) step.text;
       world = subst IsTameWorld (sym (ap (λ (game : Game). game.world) s.after)) step.world;
     }
-told_stays l before now told None None one is s =
+told_stays l before now told cost None None one is s =
     of_course now s.course told.text (ap (λ (game : Game). game.world) s.after)
-    (ap (λ (t : Told). t.text) s.told_so) (whole_line (entries_in before.last) l before.world s.course one is s.taken)
+    (ap (λ (t : Told). t.text) s.told_so) (whole_line (entries_in before.last) l before.world s.course cost one is s.taken)
 
-shown_stays : (number : ℕ) (before now : Game) (told : Told) (s : IsShown Text number before now told)
+shown_stays : (number : ℕ) (before now : Game) (told : Told) (cost : ℕ) (s : IsShown Text number before now told cost)
     → IsTameWorld before.world → Stays now s.course.text
-shown_stays number before now told s is =
+shown_stays number before now told cost s is =
     let drawn : IsTameWorld s.drawn.world =
     subst IsTameWorld (sym s.made.drawn.published)
     (record {
@@ -262,7 +262,7 @@ shown_stays number before now told s is =
       actions = is.actions;
     }) in
     of_course now s.course s.course.text (ap (λ (game : Game). game.world) s.after) refl
-    (settled_tame number 1000 0 (course_behind s.drawn.world s.pulsed.notices) s.course
+    (settled_tame number 1000 0 (course_behind s.drawn.world s.pulsed.notices) s.course s.further
     (record {
       text = notices_lines s.drawn.world.names.written s.pulsed.notices drawn.written;
       world = drawn;
@@ -270,11 +270,11 @@ shown_stays number before now told s is =
 
 -- ---- a telling
 -- what stands behind a frame is what the course behind it printed
-behind_frame : (number : ℕ) (before now : Game) (telling : Telling)
+behind_frame : (number : ℕ) (before now : Game) (telling : Telling) (cost : ℕ)
     → now.frames ≡ number_behind before.frames telling.frame → now.last ≡ last_behind before.last telling.frame
-    → (s : IsShown Text number before now (told_in Text before.frames before.last telling))
+    → (s : IsShown Text number before now (told_in Text before.frames before.last telling) cost)
     → telling.text ≡ s.course.text
-behind_frame number before now telling count last s = by telling.frame refl
+behind_frame number before now telling cost count last s = by telling.frame refl
   where
     written : List ℕ
     written = frame_text Text s.drawn.frames (option_map image_in before.last) s.pulsed.damage (image_in s.pulsed.frame)
@@ -321,18 +321,18 @@ telling_stays : (l : Numbered) (before now : Game) (telling : Telling) → IsTam
     → IsTelling l before now telling → Stays now telling.text
 telling_stays l before now telling one is t = by (is_pulse l.request) (t.told Text)
   where
-    by : (pulse : Bool) → IsToldBy pulse Text l before now (told_in Text before.frames before.last telling)
+    by : (pulse : Bool) → IsToldBy pulse Text l before now (told_in Text before.frames before.last telling) t.cost
         → Stays now telling.text
     by true s =
-        let stays = shown_stays l.number before now (told_in Text before.frames before.last telling) s is in
+        let stays = shown_stays l.number before now (told_in Text before.frames before.last telling) t.cost s is in
         record {
-          lines = subst AreLines (sym (behind_frame l.number before now telling t.number t.last s)) stays.lines;
+          lines = subst AreLines (sym (behind_frame l.number before now telling t.cost t.number t.last s)) stays.lines;
           world = stays.world;
         }
     by false s =
         let told : Told = told_in Text before.frames before.last telling in
-        let stays = told_stays l before now told (time_line l.request) (explained_by l.request) one is s in
-        let as_before = still_game l before now told (time_line l.request) (explained_by l.request) s in
+        let stays = told_stays l before now told t.cost (time_line l.request) (explained_by l.request) one is s in
+        let as_before = still_game l before now told t.cost (time_line l.request) (explained_by l.request) s in
         let none : told.text ≡ telling.text =
         ap (λ (l : List ℕ). l ++ telling.text) (no_frame before now telling t.number as_before.0) in
         record { lines = subst AreLines none stays.lines; world = stays.world }

@@ -12,9 +12,10 @@ use Rattle.fx_plain_steps.specs.Told.{Told, texts_of}
 use Rattle.fx_script_commands.specs.Requests.{Numbered}
 use Rattle.fx_delta_runs.specs.Frames.{IsProper, Telling, last_behind, number_behind, told_in, tolds_in}
 
--- a line tells so between two games, in each form of frames
+-- a line tells so between two games, in each form of frames, at the same cost
 pub record IsTelling (line : Numbered) (before now : Game) (telling : Telling) : Type 0 where
-  pub told : (form : Form) → IsTold form line before now (told_in form before.frames before.last telling)
+  pub cost : ℕ
+  pub told : (form : Form) → IsTold form line before now (told_in form before.frames before.last telling) cost
   pub number : now.frames ≡ number_behind before.frames telling.frame
   pub last : now.last ≡ last_behind before.last telling.frame
 
@@ -27,8 +28,8 @@ pub data IsRun : Game → List Numbered → List Telling → Type 0 where
 -- what is told of each of the lines with frames in this form, where the last frame behind each of them can be drawn
 pub data IsPlayedDrawn (form : Form) : Game → List Numbered → List Told → Type 0 where
   none_played : (game : Game) → IsPlayedDrawn form game [] []
-  one_played : (game next : Game) (line : Numbered) (lines : List Numbered) (told : Told) (rest : List Told)
-      → IsTold form line game next told → IfSome next.last IsDrawable → IsPlayedDrawn form next lines rest
+  one_played : (game next : Game) (line : Numbered) (lines : List Numbered) (told : Told) (rest : List Told) (cost : ℕ)
+      → IsTold form line game next told cost → IfSome next.last IsDrawable → IsPlayedDrawn form next lines rest
       → IsPlayedDrawn form game (line ∷ lines) (told ∷ rest)
 
 -- whatever these lines tell of this game is proper

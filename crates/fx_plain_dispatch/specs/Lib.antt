@@ -1,3 +1,4 @@
+pub mod Costs
 pub mod Running
 pub mod Sending
 pub mod Settling

@@ -1,6 +1,6 @@
 -- Events on their way through the scene. Source: JavaFX 21 (`EventDispatchChain`: filters from the root to the target,
 -- handlers back to the root).
-use Rattle.std.specs.Prelude.{ℕ, Bool, ◌||◌, ◌&&◌, not, List, [], ◌∷◌, ◌++◌, map, reverse, if◌then◌else◌}
+use Rattle.std.specs.Prelude.{ℕ, ◌+◌, Bool, ◌||◌, ◌&&◌, not, List, [], ◌∷◌, ◌++◌, map, reverse, if◌then◌else◌}
 use Rattle.fx_base.specs.declared.keys.NodeKey.{NodeKey}
 use Rattle.fx_event_lines.specs.declared.events.Event.{Event}
 use Rattle.fx_events.specs.Events.{is_same_type}
@@ -33,11 +33,11 @@ calls_at on pass course =
     if is_passed_over pass.1 course then [] else calls_of course.world.graph.handlers pass.1 on pass.0
 
 -- an event of this type passes by there, one after another
-pub data ArePassed (on : EventKind) : List Pass → Course → Course → Type 0 where
-  no_pass : (course : Course) → ArePassed on [] course course
-  one_pass : (pass : Pass) (passes : List Pass) (course next now : Course)
-      → AreCalled (calls_at on pass course) course next → ArePassed on passes next now
-      → ArePassed on (pass ∷ passes) course now
+pub data ArePassed (on : EventKind) : List Pass → Course → Course → ℕ → Type 0 where
+  no_pass : (course : Course) → ArePassed on [] course course 0
+  one_pass : (pass : Pass) (passes : List Pass) (course next now : Course) (cost more : ℕ)
+      → AreCalled (calls_at on pass course) course next cost → ArePassed on passes next now more
+      → ArePassed on (pass ∷ passes) course now (cost + more)
 
 -- an action follows a click or a key only where that wasn't consumed
 abbrev pub is_left_out : Event → Course → Bool
@@ -54,8 +54,8 @@ abbrev pub sent_off : Event → Course → Course
 sent_off event course = record course { consumed = is_left_out event course }
 
 -- these events are sent, each along the route that it has when its turn comes
-pub data AreSent : List Event → Course → Course → Type 0 where
-  no_event : (course : Course) → AreSent [] course course
-  one_event : (event : Event) (events : List Event) (course next now : Course)
-      → ArePassed event.on (passes_of event course) (sent_off event course) next → AreSent events next now
-      → AreSent (event ∷ events) course now
+pub data AreSent : List Event → Course → Course → ℕ → Type 0 where
+  no_event : (course : Course) → AreSent [] course course 0
+  one_event : (event : Event) (events : List Event) (course next now : Course) (cost more : ℕ)
+      → ArePassed event.on (passes_of event course) (sent_off event course) next cost → AreSent events next now more
+      → AreSent (event ∷ events) course now (cost + more)

@@ -30,15 +30,15 @@ overrun number course = record course { text = course.text ++ overrun_line numbe
 
 -- All listeners from this place on run their actions in the order in which they were told, those too who are told by
 -- these actions; where there are more than so many runs, the rest is left out, and this is told of the script's line.
-pub data IsSettled (number : ℕ) : ℕ → ℕ → Course → Course → Type 0 where
+pub data IsSettled (number : ℕ) : ℕ → ℕ → Course → Course → ℕ → Type 0 where
   all_ran : (left place : ℕ) (course : Course) → next_run place course ≡ None
-      → IsSettled number left place course course
-  one_ran : (left place : ℕ) (run : Run) (course next now : Course) → next_run place course ≡ Some run
-      → AreRun run.1 course next → IsSettled number left (run.0 + 1) next now
-      → IsSettled number (suc left) place course now
+      → IsSettled number left place course course 0
+  one_ran : (left place : ℕ) (run : Run) (course next now : Course) (cost more : ℕ)
+      → next_run place course ≡ Some run → AreRun run.1 course next cost
+      → IsSettled number left (run.0 + 1) next now more → IsSettled number (suc left) place course now (cost + more)
   too_many : (place : ℕ) (run : Run) (course : Course) → next_run place course ≡ Some run
-      → IsSettled number 0 place course (overrun number course)
+      → IsSettled number 0 place course (overrun number course) 0
 
 -- a line of a script has so many runs
-abbrev pub IsSettledWhole : ℕ → Course → Course → Type 0
+abbrev pub IsSettledWhole : ℕ → Course → Course → ℕ → Type 0
 IsSettledWhole number course now = IsSettled number 1000 0 course now

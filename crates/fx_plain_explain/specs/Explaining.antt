@@ -12,7 +12,7 @@ use Rattle.fx_look.specs.declared.styles.CodeValue.{CodeValue}
 use Rattle.fx_plain_steps.specs.Lines.{Step, printing}
 use Rattle.fx_select.specs.AllMatching.{matching_of}
 use Rattle.fx_select.specs.Chains.{chain}
-use Rattle.fx_stage_facts.specs.Attached.{looked}
+use Rattle.fx_stage_facts.specs.Attached.{look_cost, looked}
 use Rattle.fx_stage_facts.specs.Sheets.{sheets_of}
 use Rattle.fx_stage_facts.specs.Styles.{style_facts}
 use Rattle.fx_stage_model.specs.Answers.{and_then, unless}
@@ -76,3 +76,8 @@ IsAnswered number name world (Err word) step = step ≡ printing (refused_line n
 -- the line of this number, which asks for a property of the node of this path
 abbrev pub IsExplainLine : ℕ → List (List ℕ) → List ℕ → World → Step → Type 0
 IsExplainLine number path name world step = IsAnswered number name world (find_attached world path) step
+
+-- how many expressions the line evaluates at most: none where no node is told of
+abbrev pub explain_cost : World → Result NodeKey Refusal → ℕ
+explain_cost world (Ok key) = look_cost world
+explain_cost world (Err word) = 0

@@ -17,11 +17,11 @@ not_begun form first more rest played = played
 
 -- one line more
 pub line_done : {form : Form} {first now next : Game} (done : List Numbered) (tolds : List Told) (line : Numbered) (told : Told)
-    → IsUnderway form first now done tolds → IsTold form line now next told
+    → IsUnderway form first now done tolds → (cost : ℕ) → IsTold form line now next told cost
     → IsUnderway form first next (done ++ line ∷ []) (tolds ++ told ∷ [])
-line_done {form} {first} {now} {next} done tolds line told under is more rest played =
+line_done {form} {first} {now} {next} done tolds line told under cost is more rest played =
     rw (append_assoc done (line ∷ []) more, append_assoc tolds (told ∷ []) rest)
-    (under (line ∷ more) (told ∷ rest) (one_line now next line more told rest is played))
+    (under (line ∷ more) (told ∷ rest) (one_line now next line more told rest cost is played))
 
 -- the lines so far were played
 pub done_played : {form : Form} {first now : Game} (done : List Numbered) (tolds : List Told)

@@ -12,7 +12,7 @@ use Rattle.fx_plain_steps.specs.Lines.{heard_in}
 use Rattle.fx_plain_steps.specs.Told.{Told}
 use Rattle.fx_pulse_model.specs.Frames.{Framed, IsFrame, frame_damage}
 use Rattle.fx_pulse_model.specs.Scenes.{Scene}
-use Rattle.fx_stage_facts.specs.Attached.{looked}
+use Rattle.fx_stage_facts.specs.Attached.{look_cost, looked}
 use Rattle.fx_kinds.specs.declared.facts.BoxFacts.{BoxFacts}
 use Rattle.fx_stage_facts.specs.Boxes.{box_facts}
 use Rattle.fx_stage_facts.specs.Publishing.{Size, published, sized}
@@ -52,8 +52,9 @@ pub record Pulsed : Type 0 where
   pub notices : Notices
 
 -- The present scene, styled, laid out and drawn from nothing, is the next frame, which can be drawn, and the sizes of its
--- nodes are published behind it, as one change.
-pub record IsDrawn (before now : World) (last next : Option Framed) (pulsed : Pulsed) : Type 0 where
+-- nodes are published behind it, as one change. The expressions that it evaluates at most are those that its reads ask
+-- for, and those of that change.
+pub record IsDrawn (before now : World) (last next : Option Framed) (pulsed : Pulsed) (cost : ℕ) : Type 0 where
   pub rects : List Rect
   pub shown : IsFrame (scene_of before) before.window pulsed.frame.width pulsed.frame.height rects pulsed.frame.picture
   pub drawable : IsDrawable pulsed.frame
@@ -62,9 +63,10 @@ pub record IsDrawn (before now : World) (last next : Option Framed) (pulsed : Pu
       ≡ published (pulsed.frame.width, pulsed.frame.height) (sizes_of (box_facts before) rects) (looked before)
   pub notices : pulsed.notices ≡ (sized (sizes_of (box_facts before) rects) (looked before)).notices
   pub last_one : next ≡ Some pulsed.frame
+  pub sum : cost ≡ look_cost before + (sized (sizes_of (box_facts before) rects) (looked before)).cost
 
-pub record IsPulsed (before now : Game) (pulsed : Pulsed) : Type 0 where
-  pub drawn : IsDrawn before.world now.world before.last now.last pulsed
+pub record IsPulsed (before now : Game) (pulsed : Pulsed) (cost : ℕ) : Type 0 where
+  pub drawn : IsDrawn before.world now.world before.last now.last pulsed cost
   pub count : now.frames ≡ before.frames + 1
 
 -- so many pixels are damaged

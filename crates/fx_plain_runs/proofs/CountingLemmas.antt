@@ -37,15 +37,16 @@ begins form first all = record {
 }
 
 pub goes_on : {form : Form} {first now next : Game} {all left : List Numbered} {totals : Totals} (line : Numbered) (told : Told)
-    (more : Totals) → IsCounting form first now all (line ∷ left) totals → IsTold form line now next told → more ≡ told.totals → AreSmall more
+    (more : Totals) → IsCounting form first now all (line ∷ left) totals → (cost : ℕ)
+    → IsTold form line now next told cost → more ≡ told.totals → AreSmall more
     → IsCounting form first next all left (added totals more)
-goes_on {form} {first} {now} {next} {all} {left} {totals} line told more so is same small =
+goes_on {form} {first} {now} {next} {all} {left} {totals} line told more so cost is same small =
     let longer : length (so.done ++ line ∷ []) ≡ length so.done + 1 = length-append so.done (line ∷ []) in
     record {
       done = so.done ++ line ∷ [];
       tolds = so.tolds ++ told ∷ [];
       joins = append_assoc so.done (line ∷ []) left ∙ so.joins;
-      under = line_done so.done so.tolds line told so.under is;
+      under = line_done so.done so.tolds line told so.under cost is;
       counted = ap (λ (t : Totals). added t more) so.counted ∙ (ap (added (totals_of so.tolds)) same ∙ sym (totals-snoc so.tolds told));
       frames = omega (arith, so.frames, small.frames, longer);
       area = omega (arith, so.area, small.area, longer);

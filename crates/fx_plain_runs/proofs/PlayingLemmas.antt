@@ -53,13 +53,13 @@ longer warnings tolds told =
 
 pub goes_on : {form : Form} {warnings : List ℕ} {first now next : Game} {all left : List Numbered}
     {old mid new : Option (List ℕ)} (line : Numbered) (told : Told)
-    → IsPlaying form warnings first now all (line ∷ left) old mid → IsTold form line now next told
+    → IsPlaying form warnings first now all (line ∷ left) old mid → (cost : ℕ) → IsTold form line now next told cost
     → new ≡ grown mid told.text → IsPlaying form warnings first next all left old new
-goes_on {form} {warnings} {first} {now} {next} {all} {left} {old} {mid} {new} line told so is wrote = record {
+goes_on {form} {warnings} {first} {now} {next} {all} {left} {old} {mid} {new} line told so cost is wrote = record {
   done = so.done ++ line ∷ [];
   tolds = so.tolds ++ told ∷ [];
   joins = append_assoc so.done (line ∷ []) left ∙ so.joins;
-  under = line_done so.done so.tolds line told so.under is;
+  under = line_done so.done so.tolds line told so.under cost is;
   written = wrote ∙ (ap (λ w. grown w told.text) so.written ∙ (grown-grown old (warnings ++ texts_of so.tolds) told.text
       ∙ ap (grown old) (longer warnings so.tolds told)));
 }
@@ -117,12 +117,13 @@ behind old front text e part = record {
 
 pub stops_in : {manner : Manner} {warnings : List ℕ} {first now : Game} (next : Game) {all left : List Numbered}
     {old mid new : Option (List ℕ)} (line : Numbered) (told : Told) → manner.summary ≡ false
-    → IsPlaying manner.form warnings first now all (line ∷ left) old mid → IsTold manner.form line now next told
+    → IsPlaying manner.form warnings first now all (line ∷ left) old mid → (cost : ℕ)
+    → IsTold manner.form line now next told cost
     → GrewByPrefix mid new told.text → IsPutPart manner warnings first all old new
-stops_in {manner} {warnings} {first} {now} next {all} {left} {old} {mid} {new} line told h so is part =
+stops_in {manner} {warnings} {first} {now} next {all} {left} {old} {mid} {new} line told h so cost is part =
     let tolds = so.tolds ++ told ∷ [] in
     let done = so.done ++ line ∷ [] in
-    let played = done_played (so.done ++ line ∷ []) (so.tolds ++ told ∷ []) (line_done so.done so.tolds line told so.under is) in
+    let played = done_played (so.done ++ line ∷ []) (so.tolds ++ told ∷ []) (line_done so.done so.tolds line told so.under cost is) in
     let joins : done ++ left ≡ all = append_assoc so.done (line ∷ []) left ∙ so.joins in
     record {
       count = length done;

@@ -1,5 +1,5 @@
 -- The lines on timelines, one case a line.
-use Rattle.std.specs.Prelude.{ℕ, Bool, true, false, ◌&&◌, ◌==◌, not, nat_le, List, [], length, map, is_some, Option, Result, Ok, Err}
+use Rattle.std.specs.Prelude.{ℕ, Bool, true, false, ◌&&◌, ◌==◌, not, nat_le, List, [], length, map, is_some, Option, Some, None, Result, Ok, Err}
 use Rattle.fx_anim.specs.Line.{Line, begun as line_begun, is_new, line_at, longest, new_line, sets_of, stopped, ticked, with_frame}
 use Rattle.fx_base.specs.declared.keys.Name.{Name}
 use Rattle.fx_base.specs.declared.values.Value.{Value}
@@ -16,7 +16,7 @@ use Rattle.fx_stage_model.specs.World.{World}
 use Rattle.fx_stage_types.specs.declared.refusals.Refusal.{Refusal}
 use Rattle.fx_stage_types.specs.declared.refusals.Refusal.TheVariants as word
 use Rattle.fx_plain_times.specs.Clocks.{Clock, changed_at, find, place_of, with_timeline}
-use Rattle.fx_plain_times.specs.Ticks.{all_animated}
+use Rattle.fx_plain_times.specs.Ticks.{all_animated, cost_of_sets}
 use Rattle.fx_plain_times.specs.Times.{count_of, time_of}
 
 unfoldable pub is_time_line : Instruction → Bool
@@ -103,3 +103,12 @@ passed_or_refused number clock world (Err word) =
 -- what the line of this number makes; what is refused changes nothing
 abbrev pub time_step : ℕ → Instruction → Clock → World → Passed
 time_step number instruction clock world = passed_or_refused number clock world (timed instruction clock world)
+
+-- how many expressions the line evaluates at most: only time that passes sets properties
+abbrev pub tick_cost : Option ℕ → Clock → World → ℕ
+tick_cost (Some ms) clock world = cost_of_sets (sets_of ms clock.lines) world
+tick_cost None clock world = 0
+
+unfoldable pub time_cost : Instruction → Clock → World → ℕ
+time_cost (line.Tick time) clock world = tick_cost (time_of 1 time) clock world
+time_cost other clock world = 0

@@ -1,10 +1,10 @@
 -- What a tick sets, and who is told of it.
-use Rattle.std.specs.Prelude.{ℕ, List, [], fold, Result, Ok, Err}
+use Rattle.std.specs.Prelude.{ℕ, ◌+◌, List, [], ◌∷◌, fold, Result, Ok, Err}
 use Rattle.fx_base.specs.declared.keys.Name.{Name}
 use Rattle.fx_base.specs.declared.values.Value.{Value}
 use Rattle.fx_plain_steps.specs.Courses.{Course, after}
 use Rattle.fx_plain_steps.specs.Lines.{Step, heard_in, printing}
-use Rattle.fx_stage_model.specs.Answers.{Taken}
+use Rattle.fx_stage_model.specs.Answers.{Taken, cost_of}
 use Rattle.fx_stage_model.specs.Properties.{changed}
 use Rattle.fx_stage_model.specs.World.{World}
 use Rattle.fx_stage_text.specs.Printing.{notice_lines}
@@ -31,3 +31,8 @@ after_set course set = after (animated set course.world) course
 -- properties take these values, one after another
 abbrev pub all_animated : List (Name × Value) → Course → Course
 all_animated sets course = fold after_set course sets
+
+-- how many expressions are evaluated at most while they do
+unfoldable pub cost_of_sets : List (Name × Value) → World → ℕ
+cost_of_sets [] world = 0
+cost_of_sets (set ∷ sets) world = cost_of (changed (Set set.0 set.1) world) + cost_of_sets sets (animated set world).world

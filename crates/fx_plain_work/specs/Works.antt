@@ -1,5 +1,6 @@
 -- How much work it may be to play lines. Only a `pulse` styles, lays out or paints, and what it may do hangs on what
--- was touched since the last frame, however the frames before it came about.
+-- was touched since the last frame, however the frames before it came about. How many expressions a line evaluates is
+-- told with what it prints.
 use Rattle.std.specs.Prelude.{◌≡◌, ◌≤◌, ◌+◌, ℕ, Bool, true, false, List, [], ◌∷◌, Option, Some, None}
 use Rattle.std.specs.List.{sum_by}
 use Rattle.fx_canvas.specs.Painting.{most_writes}
@@ -58,10 +59,11 @@ abbrev pub IsLineWork : Bool → Game → Game → Sight → Sight → Counted �
 IsLineWork true before now seen next old new = IsPulseWork before now seen next old new
 IsLineWork false before now seen next old new = (next ≡ seen) × (new ≡ old)
 
--- the work of lines, one after another
-pub data IsWorked (form : Form) : Game → Sight → List Numbered → Counted → Counted → Type 0 where
-  no_line : (game : Game) (seen : Sight) (count : Counted) → IsWorked form game seen [] count count
+-- the work of lines, one after another, with what each of them tells, and how many expressions they evaluate at most
+pub data IsWorked (form : Form) : Game → Sight → List Numbered → List Told → Counted → Counted → ℕ → Type 0 where
+  no_line : (game : Game) (seen : Sight) (count : Counted) → IsWorked form game seen [] [] count count 0
   one_line : (game next : Game) (seen further : Sight) (line : Numbered) (lines : List Numbered) (told : Told)
-      (old mid new : Counted) → IsTold form line game next told
+      (rest : List Told) (old mid new : Counted) (cost more : ℕ) → IsTold form line game next told cost
       → IsLineWork (is_pulse line.request) game next seen further old mid
-      → IsWorked form next further lines mid new → IsWorked form game seen (line ∷ lines) old new
+      → IsWorked form next further lines rest mid new more
+      → IsWorked form game seen (line ∷ lines) (told ∷ rest) old new (cost + more)

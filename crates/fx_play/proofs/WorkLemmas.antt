@@ -3,9 +3,9 @@ use Rattle.std.proofs.Common.{◌≡◌, ◌∙◌, ℕ, List, Option, OnOk, Res
 use Rattle.fx_load_parts.specs.declared.files.LoadError.{LoadError}
 use Rattle.fx_load_parts.specs.declared.files.LoadError.TheVariants as load
 use Rattle.fx_load_parts.specs.Faults.{Fault}
-use Rattle.fx_plain.specs.PlainPlayer.{refused_with}
+use Rattle.fx_plain.specs.PlainPlayer.{refused_with, usage_told}
 use Rattle.fx_plain.specs.declared.answers.Status.{Status}
-use Rattle.fx_plain.specs.declared.answers.Status.TheVariants.{Done, Refused}
+use Rattle.fx_plain.specs.declared.answers.Status.TheVariants.{Done, Refused, Usage}
 use Rattle.fx_port.specs.declared.pieces.PutError.{PutError}
 use Rattle.fx_port.specs.declared.pieces.PutError.TheVariants as put
 use Rattle.fx_scene_raise.specs.declared.errors.RaiseError.{RaiseError}
@@ -22,6 +22,16 @@ not_refused : (w : Result (Unit {0}) PutError) → ¬ (ended_as w Refused ≡ Do
 not_refused (Ok written) is = cc
 not_refused (Err put.Failed) is = cc
 not_refused (Err put.Memory) is = cc
+
+not_usage : (w : Result (Unit {0}) PutError) → ¬ (ended_as w Usage ≡ Done)
+not_usage (Ok written) is = cc
+not_usage (Err put.Failed) is = cc
+not_usage (Err put.Memory) is = cc
+
+-- the usage line ends no run as done
+pub usage_never : (puts_old puts_new : ℕ) (old new : Option (List ℕ)) (answer : Status)
+    → IsTold usage_told puts_old puts_new old new answer → ¬ (answer ≡ Done)
+usage_never puts_old puts_new old new answer so done = not_usage so.written (sym so.ends ∙ done)
 
 told_never : (fault : Fault) (puts_old puts_new : ℕ) (old new : Option (List ℕ)) (answer : Status)
     → IsTold (refused_with fault) puts_old puts_new old new answer → ¬ (answer ≡ Done)

@@ -4,7 +4,7 @@ ghost use Rattle.fx_load.specs.Loads.{loaded_of};
 ghost use Rattle.fx_load_parts.specs.Views.{run_of};
 ghost use Rattle.fx_plain.specs.CommandLine.{Plays};
 ghost use Rattle.fx_plain.specs.Demos.{demo_files, demo_run};
-ghost use Rattle.fx_plain.specs.Works.{IsLoadedWork, IsRunWork};
+ghost use Rattle.fx_plain.specs.Works.{HasWorked, IsLoadedWork, IsRunWork};
 ghost use Rattle.fx_plain.specs.declared.answers.Status.TheVariants.{Done};
 ghost use Rattle.fx_plain_work.specs.Works.{counted};
 ghost use Rattle.fx_port.specs.Files.{Files};
@@ -35,9 +35,10 @@ pub(crate) fn play_demo<O: Sink, L: Ledgers>(
     ensures played { IsDemoPlayed number manner (O.faults out.old) (O.faults out.new) (O.written out.old)
         (O.written out.new) result }
     ensures idle { IsIdle result → work.new ≡ work.old }
-    ensures work { result ≡ Done → IsRunWork demo_run manner (demo_files number)
+    ensures work { result ≡ Done → HasWorked (λ bytes. IsRunWork demo_run manner (demo_files number) bytes
         (counted work.old.styled work.old.laid work.old.painted)
-        (counted work.new.styled work.new.laid work.new.painted) }
+        (counted work.new.styled work.new.laid work.new.painted))
+        (O.written out.old) (O.written out.new) work.old.evaluated work.new.evaluated }
 {
     let Ok(mut shelf) = DemoShelf::new(alloc, number) else {
         return Status::NoMemory;
@@ -68,8 +69,10 @@ pub(crate) fn play_run<F: Shelf, O: Sink, L: Ledgers>(
         (F.faults shelf.new) (O.faults out.old) (O.faults out.new) (O.written out.old) (O.written out.new) result }
     ensures idle { IsIdle result → work.new ≡ work.old }
     ensures work { (files : Files) → F.held shelf.old ≡ Some files → result ≡ Done →
-        IsRunWork (run_of run.now) manner files (counted work.old.styled work.old.laid work.old.painted)
-        (counted work.new.styled work.new.laid work.new.painted) }
+        HasWorked (λ bytes. IsRunWork (run_of run.now) manner files bytes
+        (counted work.old.styled work.old.laid work.old.painted)
+        (counted work.new.styled work.new.laid work.new.painted))
+        (O.written out.old) (O.written out.new) work.old.evaluated work.new.evaluated }
 {
     let loaded = match load(alloc, run, shelf) {
         Ok(loaded) => loaded,
@@ -89,9 +92,10 @@ fn play_loaded<O: Sink, L: Ledgers>(
     requires few { vec_len loaded.lines ≤ 100000 }
     ensures played { IsLoadedPlayed manner (loaded_of loaded) (O.faults out.old) (O.faults out.new)
         (O.written out.old) (O.written out.new) result }
-    ensures work { result ≡ Done → IsLoadedWork manner (loaded_of loaded)
+    ensures work { result ≡ Done → HasWorked (λ bytes. IsLoadedWork manner (loaded_of loaded) bytes
         (counted work.old.styled work.old.laid work.old.painted)
-        (counted work.new.styled work.new.laid work.new.painted) }
+        (counted work.new.styled work.new.laid work.new.painted))
+        (O.written out.old) (O.written out.new) work.old.evaluated work.new.evaluated }
 {
     let Loaded {
         tasks,

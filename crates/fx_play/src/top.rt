@@ -2,7 +2,7 @@
 ghost use Rattle.std.specs.Prelude.{◌≡◌, ◌⊎◌, IsSome, None};
 ghost use Rattle.fx_plain.specs.CommandLine.{Fetches, plan_in};
 ghost use Rattle.fx_plain.specs.PlainPlayer.{Answers, IsAnswer, IsOver, IsWithin};
-ghost use Rattle.fx_plain.specs.Works.{IsWorkOf};
+ghost use Rattle.fx_plain.specs.Works.{HasWorked, IsWorkOf};
 ghost use Rattle.fx_plain.specs.declared.answers.Status.TheVariants as status;
 ghost use Rattle.fx_plain_work.specs.Works.{counted};
 ghost use Rattle.fx_port.specs.Causes.{Rose};
@@ -57,12 +57,15 @@ pub fn play<F: Shelf, O: Sink, L: Ledgers>(
     // Where no scene was built, nothing was counted as work.
     ensures idle { IsIdle result → work.new ≡ work.old }
 
-    // Of a run that is played to its end no line but `pulse` styles, lays out or paints, and a `pulse` does no more
-    // than what was touched since the last one asks for.
+    // A run that is played to its end wrote the bytes of a course of the plain player in which no line but `pulse`
+    // styles, lays out or paints, and a `pulse` does no more than what was touched since the last one asks for. No more
+    // expressions are evaluated than what the lines and the actions that they ran may, and none while the scene is
+    // built.
     ensures worked { (files : Files) → IsOver (F.held shelf.old) (plan_in (texts words.now)) files →
-        result ≡ status.Done → IsWorkOf (plan_in (texts words.now)) files
+        result ≡ status.Done → HasWorked (λ bytes. IsWorkOf (plan_in (texts words.now)) files bytes
         (counted work.old.styled work.old.laid work.old.painted)
-        (counted work.new.styled work.new.laid work.new.painted) }
+        (counted work.new.styled work.new.laid work.new.painted))
+        (O.written out.old) (O.written out.new) work.old.evaluated work.new.evaluated }
 {
     match accept(alloc, words) {
         Ok(asked) => play_plan(alloc, plan_of(&asked), shelf, out, work),
@@ -83,9 +86,10 @@ fn play_plan<F: Shelf, O: Sink, L: Ledgers>(
     ensures still { ¬ (Fetches (plan_view plan.entry)) → shelf.new ≡ shelf.old }
     ensures idle { IsIdle result → work.new ≡ work.old }
     ensures worked { (files : Files) → IsOver (F.held shelf.old) (plan_view plan.entry) files →
-        result ≡ status.Done → IsWorkOf (plan_view plan.entry) files
+        result ≡ status.Done → HasWorked (λ bytes. IsWorkOf (plan_view plan.entry) files bytes
         (counted work.old.styled work.old.laid work.old.painted)
-        (counted work.new.styled work.new.laid work.new.painted) }
+        (counted work.new.styled work.new.laid work.new.painted))
+        (O.written out.old) (O.written out.new) work.old.evaluated work.new.evaluated }
     ensures played { IsPlayed (plan_view plan.entry) (F.held shelf.old) (F.faults shelf.old) (F.faults shelf.new)
         (O.faults out.old) (O.faults out.new) (O.written out.old) (O.written out.new) result }
 {

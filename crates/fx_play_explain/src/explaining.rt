@@ -1,10 +1,10 @@
 //! The line itself.
-ghost use Rattle.std.specs.Prelude.{◌≡◌, ◌<◌, [], IfOk, IsSome, OnOk, length, true};
+ghost use Rattle.std.specs.Prelude.{◌≡◌, ◌≤◌, ◌+◌, ◌<◌, [], IfOk, IsSome, OnOk, length, true};
 ghost use Rattle.fx_focus.specs.Attached.{is_attached};
 ghost use Rattle.fx_plain_explain.specs.Explaining as spec;
 ghost use Rattle.fx_plain_explain.specs.Explaining.{IsExplainLine, IsTold, IsToldOf};
 ghost use Rattle.fx_select.specs.Chains.{ParentsStandBefore};
-ghost use Rattle.fx_stage_facts.specs.Attached.{looked};
+ghost use Rattle.fx_stage_facts.specs.Attached.{look_cost, looked};
 ghost use Rattle.fx_stage_facts.specs.Sheets.{sheets_of};
 ghost use Rattle.fx_stage_facts.specs.Styles.{style_facts};
 
@@ -36,6 +36,8 @@ pub fn explain_line<L: Ledgers>(
 ) -> Result<(), AllocError>
     ensures told { OnOk result (IsExplainLine number path.now name.now stage.old
         (record { text = trace.new.text.items; heard = trace.new.heard.items; world = stage.new })) }
+    ensures few { work.new.evaluated
+        ≤ work.old.evaluated + spec.explain_cost stage.old (spec.find_attached stage.old path.now) }
     ensures others { work.new ≡ record work.old { evaluated = work.new.evaluated } }
 {
     trace.clear();
@@ -74,6 +76,7 @@ fn tell<L: Ledgers>(
     requires empty { text.old.items ≡ [] }
     ensures told { OnOk result (IsToldOf (sheets_of stage.old) (style_facts stage.old) key name.now text.new.items) }
     ensures looked { OnOk result (stage.new ≡ looked stage.old) }
+    ensures few { work.new.evaluated ≤ work.old.evaluated + look_cost stage.old }
     ensures others { work.new ≡ record work.old { evaluated = work.new.evaluated } }
 {
     facts_fit_together();

@@ -1,5 +1,5 @@
 -- What the renderer drew is what the definition draws.
-use Rattle.std.proofs.Common.{◌≡◌, ◌≤◌, ◌<◌, ◌^◌, ℕ, Bool, true, false, List, Option, Some, None, ◌∙◌, ap, ap₂, subst, refl, sym}
+use Rattle.std.proofs.Common.{◌≡◌, ◌≤◌, ◌+◌, ◌<◌, ◌^◌, ℕ, Bool, true, false, List, Option, Some, None, ◌∙◌, ap, ap₂, arith, subst, refl, sym}
 use Rattle.std.specs.Prelude.{IfSome, IsSome}
 use Rattle.std.specs.Option.{option_map}
 use Rattle.fx_base.specs.declared.geometry.Rect.{Rect}
@@ -9,13 +9,14 @@ use Rattle.fx_delta.specs.Pictures.{is_size}
 use Rattle.fx_kinds.specs.declared.facts.BoxFacts.{BoxFacts}
 use Rattle.fx_picture.specs.Entries.{HasDistinctBirths, Rises}
 use Rattle.fx_picture.specs.declared.entries.Entry.{Entry}
+use Rattle.fx_plain_dispatch.specs.Costs.{IsDoneWithin}
 use Rattle.fx_plain_frames.specs.Drawable.{IsDrawable}
 use Rattle.fx_plain_frames.specs.Pulses.{IsDrawn, scene_of, sizes_of}
 use Rattle.fx_pulse.specs.Rendering.{Rendering, last_frame, surface_of}
 use Rattle.fx_pulse.specs.declared.renderer.Frame.{Frame}
 use Rattle.fx_pulse_model.specs.Frames.{Framed, IsFrame, frame_damage}
 use Rattle.fx_pulse_model.specs.Scenes.{Scene}
-use Rattle.fx_stage_facts.specs.Attached.{looked}
+use Rattle.fx_stage_facts.specs.Attached.{look_cost, looked}
 use Rattle.fx_stage_facts.specs.Boxes.{box_facts}
 use Rattle.fx_stage_facts.specs.Publishing.{published, sized}
 use Rattle.fx_stage_facts.specs.Scenes.{facts_of}
@@ -80,10 +81,18 @@ pub drawn_whole : (before mid now : World) (facts : Facts) (old new : Rendering)
     → facts ≡ facts_of before → mid ≡ looked before → IsDrawnAs before old new made.frame → boxes ≡ facts.boxes → rects ≡ new.rects
     → now ≡ published (made.frame.width, made.frame.height) (sizes_of boxes rects) mid
     → made.notices ≡ (sized (sizes_of boxes rects) mid).notices
-    → IsDrawn before now (last_frame old) (last_frame new) (pulsed_as new made)
-drawn_whole before mid now facts old new made boxes rects are read drawn these there out told =
+    → (began looked_on drawn_on ended : ℕ) → looked_on ≤ began + look_cost before → drawn_on ≡ looked_on
+    → ended ≤ drawn_on + (sized (sizes_of boxes rects) mid).cost
+    → IsDoneWithin (IsDrawn before now (last_frame old) (last_frame new) (pulsed_as new made)) began ended
+drawn_whole before mid now facts old new made boxes rects are read drawn these there out told began looked_on drawn_on ended few still more =
     let boxes_are : boxes ≡ box_facts before = these ∙ (ap (λ (f : Facts). f.boxes) are ∙ facts_boxes before) in
-    record {
+    let sizes_cost : (sized (sizes_of boxes rects) mid).cost ≡ (sized (sizes_of (box_facts before) new.rects) (looked before)).cost =
+    ap₂ (λ bs rs. (sized (sizes_of bs rs) mid).cost) boxes_are there
+    ∙ ap (λ (w : World). (sized (sizes_of (box_facts before) new.rects) w).cost) read in
+    let published_few : ended ≤ drawn_on + (sized (sizes_of (box_facts before) new.rects) (looked before)).cost =
+    subst (λ (n : ℕ). ended ≤ drawn_on + n) sizes_cost more in
+    let is_drawn : IsDrawn before now (last_frame old) (last_frame new) (pulsed_as new made)
+    (look_cost before + (sized (sizes_of (box_facts before) new.rects) (looked before)).cost) = record {
       rects = new.rects;
       shown = drawn.shown;
       drawable = drawn.drawable;
@@ -93,4 +102,10 @@ drawn_whole before mid now facts old new made boxes rects are read drawn these t
       notices = told ∙ (ap₂ (λ bs rs. (sized (sizes_of bs rs) mid).notices) boxes_are there
           ∙ ap (λ (w : World). (sized (sizes_of (box_facts before) new.rects) w).notices) read);
       last_one = drawn.last;
+      sum = refl;
+    } in
+    record {
+      cost = look_cost before + (sized (sizes_of (box_facts before) new.rects) (looked before)).cost;
+      done = is_drawn;
+      few = omega (arith, few, still, published_few);
     }

@@ -40,12 +40,13 @@ work_as world facts scene before now frame old new are is last laid few painted 
 }
 
 pub pulse_work : (before now : Game) (mid : World) (seen : Rendering) (next : Rendering) (made : Pulsed) (old new : Counted)
+    (cost : ℕ)
     → before.last ≡ last_frame seen → now.last ≡ last_frame next
-    → IsDrawn before.world mid (last_frame seen) (last_frame next) (pulsed_as next made)
+    → IsDrawn before.world mid (last_frame seen) (last_frame next) (pulsed_as next made) cost
     → IsDrawWork before.world seen next made.frame old new
     → IsPulseWork before now (record { scene = seen.kept.last; layout = seen.kept.layout })
     (record { scene = next.kept.last; layout = next.kept.layout }) old new
-pulse_work before now mid seen next made old new was is drawn work = record {
+pulse_work before now mid seen next made old new cost was is drawn work = record {
   frame = (pulsed_as next made).frame;
   shown = is ∙ drawn.last_one;
   scene = work.scene;

@@ -1,6 +1,7 @@
 //! The game, and its lines.
 ghost use Rattle.std.specs.Prelude.{◌≡◌, ◌≤◌, ◌<◌, ◌+◌, ◌-◌, ◌^◌, [], IfOk, None, OnOk, is_some, length, true};
 ghost use Rattle.fx_frame_text.specs.declared.forms.Form.{Form as Image};
+ghost use Rattle.fx_plain_dispatch.specs.Costs.{IsDoneWithin};
 ghost use Rattle.fx_plain_frames.specs.Games.{begun};
 ghost use Rattle.fx_plain_frames.specs.Playing.{IsExplained, IsStep, IsTimed, IsTold, IsToldOf, explained_by, is_pulse as is_pulse_request, time_line};
 ghost use Rattle.fx_plain_steps.specs.Told.{lines_told};
@@ -58,8 +59,9 @@ impl Game {
     ) -> Result<Taken, AllocError>
         requires few { self.old.frames < 2 ^ 64 - 1 }
         ensures told { IfOk result (λ taken. (form : Image) →
-            IsTold form (line_view line) (game_of self.old) (game_of self.new)
-            (told_as form (game_of self.old).last (game_of self.new) taken trace.new.text.items)) }
+            IsDoneWithin (IsTold form (line_view line) (game_of self.old) (game_of self.new)
+            (told_as form (game_of self.old).last (game_of self.new) taken trace.new.text.items))
+            work.old.evaluated work.new.evaluated) }
         ensures shown { IfOk result (HasFrame (game_of self.new)) }
         ensures last { IfOk result (λ taken.
             last_behind taken (game_of self.old).last (game_of self.new) ≡ (game_of self.new).last) }
@@ -85,10 +87,11 @@ impl Game {
         trace: &mut Trace,
         work: &mut Work<L>,
     ) -> Result<(), AllocError>
-        ensures told { OnOk result (IsToldOf (time_line (line_view line).request)
+        ensures told { OnOk result (IsDoneWithin (IsToldOf (time_line (line_view line).request)
             (explained_by (line_view line).request)
             (line_view line) (game_of self.old) (game_of self.new)
-            (lines_told trace.new.text.items (length trace.new.heard.items))) }
+            (lines_told trace.new.text.items (length trace.new.heard.items)))
+            work.old.evaluated work.new.evaluated) }
         ensures frames { self.new.frames ≡ self.old.frames }
         ensures last { self.new.renderer ≡ self.old.renderer }
         ensures others { work.new ≡ record work.old { evaluated = work.new.evaluated } }
@@ -108,9 +111,10 @@ impl Game {
         work: &mut Work<L>,
     ) -> Result<(), AllocError>
         requires own { is_own (line_view line.now).request ≡ true }
-        ensures told { OnOk result (IsToldOf (time_line (line_view line.now).request)
+        ensures told { OnOk result (IsDoneWithin (IsToldOf (time_line (line_view line.now).request)
             (explained_by (line_view line.now).request) (line_view line.now) (game_of self.old) (game_of self.new)
-            (lines_told trace.new.text.items (length trace.new.heard.items))) }
+            (lines_told trace.new.text.items (length trace.new.heard.items)))
+            work.old.evaluated work.new.evaluated) }
         ensures frames { self.new.frames ≡ self.old.frames }
         ensures last { self.new.renderer ≡ self.old.renderer }
         ensures others { work.new ≡ record work.old { evaluated = work.new.evaluated } }
@@ -130,8 +134,10 @@ impl Game {
         work: &mut Work<L>,
     ) -> Result<(), AllocError>
         requires asks { is_some (explained_by (line_view line.now).request) ≡ true }
-        ensures told { OnOk result (IsToldOf None (explained_by (line_view line.now).request) (line_view line.now)
-            (game_of self.old) (game_of self.new) (lines_told trace.new.text.items (length trace.new.heard.items))) }
+        ensures told { OnOk result (IsDoneWithin
+            (IsToldOf None (explained_by (line_view line.now).request) (line_view line.now)
+            (game_of self.old) (game_of self.new) (lines_told trace.new.text.items (length trace.new.heard.items)))
+            work.old.evaluated work.new.evaluated) }
         ensures frames { self.new.frames ≡ self.old.frames }
         ensures last { self.new.renderer ≡ self.old.renderer }
         ensures others { work.new ≡ record work.old { evaluated = work.new.evaluated } }
@@ -151,8 +157,9 @@ impl Game {
         trace: &mut Trace,
         work: &mut Work<L>,
     ) -> Result<(), AllocError>
-        ensures timed { OnOk result (IsTimed number instruction.now (game_of self.old) (game_of self.new)
-            (lines_told trace.new.text.items (length trace.new.heard.items))) }
+        ensures timed { OnOk result (IsDoneWithin (IsTimed number instruction.now (game_of self.old) (game_of self.new)
+            (lines_told trace.new.text.items (length trace.new.heard.items)))
+            work.old.evaluated work.new.evaluated) }
         ensures frames { self.new.frames ≡ self.old.frames }
         ensures last { self.new.renderer ≡ self.old.renderer }
         ensures others { work.new ≡ record work.old { evaluated = work.new.evaluated } }
@@ -172,8 +179,10 @@ impl Game {
         trace: &mut Trace,
         work: &mut Work<L>,
     ) -> Result<(), AllocError>
-        ensures explained { OnOk result (IsExplained number (path.now, name.now) (game_of self.old) (game_of self.new)
-            (lines_told trace.new.text.items (length trace.new.heard.items))) }
+        ensures explained { OnOk result (IsDoneWithin
+            (IsExplained number (path.now, name.now) (game_of self.old) (game_of self.new)
+            (lines_told trace.new.text.items (length trace.new.heard.items)))
+            work.old.evaluated work.new.evaluated) }
         ensures frames { self.new.frames ≡ self.old.frames }
         ensures last { self.new.renderer ≡ self.old.renderer }
         ensures others { work.new ≡ record work.old { evaluated = work.new.evaluated } }
@@ -189,8 +198,9 @@ impl Game {
         trace: &mut Trace,
         work: &mut Work<L>,
     ) -> Result<(), AllocError>
-        ensures step { OnOk result (IsStep (line_view line) (game_of self.old) (game_of self.new)
-            (lines_told trace.new.text.items (length trace.new.heard.items))) }
+        ensures step { OnOk result (IsDoneWithin (IsStep (line_view line) (game_of self.old) (game_of self.new)
+            (lines_told trace.new.text.items (length trace.new.heard.items)))
+            work.old.evaluated work.new.evaluated) }
         ensures frames { self.new.frames ≡ self.old.frames }
         ensures last { self.new.renderer ≡ self.old.renderer }
         ensures others { work.new ≡ record work.old { evaluated = work.new.evaluated } }

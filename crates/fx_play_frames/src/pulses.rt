@@ -1,9 +1,10 @@
 //! What a `pulse` does: the next frame, and the sizes that are published behind it.
-ghost use Rattle.std.specs.Prelude.{◌≡◌, ◌<◌, ◌+◌, ◌-◌, ◌^◌, All, IfOk, IfSome, IsSome, IsTrue, OnOk, Some};
+ghost use Rattle.std.specs.Prelude.{◌≡◌, ◌≤◌, ◌<◌, ◌+◌, ◌-◌, ◌^◌, All, IfOk, IfSome, IsSome, IsTrue, OnOk, Some};
 ghost use Rattle.fx_delta.specs.Pictures.{is_size};
 ghost use Rattle.fx_frame_text.specs.declared.forms.Form.{Form as Image};
 ghost use Rattle.fx_plain_frames.specs.Drawable.{IsDrawable};
 ghost use Rattle.fx_plain_frames.specs.Playing.{IsShown};
+ghost use Rattle.fx_plain_dispatch.specs.Costs.{IsDoneWithin};
 ghost use Rattle.fx_plain_dispatch.specs.Settling.{IsSettledWhole};
 ghost use Rattle.fx_plain_frames.specs.Pulses.{IsDrawn, course_behind, sizes_of as sizes};
 ghost use Rattle.fx_plain_work.specs.Works.{IsPulseWork, counted};
@@ -12,7 +13,7 @@ ghost use Rattle.fx_play_frames.specs.Games.{game_of, sight_of};
 ghost use Rattle.fx_play_frames.specs.Takings.{HasFrame, IsSmallRect, IsSmallTaken, last_behind, told_as};
 ghost use Rattle.fx_play_steps.specs.Traces.{course_of};
 ghost use Rattle.fx_pulse.specs.Rendering.{last_frame};
-ghost use Rattle.fx_stage_facts.specs.Publishing.{AreOnce, IsPublished};
+ghost use Rattle.fx_stage_facts.specs.Publishing.{AreOnce, IsPublished, sized};
 ghost use Rattle.fx_stage_facts.specs.Scenes.{facts_of};
 ghost use Rattle.fx_stage_model.specs.World.{World};
 
@@ -52,8 +53,9 @@ impl Game {
     ) -> Result<Taken, AllocError>
         requires few { self.old.frames < 2 ^ 64 - 1 }
         ensures shown { IfOk result (λ taken. (form : Image) →
-            IsShown form number (game_of self.old) (game_of self.new)
-            (told_as form (game_of self.old).last (game_of self.new) taken trace.new.text.items)) }
+            IsDoneWithin (IsShown form number (game_of self.old) (game_of self.new)
+            (told_as form (game_of self.old).last (game_of self.new) taken trace.new.text.items))
+            work.old.evaluated work.new.evaluated) }
         ensures frame { IfOk result (HasFrame (game_of self.new)) }
         ensures last { IfOk result (λ taken.
             last_behind taken (game_of self.old).last (game_of self.new) ≡ (game_of self.new).last) }
@@ -82,8 +84,8 @@ fn tell<L: Ledgers>(
     trace: &mut Trace,
     work: &mut Work<L>,
 ) -> Result<(), AllocError>
-    ensures settled { OnOk result (IsSettledWhole number (course_behind stage.old notices.now)
-        (course_of stage.new trace.new)) }
+    ensures settled { OnOk result (IsDoneWithin (IsSettledWhole number (course_behind stage.old notices.now)
+        (course_of stage.new trace.new)) work.old.evaluated work.new.evaluated) }
     ensures others { work.new ≡ record work.old { evaluated = work.new.evaluated } }
 {
     trace.clear();
@@ -99,8 +101,8 @@ fn drawn<L: Ledgers>(
     work: &mut Work<L>,
 ) -> Result<Pulsed, AllocError>
     ensures drawn { IfOk result (λ pulsed.
-        IsDrawn stage.old stage.new (last_frame renderer.old) (last_frame renderer.new)
-        (pulsed_as renderer.new pulsed)) }
+        IsDoneWithin (IsDrawn stage.old stage.new (last_frame renderer.old) (last_frame renderer.new)
+        (pulsed_as renderer.new pulsed)) work.old.evaluated work.new.evaluated) }
     ensures small { IfOk result (λ pulsed. All IsSmallRect pulsed.frame.damage.items) }
     ensures work { IfOk result (λ pulsed. IsDrawWork stage.old renderer.old renderer.new pulsed.frame
         (counted work.old.styled work.old.laid work.old.painted)
@@ -135,6 +137,7 @@ fn draw<L: Ledgers>(
         → IfOk result (λ frame. IsDrawWork world renderer.old renderer.new frame
         (counted work.old.styled work.old.laid work.old.painted)
         (counted work.new.styled work.new.laid work.new.painted)) }
+    ensures evaluated { OnOk result (work.new.evaluated ≡ work.old.evaluated) }
 {
     let scene = scene_in(facts);
     if !is_fit(alloc, scene, facts.window)? {
@@ -191,6 +194,8 @@ fn publish_sizes<L: Ledgers>(
 ) -> Result<Notices, AllocError>
     requires once { AreOnce (sizes boxes.now rects.now) }
     ensures published { OnOk result (IsPublished window (sizes boxes.now rects.now) stage.old stage.new result) }
+    ensures few { OnOk result (work.new.evaluated
+        ≤ work.old.evaluated + (sized (sizes boxes.now rects.now) stage.old).cost) }
     ensures others { work.new ≡ record work.old { evaluated = work.new.evaluated } }
 {
     let sizes = sizes_of(alloc, boxes, rects)?;

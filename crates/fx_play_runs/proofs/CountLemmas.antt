@@ -16,25 +16,6 @@ use Rattle.fx_script_commands.specs.declared.commands.Line.{Line}
 use Rattle.fx_play_runs.specs.Lines.{IsLineCounted}
 use Rattle.fx_play_runs.proofs.LineLemmas.{next_line, nothing_left}
 
-pub one_counted : (form : Form) {first now next : Game} {all : List Numbered} {totals more sum : Totals}
-    (left rest : List Line) (line : Line) → left ≡ rest ++ (line ∷ [])
-    → IsCounting form first now all (map line_view (reverse left)) totals
-    → IsLineCounted form (line_view line) now next more → AreSmall more → sum ≡ added totals more
-    → IsCounting form first next all (map line_view (reverse rest)) sum
-one_counted form {first} {now} {next} {all} {totals} {more} {sum} left rest line e so counted small same =
-    let IsNext : List Numbered → Type 0 = λ lines. IsCounting form first now all lines totals in
-    let IsSum : Totals → Type 0 = λ t. IsCounting form first next all (map line_view (reverse rest)) t in
-    subst IsSum (sym same)
-    (goes_on (line_view line) counted.told more (subst IsNext (next_line left rest line e) so) counted.is counted.adds small)
-
--- all lines are left
-pub all_uncounted : (form : Form) (first : Game) (lines : List Line) {left : List Line} → left ≡ reverse lines
-    → IsCounting form first first (map line_view lines) (map line_view (reverse left)) no_totals
-all_uncounted form first lines {left} turned =
-    let IsFirst : List Line → Type 0 =
-    λ rest. IsCounting form first first (map line_view lines) (map line_view rest) no_totals in
-    subst IsFirst (sym (ap reverse turned ∙ reverse-reverse lines)) (begins form first (map line_view lines))
-
 -- no line is left
 pub none_uncounted : (form : Form) {first now : Game} {all : List Numbered} {totals : Totals} (left : Vec Line Global)
     → vec_len left ≡ 0 → IsCounting form first now all (map line_view (reverse left.items)) totals

@@ -20,28 +20,19 @@ use Rattle.fx_play_runs.specs.Lines.{IsLinePart, IsLineWhole, none_written, part
 
 -- of a line that is taken, a part is written
 pub part_told : {E : Type 0} (form : Form) (line : Numbered) (before now : Game) (taken : Taken) {text bytes : List ℕ}
-    {old new : Option (List ℕ)} (result : Result (Unit {0}) E) → text ≡ bytes
-    → IsTold form line before now (told_as form before.last now taken bytes)
+    {old new : Option (List ℕ)} (result : Result (Unit {0}) E) → text ≡ bytes → (cost : ℕ)
+    → IsTold form line before now (told_as form before.last now taken bytes) cost
     → Writes old new result (told_as form before.last now taken text).text
     → OnErr result (IsLinePart form line before old new)
-part_told form line before now taken (Ok done) same is writes = tt
-part_told form line before now taken {text} {bytes} {old} {new} (Err error) same is writes =
-    part_written now (told_as form before.last now taken text)
-    (subst (λ (t : List ℕ). IsTold form line before now (told_as form before.last now taken t)) (sym same) is) writes.err
+part_told form line before now taken (Ok done) same cost is writes = tt
+part_told form line before now taken {text} {bytes} {old} {new} (Err error) same cost is writes =
+    part_written now (told_as form before.last now taken text) cost
+    (subst (λ (t : List ℕ). IsTold form line before now (told_as form before.last now taken t) cost) (sym same) is) writes.err
 
 -- the next line stands last where the order is turned
 pub next_line : (left rest : List Line) (line : Line) → left ≡ rest ++ (line ∷ [])
     → map line_view (reverse left) ≡ line_view line ∷ map line_view (reverse rest)
 next_line left rest line e = ap (map line_view) (ap reverse e ∙ reverse-append rest (line ∷ []))
-
-pub one_more : {form : Form} {warnings : List ℕ} {first now next : Game} {all : List Numbered}
-    {old mid new : Option (List ℕ)} (left rest : List Line) (line : Line) → left ≡ rest ++ (line ∷ [])
-    → IsPlaying form warnings first now all (map line_view (reverse left)) old mid
-    → IsLineWhole form (line_view line) now next mid new
-    → IsPlaying form warnings first next all (map line_view (reverse rest)) old new
-one_more {form} {warnings} {first} {now} {next} {all} {old} {mid} {new} left rest line e so whole =
-    let IsNext : List Numbered → Type 0 = λ lines. IsPlaying form warnings first now all lines old mid in
-    goes_on (line_view line) whole.told (subst IsNext (next_line left rest line e) so) whole.is whole.wrote
 
 pub cut_at : {manner : Manner} {warnings : List ℕ} {first now : Game} {all : List Numbered}
     {old mid new : Option (List ℕ)} (left rest : List Line) (line : Line) → left ≡ rest ++ (line ∷ [])
@@ -50,9 +41,9 @@ pub cut_at : {manner : Manner} {warnings : List ℕ} {first now : Game} {all : L
 cut_at {manner} {warnings} {first} {now} {all} {old} {mid} {new} left rest line e h so (none_written same) =
     let IsCut : Option (List ℕ) → Type 0 = λ written. IsPutPart manner warnings first all old written in
     subst IsCut (sym same) (stops_before h so)
-cut_at {manner} {warnings} {first} {now} {all} {old} {mid} {new} left rest line e h so (part_written next told is part) =
+cut_at {manner} {warnings} {first} {now} {all} {old} {mid} {new} left rest line e h so (part_written next told cost is part) =
     let IsNext : List Numbered → Type 0 = λ lines. IsPlaying manner.form warnings first now all lines old mid in
-    stops_in next (line_view line) told h (subst IsNext (next_line left rest line e) so) is part
+    stops_in next (line_view line) told h (subst IsNext (next_line left rest line e) so) cost is part
 
 pub nothing_left : (left : List Line) → length left ≡ 0 → left ≡ []
 nothing_left [] h = refl
@@ -67,16 +58,6 @@ none_left {manner} {warnings} {first} {now} {all} {old} {new} left h long so =
     let IsLast : List Line → Type 0 =
     λ lines. IsPlaying manner.form warnings first now all (map line_view (reverse lines)) old new in
     ends long (subst IsLast (nothing_left left.items (let long : length left.items ≡ vec_len left = cc in long ∙ h)) so)
-
--- all lines are left
-pub all_left : (form : Form) (warnings : List ℕ) (first : Game) (lines : List Line) {left : List Line}
-    {old new : Option (List ℕ)} → left ≡ reverse lines → new ≡ grown old warnings
-    → IsPlaying form warnings first first (map line_view lines) (map line_view (reverse left)) old new
-all_left form warnings first lines {left} {old} {new} turned told =
-    let IsFirst : List Line → Type 0 =
-    λ rest. IsPlaying form warnings first first (map line_view lines) (map line_view rest) old new in
-    subst IsFirst (sym (ap reverse turned ∙ reverse-reverse lines))
-    (begins form warnings first (map line_view lines) old new told)
 
 pub one_less : (left rest : List Line) (line : Line) → left ≡ rest ++ (line ∷ []) → length left ≡ length rest + 1
 one_less left rest line e = ap length e ∙ length-append rest (line ∷ [])

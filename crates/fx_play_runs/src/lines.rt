@@ -1,11 +1,12 @@
 //! Lines that are taken and written one by one.
 ghost use Rattle.std.specs.Prelude.{◌≡◌, ◌≤◌, ◌<◌, ◌+◌, ◌-◌, ◌^◌, ℕ, List, None, OnErr, OnOk, Option, false, map, vec_len};
 ghost use Rattle.fx_plain_runs.specs.Runs.{IsPut};
+ghost use Rattle.fx_plain_dispatch.specs.Costs.{IsDoneWithin};
 ghost use Rattle.fx_plain_frames.specs.Playing.{is_pulse};
-ghost use Rattle.fx_plain_work.specs.Works.{IsLineWork, IsWorked, counted};
+ghost use Rattle.fx_plain_work.specs.Works.{IsLineWork, counted};
 ghost use Rattle.fx_play_frames.specs.Games.{game_of, sight_of};
 ghost use Rattle.fx_play_frames.specs.Takings.{IsAt};
-ghost use Rattle.fx_play_runs.specs.Lines.{IsLinePart, IsLineWhole};
+ghost use Rattle.fx_play_runs.specs.Lines.{AreDone, IsLinePart, IsLineWhole};
 ghost use Rattle.fx_port.specs.Causes.{HasCause};
 ghost use Rattle.fx_port.specs.Pieces.{grown};
 ghost use Rattle.fx_port.specs.declared.pieces.PutError.TheVariants.{Failed};
@@ -37,9 +38,10 @@ pub(crate) fn put_lines<O: Sink, L: Ledgers>(
     ensures cause { HasCause Failed (O.faults out.old) (O.faults out.new) result }
     ensures put { IsPut manner warnings.now (game_of game.old) (map line_view lines.items) (O.written out.old)
         (O.written out.new) result }
-    ensures work { OnOk result (IsWorked manner.form (game_of game.old) (sight_of game.old) (map line_view lines.items)
+    ensures work { OnOk result (IsDoneWithin (AreDone manner warnings.now (game_of game.old) (sight_of game.old)
+        (map line_view lines.items) (O.written out.old) (O.written out.new)
         (counted work.old.styled work.old.laid work.old.painted)
-        (counted work.new.styled work.new.laid work.new.painted)) }
+        (counted work.new.styled work.new.laid work.new.painted)) work.old.evaluated work.new.evaluated) }
 {
     out.put(warnings)?;
     put_each(alloc, manner, game, lines, out, work)
@@ -61,9 +63,11 @@ fn put_each<O: Sink, L: Ledgers>(
     ensures cause { HasCause Failed (O.faults out.old) (O.faults out.new) result }
     ensures put { (warnings : List ℕ) (begun : Option (List ℕ)) → O.written out.old ≡ grown begun warnings →
         IsPut manner warnings (game_of game.old) (map line_view lines.items) begun (O.written out.new) result }
-    ensures work { OnOk result (IsWorked manner.form (game_of game.old) (sight_of game.old) (map line_view lines.items)
+    ensures work { (warnings : List ℕ) (begun : Option (List ℕ)) → O.written out.old ≡ grown begun warnings →
+        OnOk result (IsDoneWithin (AreDone manner warnings (game_of game.old) (sight_of game.old)
+        (map line_view lines.items) begun (O.written out.new)
         (counted work.old.styled work.old.laid work.old.painted)
-        (counted work.new.styled work.new.laid work.new.painted)) }
+        (counted work.new.styled work.new.laid work.new.painted)) work.old.evaluated work.new.evaluated) }
 {
     let mut trace = Trace::new(alloc);
     let mut writer = FrameWriter::new(alloc, manner.form);
@@ -89,8 +93,8 @@ fn put_line<O: Sink, L: Ledgers>(
     requires behind { IsAt writer.old (game_of game.old).last }
     ensures form { writer.new.form ≡ writer.old.form }
     ensures cause { HasCause Failed (O.faults out.old) (O.faults out.new) result }
-    ensures done { OnOk result (IsLineWhole writer.old.form (line_view line) (game_of game.old) (game_of game.new)
-        (O.written out.old) (O.written out.new)) }
+    ensures done { OnOk result (IsDoneWithin (IsLineWhole writer.old.form (line_view line) (game_of game.old)
+        (game_of game.new) (O.written out.old) (O.written out.new)) work.old.evaluated work.new.evaluated) }
     ensures cut { OnErr result (IsLinePart writer.old.form (line_view line) (game_of game.old) (O.written out.old)
         (O.written out.new)) }
     ensures behind { OnOk result (IsAt writer.new (game_of game.new).last) }

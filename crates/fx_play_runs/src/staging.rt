@@ -1,5 +1,5 @@
 //! The game of a scene before the first line of its script.
-ghost use Rattle.std.specs.Prelude.{◌≡◌, IfOk, None, Some};
+ghost use Rattle.std.specs.Prelude.{◌≡◌, ◌≤◌, IfOk, None, OnOk, Some};
 ghost use Rattle.fx_plain_frames.specs.Games.{begun};
 ghost use Rattle.fx_plain_runs.specs.Runs.{in_window};
 ghost use Rattle.fx_plain_work.specs.Works.{no_sight};
@@ -25,6 +25,7 @@ pub fn staged<L: Ledgers>(
     ensures fresh { IfOk result (λ game. game.frames ≡ 0) }
     ensures unseen { IfOk result (λ game. (game_of game).last ≡ None) }
     ensures sight { IfOk result (λ game. sight_of game ≡ no_sight) }
+    ensures quiet { OnOk result (work.new.evaluated ≤ work.old.evaluated) }
     ensures others { work.new ≡ record work.old { evaluated = work.new.evaluated } }
 {
     let mut stage = Stage::new(alloc);

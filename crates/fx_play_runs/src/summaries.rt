@@ -1,13 +1,14 @@
 //! Lines that are taken and counted, and the one line that tells their totals.
 ghost use Rattle.std.specs.Prelude.{◌≡◌, ◌≤◌, ◌<◌, ◌+◌, ◌-◌, ◌^◌, IfOk, List, OnOk, map, true, vec_len, ℕ};
 ghost use Rattle.fx_frame_text.specs.declared.forms.Form.{Form};
+ghost use Rattle.fx_plain_dispatch.specs.Costs.{IsDoneWithin};
 ghost use Rattle.fx_plain_runs.specs.Runs.{AreCounted, IsPut};
 ghost use Rattle.fx_plain_steps.specs.Told.{AreSmall, summary_line};
 ghost use Rattle.fx_plain_frames.specs.Playing.{is_pulse};
-ghost use Rattle.fx_plain_work.specs.Works.{IsLineWork, IsWorked, counted};
+ghost use Rattle.fx_plain_work.specs.Works.{IsLineWork, counted};
 ghost use Rattle.fx_play_frames.specs.Games.{game_of, sight_of};
 ghost use Rattle.fx_play_frames.specs.Takings.{totals_in};
-ghost use Rattle.fx_play_runs.specs.Lines.{IsLineCounted};
+ghost use Rattle.fx_play_runs.specs.Lines.{AreAdded, AreDone, IsLineCounted};
 ghost use Rattle.fx_port.specs.Causes.{HasCause};
 ghost use Rattle.fx_port.specs.declared.pieces.PutError.TheVariants.{Failed};
 ghost use Rattle.fx_script_commands.specs.Requests.{line_view};
@@ -35,9 +36,11 @@ pub(crate) fn put_summary<O: Sink, L: Ledgers>(
     ensures cause { HasCause Failed (O.faults out.old) (O.faults out.new) result }
     ensures put { (warnings : List ℕ) → IsPut manner warnings (game_of game.old) (map line_view lines.items)
         (O.written out.old) (O.written out.new) result }
-    ensures work { OnOk result (IsWorked manner.form (game_of game.old) (sight_of game.old) (map line_view lines.items)
+    ensures work { (warnings : List ℕ) →
+        OnOk result (IsDoneWithin (AreDone manner warnings (game_of game.old) (sight_of game.old)
+        (map line_view lines.items) (O.written out.old) (O.written out.new)
         (counted work.old.styled work.old.laid work.old.painted)
-        (counted work.new.styled work.new.laid work.new.painted)) }
+        (counted work.new.styled work.new.laid work.new.painted)) work.old.evaluated work.new.evaluated) }
 {
     let totals = count_lines(alloc, game, lines, work)?;
     let text = summary_text(alloc, totals)?;
@@ -68,9 +71,10 @@ fn count_lines<L: Ledgers>(
     requires fresh { game.old.frames ≡ 0 }
     ensures counted { IfOk result (λ totals. (form : Form) →
         AreCounted form (game_of game.old) (map line_view lines.items) (totals_in totals)) }
-    ensures work { (form : Form) → OnOk result (IsWorked form (game_of game.old) (sight_of game.old)
-        (map line_view lines.items) (counted work.old.styled work.old.laid work.old.painted)
-        (counted work.new.styled work.new.laid work.new.painted)) }
+    ensures work { IfOk result (λ totals. (form : Form) → IsDoneWithin (AreAdded form (game_of game.old)
+        (sight_of game.old) (map line_view lines.items) (totals_in totals)
+        (counted work.old.styled work.old.laid work.old.painted)
+        (counted work.new.styled work.new.laid work.new.painted)) work.old.evaluated work.new.evaluated) }
 {
     let mut trace = Trace::new(alloc);
     let mut totals = Counts::NONE;
@@ -93,7 +97,8 @@ fn count_line<L: Ledgers>(
 ) -> Result<Counts, AllocError>
     requires few { game.old.frames < 2 ^ 64 - 1 }
     ensures counted { IfOk result (λ more. (form : Form) →
-        IsLineCounted form (line_view line) (game_of game.old) (game_of game.new) (totals_in more)) }
+        IsDoneWithin (IsLineCounted form (line_view line) (game_of game.old) (game_of game.new) (totals_in more))
+        work.old.evaluated work.new.evaluated) }
     ensures small { IfOk result (λ more. AreSmall (totals_in more)) }
     ensures frames { OnOk result (game.new.frames ≤ game.old.frames + 1) }
     ensures work { OnOk result (IsLineWork (is_pulse (line_view line).request) (game_of game.old) (game_of game.new)

@@ -1,9 +1,11 @@
 //! Lines of a script, one by one.
-ghost use Rattle.std.specs.Prelude.{◌≡◌, ℕ, false, true};
+ghost use Rattle.std.specs.Prelude.{◌≡◌, ◌≤◌, ◌+◌, ℕ, false, true};
 ghost use Rattle.fx_plain_steps.specs.Lines as spec;
 ghost use Rattle.fx_play_steps.specs.Taken.{IsMade};
 ghost use Rattle.fx_play_steps.specs.Traces.{course_of};
-ghost use Rattle.fx_script_commands.specs.Requests.{bad, command_view, line_view};
+ghost use Rattle.fx_stage_model.specs.Answers.{cost_of};
+ghost use Rattle.fx_stage_model.specs.Lines.{taken};
+ghost use Rattle.fx_script_commands.specs.Requests.{asks, bad, command_view, line_view};
 
 use crate::asking::{asked_by, is_barred, is_carried, saying};
 use crate::printing::{print_answer, print_refused, say};
@@ -27,6 +29,8 @@ pub fn take_line<L: Ledgers>(
     ensures made { (slot : ℕ) × IsMade
         (spec.line_step slot (line_view line).number (line_view line).request stage.old)
         (course_of stage.old trace.old) (course_of stage.new trace.new) result }
+    ensures few { (slot : ℕ) → work.new.evaluated
+        ≤ work.old.evaluated + cost_of (taken slot (line_view line).request stage.old) }
     ensures others { work.new ≡ record work.old { evaluated = work.new.evaluated } }
 {
     let Line { number, command } = line;
@@ -44,6 +48,8 @@ fn take_command<L: Ledgers>(
 ) -> Result<(), AllocError>
     ensures made { (slot : ℕ) × IsMade (spec.line_step slot number (command_view command) stage.old)
         (course_of stage.old trace.old) (course_of stage.new trace.new) result }
+    ensures few { (slot : ℕ) → work.new.evaluated
+        ≤ work.old.evaluated + cost_of (taken slot (command_view command) stage.old) }
     ensures others { work.new ≡ record work.old { evaluated = work.new.evaluated } }
 {
     match command {
@@ -74,6 +80,8 @@ pub fn take_inner<L: Ledgers>(
     ensures made { (slot : ℕ) × IsMade
         (spec.inner_step slot (line_view line.now).number (line_view line.now).request stage.old)
         (course_of stage.old trace.old) (course_of stage.new trace.new) result }
+    ensures few { (slot : ℕ) → work.new.evaluated
+        ≤ work.old.evaluated + cost_of (taken slot (line_view line.now).request stage.old) }
     ensures others { work.new ≡ record work.old { evaluated = work.new.evaluated } }
 {
     take_inner_command(alloc, stage, line.number, &line.command, trace, work)
@@ -90,6 +98,8 @@ fn take_inner_command<L: Ledgers>(
 ) -> Result<(), AllocError>
     ensures made { (slot : ℕ) × IsMade (spec.inner_step slot number (command_view command.now) stage.old)
         (course_of stage.old trace.old) (course_of stage.new trace.new) result }
+    ensures few { (slot : ℕ) → work.new.evaluated
+        ≤ work.old.evaluated + cost_of (taken slot (command_view command.now) stage.old) }
     ensures others { work.new ≡ record work.old { evaluated = work.new.evaluated } }
 {
     if is_barred(command) {
@@ -111,6 +121,8 @@ fn take_lent<L: Ledgers>(
     requires { spec.is_barred (command_view command.now) ≡ false }
     ensures made { (slot : ℕ) × IsMade (spec.line_step slot number (command_view command.now) stage.old)
         (course_of stage.old trace.old) (course_of stage.new trace.new) result }
+    ensures few { (slot : ℕ) → work.new.evaluated
+        ≤ work.old.evaluated + cost_of (taken slot (command_view command.now) stage.old) }
     ensures others { work.new ≡ record work.old { evaluated = work.new.evaluated } }
 {
     match command {
@@ -137,6 +149,8 @@ fn take_instruction<L: Ledgers>(
 ) -> Result<(), AllocError>
     ensures made { (slot : ℕ) × IsMade (spec.instruction_step slot number instruction.now stage.old)
         (course_of stage.old trace.old) (course_of stage.new trace.new) result }
+    ensures few { (slot : ℕ) → work.new.evaluated
+        ≤ work.old.evaluated + cost_of (taken slot (asks instruction.now) stage.old) }
     ensures others { work.new ≡ record work.old { evaluated = work.new.evaluated } }
 {
     if !is_carried(instruction) {

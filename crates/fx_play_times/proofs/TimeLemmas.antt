@@ -1,5 +1,5 @@
 -- Lines that let no time pass, and what a tick sets.
-use Rattle.std.proofs.Common.{◌≡◌, ◌∙◌, ℕ, Bool, false, inl, inr, List, [], map, None, OnOk, Option, Some, Result, Ok, Err, ap, ap₂, refl, subst, sym}
+use Rattle.std.proofs.Common.{◌≡◌, ◌≢◌, ◌∙◌, ◌≤◌, ◌+◌, ◌++◌, ◌∷◌, ℕ, Bool, arith, false, inl, inr, List, [], map, None, IfErr, OnOk, Option, Some, Result, Ok, Err, ap, ap₂, refl, subst, sym}
 use Rattle.std.specs.declared.alloc.AllocError.{AllocError}
 use Rattle.fx_anim.specs.Line.{Line, line_at, sets_of, ticked}
 use Rattle.fx_base.specs.declared.keys.Name.{Name}
@@ -9,18 +9,20 @@ use Rattle.fx_look.specs.Readings.{value_at}
 use Rattle.fx_plain_steps.specs.Courses.{Course, after, begun}
 use Rattle.fx_plain_steps.specs.Lines.{answered}
 use Rattle.fx_plain_times.specs.Clocks.{Clock, find}
-use Rattle.fx_plain_times.specs.Lines.{Passed, keyed, keyed_at, passed, passed_or_refused, still, tick, timed}
-use Rattle.fx_plain_times.specs.Ticks.{all_animated}
+use Rattle.fx_plain_times.specs.Lines.{Passed, keyed, keyed_at, passed, passed_or_refused, still, tick, tick_cost, timed}
+use Rattle.fx_plain_times.specs.Ticks.{after_set, all_animated, animated, cost_of_sets}
 use Rattle.fx_plain_times.specs.Times.{time_of}
 use Rattle.fx_script_lines.specs.declared.instructions.Instruction.{Instruction}
 use Rattle.fx_script_lines.specs.declared.instructions.Instruction.TheVariants as line
-use Rattle.fx_stage_model.specs.Answers.{and_then, or_word}
+use Rattle.fx_stage_model.specs.Answers.{and_then, cost_of, or_word}
 use Rattle.fx_stage_model.specs.Looking as looking
+use Rattle.fx_stage_model.specs.Properties.{changed}
 use Rattle.fx_stage_model.specs.World.{World}
 use Rattle.fx_stage_types.specs.declared.answers.StageError.{StageError}
 use Rattle.fx_stage_types.specs.declared.answers.StageError.TheVariants.{Memory, Refused}
 use Rattle.fx_stage_types.specs.declared.refusals.Refusal.{Refusal}
 use Rattle.fx_stage_types.specs.declared.refusals.Refusal.TheVariants as word
+use Rattle.fx_store_model.specs.declared.changes.Change.TheVariants.{Set}
 use Rattle.fx_play_steps.specs.Traces.{course_of}
 use Rattle.fx_play_steps.specs.declared.traces.Trace.{Trace}
 use Rattle.fx_play_times.specs.Passing.{HasPassed, IsKept, IsPrinted, IsTimed, passed_as}
@@ -143,3 +145,45 @@ tick_so time clock now world before fresh course n ms sets when same labels line
     made ∙ ap₂ all_animated (are ∙ ap (λ (m : ℕ). sets_of m clock.lines) same) begins in
     subst (λ (answer : Result Passed Refusal). IsTimed answer before (passed_as now course) (Ok tt))
     (sym (tick_is time clock world ms when)) (ap₂ passed_as clock_is course_is)
+
+-- properties that take their values one after another
+
+pub animated_more : (sets : List (Name × Value)) (one : Name × Value) (course : Course)
+    → all_animated (sets ++ one ∷ []) course ≡ after_set (all_animated sets course) one
+animated_more [] one course = refl
+animated_more (set ∷ sets) one course = animated_more sets one (after_set course set)
+
+pub cost_more : (sets : List (Name × Value)) (one : Name × Value) (course : Course)
+    → cost_of_sets (sets ++ one ∷ []) course.world
+    ≡ cost_of_sets sets course.world + cost_of (changed (Set one.0 one.1) (all_animated sets course).world)
+unfolding cost_of_sets
+cost_more [] one course = omega arith
+cost_more (set ∷ sets) one course =
+    let rest = cost_more sets one (after_set course set) in
+    ap (λ (n : ℕ). cost_of (changed (Set set.0 set.1) course.world) + n) rest
+    ∙ omega arith
+
+-- what a line that was printed evaluated
+pub few_told : (number : ℕ) (answer : Result (Unit {0}) StageError) (before now : Trace) (result : Result (Unit {0}) AllocError)
+    (old new cost : ℕ) → IsPrinted number answer before now result → OnOk answer (new ≤ old + cost)
+    → IfErr answer (λ (error : StageError). error ≢ Memory → new ≡ old) → OnOk result (new ≤ old + cost)
+few_told number (Ok done) before now (Ok told) old new cost printed few still = few
+few_told number (Ok done) before now (Err error) old new cost printed few still = tt
+few_told number (Err (Refused word)) before now (Ok told) old new cost printed few still =
+    let same : new ≡ old = still (λ is. is_no_memory word is) in
+    omega (arith, same)
+  where
+    is_no_memory : (word : Refusal) → ◌≡◌ {A = StageError} (Refused word) Memory → ⊥
+    is_no_memory word is = cc
+few_told number (Err (Refused word)) before now (Err error) old new cost printed few still = tt
+few_told number (Err Memory) before now (Ok told) old new cost printed few still = absurd printed
+few_told number (Err Memory) before now (Err error) old new cost printed few still = tt
+
+-- what time that passes evaluates
+pub tick_few : (time : List ℕ) (clock : Clock) (world : World) (n ms : ℕ) (sets : List (Name × Value)) (old new : ℕ)
+    → time_of 1 time ≡ Some ms → n ≡ ms → sets ≡ sets_of n clock.lines → new ≤ old + cost_of_sets sets world
+    → new ≤ old + tick_cost (time_of 1 time) clock world
+tick_few time clock world n ms sets old new when same are few =
+    subst (λ (o : Option ℕ). new ≤ old + tick_cost o clock world) (sym when)
+    (subst (λ (ss : List (Name × Value)). new ≤ old + cost_of_sets ss world)
+    (are ∙ ap (λ (m : ℕ). sets_of m clock.lines) same) few)

@@ -1,9 +1,10 @@
 //! Lines on timelines.
-ghost use Rattle.std.specs.Prelude.{◌≡◌, ◌<◌, ◌≤◌, Err, length};
+ghost use Rattle.std.specs.Prelude.{◌≡◌, ◌≢◌, ◌<◌, ◌≤◌, ◌+◌, Err, IfErr, OnOk, length};
 ghost use Rattle.fx_anim.specs.Line.{line_at, new_line};
 ghost use Rattle.fx_anim.specs.Shown.{lines_of};
 ghost use Rattle.fx_plain_steps.specs.Courses.{begun};
 ghost use Rattle.fx_plain_times.specs.Lines as spec;
+ghost use Rattle.fx_plain_times.specs.Times.{time_of as written_time};
 ghost use Rattle.fx_play_steps.specs.Traces.{course_of};
 ghost use Rattle.fx_play_times.specs.Passing.{HasPassed, IsKept, IsPrinted, IsTimed, passed_as};
 ghost use Rattle.fx_play_times.specs.Shown.{clock_of};
@@ -50,6 +51,8 @@ impl Clock {
     ) -> Result<(), AllocError>
         ensures passed { HasPassed (spec.time_step number line.now (clock_of self.old) stage.old)
             (passed_as (clock_of self.new) (course_of stage.new trace.new)) result }
+        ensures few { OnOk result (work.new.evaluated
+            ≤ work.old.evaluated + spec.time_cost line.now (clock_of self.old) stage.old) }
         ensures others { work.new ≡ record work.old { evaluated = work.new.evaluated } }
     {
         trace.clear();
@@ -58,7 +61,7 @@ impl Clock {
     }
 
     /// Carries the line out.
-    #[tactic(auto, unfolding(fx_plain_times::specs::Lines::timed))]
+    #[tactic(auto, unfolding(fx_plain_times::specs::Lines::timed, fx_plain_times::specs::Lines::time_cost))]
     fn carry_out<L: Ledgers>(
         &mut self,
         alloc: Global,
@@ -71,6 +74,10 @@ impl Clock {
         ensures timed { IsTimed (spec.timed line.now (clock_of self.old) stage.old)
             (passed_as (clock_of self.old) (course_of stage.old trace.old))
             (passed_as (clock_of self.new) (course_of stage.new trace.new)) result }
+        ensures few { OnOk result (work.new.evaluated
+            ≤ work.old.evaluated + spec.time_cost line.now (clock_of self.old) stage.old) }
+        ensures still { IfErr result (λ error. error ≢ StageError.Memory
+            → work.new.evaluated ≡ work.old.evaluated) }
         ensures others { work.new ≡ record work.old { evaluated = work.new.evaluated } }
     {
         match line {
@@ -186,6 +193,10 @@ impl Clock {
         ensures timed { IsTimed (spec.tick time.now (clock_of self.old) stage.old)
             (passed_as (clock_of self.old) (course_of stage.old trace.old))
             (passed_as (clock_of self.new) (course_of stage.new trace.new)) result }
+        ensures few { OnOk result (work.new.evaluated ≤ work.old.evaluated
+            + spec.tick_cost (written_time 1 time.now) (clock_of self.old) stage.old) }
+        ensures still { IfErr result (λ error. error ≢ StageError.Memory
+            → work.new.evaluated ≡ work.old.evaluated) }
         ensures others { work.new ≡ record work.old { evaluated = work.new.evaluated } }
     {
         let Some(ms) = time_of(1, time) else {

@@ -1,7 +1,10 @@
 //! What a tick sets.
-ghost use Rattle.std.specs.Prelude.{◌≡◌, OnOk};
-ghost use Rattle.fx_plain_times.specs.Ticks.{after_set, all_animated};
+ghost use Rattle.std.specs.Prelude.{◌≡◌, ◌≤◌, ◌+◌, OnOk};
+ghost use Rattle.fx_plain_times.specs.Ticks.{after_set, all_animated, cost_of_sets};
 ghost use Rattle.fx_play_steps.specs.Traces.{course_of};
+ghost use Rattle.fx_stage_model.specs.Answers.{cost_of};
+ghost use Rattle.fx_stage_model.specs.Properties.{changed};
+ghost use Rattle.fx_store_model.specs.declared.changes.Change.TheVariants.{Set};
 
 use fx_base::{Ledgers, Name, Value, Work};
 use fx_play_steps::{Trace, print_told};
@@ -19,6 +22,7 @@ pub(crate) fn set_all<L: Ledgers>(
 ) -> Result<(), AllocError>
     ensures done { OnOk result (course_of stage.new trace.new
         ≡ all_animated sets.items (course_of stage.old trace.old)) }
+    ensures few { OnOk result (work.new.evaluated ≤ work.old.evaluated + cost_of_sets sets.items stage.old) }
     ensures others { work.new ≡ record work.old { evaluated = work.new.evaluated } }
 {
     for set in sets {
@@ -37,6 +41,7 @@ fn set_one<L: Ledgers>(
 ) -> Result<(), AllocError>
     ensures done { OnOk result (course_of stage.new trace.new
         ≡ after_set (course_of stage.old trace.old) set) }
+    ensures few { work.new.evaluated ≤ work.old.evaluated + cost_of (changed (Set set.0 set.1) stage.old) }
     ensures others { work.new ≡ record work.old { evaluated = work.new.evaluated } }
 {
     match stage.animate(alloc, set.0, set.1, work) {

@@ -1,3 +1,4 @@
 pub mod PropertyLemmas
 pub mod RoomLemmas
 pub mod StepLemmas
+pub mod QuietLemmas

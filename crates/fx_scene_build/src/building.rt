@@ -1,9 +1,10 @@
 //! Carrying a plan out, step by step.
-ghost use Rattle.std.specs.Prelude.{◌≡◌, ◌++◌, IfErr, OnOk};
+ghost use Rattle.std.specs.Prelude.{◌≡◌, ◌≤◌, ◌++◌, IfErr, OnOk};
 ghost use Rattle.std.specs.Option.{option_to_list};
 ghost use Rattle.fx_stage_types.specs.declared.answers.StageError.TheVariants.{Memory};
 ghost use Rattle.fx_scene_plan.specs.Plans.{IsScene, standing_of};
 ghost use Rattle.fx_scene_build.specs.Steps.{IsStepTaken};
+ghost use Rattle.fx_stage_model.specs.World.{IsUnwatched};
 
 use crate::resolving::resolve;
 use fx_base::{Ledgers, NodeKey, Work};
@@ -21,6 +22,8 @@ pub fn build_scene<L: Ledgers>(
     work: &mut Work<L>,
 ) -> Result<Vec<NodeKey>, StageError>
     ensures scene { IsScene plan.items stage.old stage.new result }
+    ensures quiet { IsUnwatched stage.old
+        → OnOk result ((work.new.evaluated ≤ work.old.evaluated) × IsUnwatched stage.new) }
     ensures others { work.new ≡ record work.old { evaluated = work.new.evaluated } }
 {
     let mut keys = Vec::new(alloc);
@@ -43,6 +46,8 @@ pub fn take_step<L: Ledgers>(
 ) -> Result<(), StageError>
     ensures taken { IsStepTaken step (standing_of stage.old keys.old.items)
         (standing_of stage.new keys.new.items) result }
+    ensures quiet { IsUnwatched stage.old
+        → OnOk result ((work.new.evaluated ≤ work.old.evaluated) × IsUnwatched stage.new) }
     ensures others { work.new ≡ record work.old { evaluated = work.new.evaluated } }
 {
     let step = resolve(alloc, stage, keys.as_slice(), step)?;

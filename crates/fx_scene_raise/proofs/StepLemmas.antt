@@ -1,5 +1,5 @@
 -- A step that is a task.
-use Rattle.std.proofs.Common.{◌≡◌, ℕ, Result, Ok, Err, refl, ◌∙◌, sym, ap, subst}
+use Rattle.std.proofs.Common.{◌≡◌, ℕ, OnOk, Result, Ok, Err, refl, ◌∙◌, sym, ap, subst}
 use Rattle.fx_base.specs.declared.positions.Place.{Place}
 use Rattle.fx_scene_acts.specs.Acts.{acted, task_of, told}
 use Rattle.fx_scene_acts.specs.declared.tasks.Doing.TheVariants as doing
@@ -44,3 +44,11 @@ step_taken place step before now (Ok done) (Ok other) taken e =
 step_taken place step before now (Ok done) (Err other) taken e = absurd e
 step_taken place step before now (Err error) (Ok other) taken e = absurd e
 step_taken place step before now (Err error) (Err other) taken e = by_error place step before now error other taken e
+
+-- what is so of a step that was made is so of its task
+pub told_so : {A : Type 0} (place : Place) (answer : Answer) (result : Told) → IsTold place answer result → OnOk answer A
+    → OnOk result A
+told_so place (Ok done) (Ok other) told a = a
+told_so place (Ok done) (Err other) told a = tt
+told_so place (Err error) (Ok other) told a = absurd told
+told_so place (Err error) (Err other) told a = tt

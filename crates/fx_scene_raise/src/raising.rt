@@ -1,9 +1,10 @@
 //! One task after another.
-ghost use Rattle.std.specs.Prelude.{◌≡◌};
+ghost use Rattle.std.specs.Prelude.{◌≡◌, ◌≤◌, OnOk};
 ghost use Rattle.fx_scene_acts.specs.Acts.{fault_at};
 ghost use Rattle.fx_scene_plan.specs.Plans.{standing_of};
 ghost use Rattle.fx_scene_raise.specs.Raising.{IsTaskTaken, IsErrorTold, IsRaised, IsTold};
 ghost use Rattle.fx_scene_raise.specs.declared.errors.RaiseError.TheVariants.{Fault as IsFault};
+ghost use Rattle.fx_stage_model.specs.World.{IsUnwatched};
 
 use crate::errors::RaiseError;
 use fx_base::{Ledgers, NodeKey, Place, Work};
@@ -23,6 +24,8 @@ pub fn raise<L: Ledgers>(
     work: &mut Work<L>,
 ) -> Result<Vec<NodeKey>, RaiseError>
     ensures raised { IsRaised tasks.items stage.old stage.new result }
+    ensures quiet { IsUnwatched stage.old
+        → OnOk result ((work.new.evaluated ≤ work.old.evaluated) × IsUnwatched stage.new) }
     ensures others { work.new ≡ record work.old { evaluated = work.new.evaluated } }
 {
     let mut keys = Vec::new(alloc);
@@ -44,6 +47,8 @@ fn take_task<L: Ledgers>(
 ) -> Result<(), RaiseError>
     ensures taken { IsTaskTaken task (standing_of stage.old keys.old.items)
         (standing_of stage.new keys.new.items) result }
+    ensures quiet { IsUnwatched stage.old
+        → OnOk result ((work.new.evaluated ≤ work.old.evaluated) × IsUnwatched stage.new) }
     ensures others { work.new ≡ record work.old { evaluated = work.new.evaluated } }
 {
     let Task { place, doing } = task;

@@ -1,5 +1,5 @@
 -- Nodes that end, with their properties.
-use Rattle.std.proofs.Common.{◌≡◌, ◌≢◌, ◌⊎◌, ◌<◌, ◌+◌, ◌++◌, ◌==◌, ◌||◌, ℕ, suc, Bool, true, false, cond, not, List, [], ◌∷◌, Contains, arith, filter, get_or, length, map, slice_get, take, Option, Some, None, Result, Ok, Err, OnOk, IfErr, is_some, refl, sym, ◌∙◌, ap, subst, inl, inr, true≢false}
+use Rattle.std.proofs.Common.{◌≡◌, ◌≢◌, ◌⊎◌, ◌<◌, ◌≤◌, ◌+◌, ◌++◌, ◌==◌, ◌||◌, ℕ, suc, Bool, true, false, cond, not, List, [], ◌∷◌, Contains, arith, filter, get_or, length, map, slice_get, take, Option, Some, None, Result, Ok, Err, OnOk, IfErr, is_some, refl, sym, ◌∙◌, ap, subst, inl, inr, true≢false}
 use Rattle.std.specs.FinMap as map_of
 use Rattle.std.specs.Cmp.{eq_by_cmp_equiv}
 use Rattle.std.specs.FinMap.{get-remove}
@@ -48,7 +48,7 @@ use Rattle.fx_stage_types.specs.declared.refusals.Refusal.{Refusal}
 use Rattle.fx_stage_types.specs.declared.refusals.Refusal.TheVariants as word
 use Rattle.fx_stage_types.specs.Tables.{NodeTable, data_of, without_data}
 use Rattle.fx_stage_types.specs.Words.{of_store, of_tree}
-use Rattle.fx_stage_model.specs.Answers.{Taken, unless}
+use Rattle.fx_stage_model.specs.Answers.{Taken, cost_of, unless}
 use Rattle.fx_stage_model.specs.Graphs.{Graph, dropped}
 use Rattle.fx_stage_model.specs.Looking.{properties_in}
 use Rattle.fx_stage_model.specs.Nodes.{forgotten, names_of_all, properties_of_all, without_nodes}
@@ -452,6 +452,16 @@ module _ (key : NodeKey) (keys : List NodeKey) (w : World) (now : Stored) (looke
         | inr wanting ↦
             by_memory gone (is_read_outside lost w.store.entries) cause refl wanting a (found.memory (ap Err wanting))
       ]
+
+  pub forgotten_few : (result : Result Notices StoreError)
+      → Applied (Forget lost_names) w.store now result looked counted → counted ≤ looked + cost_of (forgotten key keys w)
+  forgotten_few result a = by_use (is_read_outside lost w.store.entries) refl
+    where
+      by_use : (used : Bool) → is_read_outside lost w.store.entries ≡ used → counted ≤ looked + cost_of (wanted used)
+      by_use false here = a.evaluations_few
+      by_use true here =
+          let same : counted ≡ looked = (a.still (λ allowed. true≢false (sym here ∙ unused allowed))).1 in
+          omega (arith, same)
 
 -- what the code finds out
 pub found_gone : (ns : List ℕ) (names : List Name) (before now : Stored) (result : Result Notices StoreError) (looked counted : ℕ)

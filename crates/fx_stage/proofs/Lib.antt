@@ -2,6 +2,7 @@ pub mod Small
 pub mod SoundLemmas
 pub mod WrittenLemmas
 pub mod TakingLemmas
+pub mod CostLemmas
 pub mod FoundLemmas
 pub mod ReadingLemmas
 pub mod ValueLemmas

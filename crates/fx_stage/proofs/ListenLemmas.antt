@@ -7,7 +7,7 @@ use Rattle.fx_store_model.specs.declared.changes.Change.{Change}
 use Rattle.fx_store_model.specs.declared.changes.Change.TheVariants.{Listen}
 use Rattle.fx_store_model.specs.declared.errors.StoreError.{StoreError}
 use Rattle.fx_store_model.specs.Refusals.{refusal}
-use Rattle.fx_store_model.specs.Step.{after, before_reads}
+use Rattle.fx_store_model.specs.Step.{after, before_reads, cost}
 use Rattle.fx_stage_types.specs.declared.refusals.Refusal.{Refusal}
 use Rattle.fx_stage_model.specs.Answers.{Taken, and_then}
 use Rattle.fx_stage_model.specs.Listening.{find_both, kind_named, listen, listened, tag_of, with_run}
@@ -32,6 +32,7 @@ listened_is change world n asked action runs is None =
       value = None;
       notices = told change world.store;
       warnings = [];
+      cost = cost change world.store;
     }))
     is
 listened_is change world n asked action runs is (Some error) = refl

@@ -18,7 +18,7 @@ use Rattle.fx_store_model.specs.declared.errors.StoreError.TheVariants as store
 use Rattle.fx_store_model.specs.Laws.{takes_away}
 use Rattle.fx_store_model.specs.Making.{made, new_listener}
 use Rattle.fx_store_model.specs.Refusals.{listen_refusal, refusal, refused_if, unknown_of}
-use Rattle.fx_store_model.specs.Step.{after, before_reads}
+use Rattle.fx_store_model.specs.Step.{after, before_reads, cost}
 use Rattle.fx_store_model.specs.Stored.{Stored}
 use Rattle.fx_stage_types.specs.declared.answers.StageError.{StageError}
 use Rattle.fx_stage_types.specs.declared.answers.StageError.TheVariants.{Memory}
@@ -148,6 +148,7 @@ made_of change world =
       value = None;
       notices = told change world.store;
       warnings = [];
+      cost = cost change world.store;
     }
 
 module _ (change : Change) (asked : List (List ℕ)) (runs : Option (List ℕ)) (w : World) (now : Stored) (looked counted : ℕ)

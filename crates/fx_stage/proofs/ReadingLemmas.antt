@@ -1,12 +1,12 @@
 -- What `get` makes of a world, where the property is found.
-use Rattle.std.proofs.Common.{◌≡◌, ◌≢◌, List, [], ◌∷◌, ℕ, Bool, false, cond, Option, Some, None, Result, Ok, Err, IfOk, IfErr, OnOk, refl, sym, ap, subst, inl, inr}
+use Rattle.std.proofs.Common.{◌≡◌, ◌≢◌, ◌≤◌, ◌+◌, List, [], ◌∷◌, ℕ, Bool, false, cond, Option, Some, None, Result, Ok, Err, IfOk, IfErr, OnOk, refl, sym, ap, subst, inl, inr}
 use Rattle.fx_base.specs.Answers.{IsAnswer}
 use Rattle.fx_base.specs.declared.keys.Name.{Name}
 use Rattle.fx_base.specs.declared.values.Value.{Value}
 use Rattle.fx_graph_model.specs.declared.entries.Entry.{Entry}
 use Rattle.fx_graph_model.specs.declared.errors.GraphError.TheVariants as graph
 use Rattle.fx_graph_model.specs.Eager.{eager}
-use Rattle.fx_graph_model.specs.Unread.{after_reading}
+use Rattle.fx_graph_model.specs.Unread.{after_reading, evaluations}
 use Rattle.fx_graph_model.specs.Uses.{unknown_in}
 use Rattle.fx_store_model.specs.declared.errors.StoreError.{StoreError}
 use Rattle.fx_store_model.specs.declared.errors.StoreError.TheVariants as store
@@ -16,7 +16,7 @@ use Rattle.fx_store_model.specs.Stored.{Stored, with_unread}
 use Rattle.fx_store_model.proofs.Leaving.{memory_or_not, read_entries}
 use Rattle.fx_stage_types.specs.declared.refusals.Refusal.{Refusal}
 use Rattle.fx_stage_types.specs.Words.{of_store}
-use Rattle.fx_stage_model.specs.Answers.{Taken, and_then, quiet}
+use Rattle.fx_stage_model.specs.Answers.{Taken, and_then, cost_of, quiet}
 use Rattle.fx_stage_model.specs.Looking.{find}
 use Rattle.fx_stage_model.specs.Properties.{after_read, get}
 use Rattle.fx_stage_model.specs.Taking.{IsTaken}
@@ -35,6 +35,7 @@ taken_of world name =
       value = Some (eager world.store.entries name.0);
       notices = quiet;
       warnings = [];
+      cost = evaluations world.store.entries name.0 world.store.unread;
     }
 
 pub listeners_kept : (before now : Stored) (name : Name) (answer : Result Value StoreError)
@@ -72,3 +73,9 @@ get_taken path world name now answer here known asked value ok memory =
     )
     by_answer (Err cause) asked is ok memory =
         (ap of_store asked, inl (inl (record { rest = refl; store = memory (ap Err asked) })))
+
+pub get_few : (path : List (List ℕ)) (world : World) (name : Name) (old new : ℕ) → find world path ≡ Ok name
+    → new ≤ old + evaluations world.store.entries name.0 world.store.unread → new ≤ old + cost_of (get path world)
+unfolding get taken_of
+get_few path world name old new here few =
+    subst (λ (r : Result Name Refusal). new ≤ old + cost_of (and_then r (λ (n : Name). Ok (taken_of world n)))) (sym here) few

@@ -24,7 +24,7 @@ use Rattle.fx_stage_words.specs.Told.{told_as}
 use Rattle.fx_stage.proofs.WrittenLemmas.{given_rises, still_from}
 
 -- of a change that takes no properties away
-answer_of : (T : Type 0) (change : Change) (stored : Stored) (result : Result T StoreError) → takes_away change ≡ false
+pub answer_of : (T : Type 0) (change : Change) (stored : Stored) (result : Result T StoreError) → takes_away change ≡ false
     → IsChangeAnswer {T = T} change stored result → IsAnswer store.Memory (refusal change stored) result
 answer_of T (Set name value) stored result keeps a = a
 answer_of T (Publish pairs) stored result keeps a = a

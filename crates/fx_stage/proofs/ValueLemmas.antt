@@ -1,5 +1,5 @@
 -- The value that a text spells, as it is read.
-use Rattle.std.proofs.Common.{◌≡◌, ℕ, Bool, false, List, Option, Some, None, Result, Ok, Err, refl, sym, subst, inl}
+use Rattle.std.proofs.Common.{◌≡◌, ◌≤◌, ◌+◌, ℕ, Bool, false, List, Option, Some, None, Result, Ok, Err, refl, sym, subst, inl}
 use Rattle.fx_base.specs.declared.keys.Name.{Name}
 use Rattle.fx_base.specs.declared.values.Value.{Value}
 use Rattle.fx_look.specs.Readings.{value_at}
@@ -10,7 +10,7 @@ use Rattle.fx_stage_types.specs.declared.answers.StageError.{StageError}
 use Rattle.fx_stage_types.specs.declared.answers.StageError.TheVariants.{Refused}
 use Rattle.fx_stage_types.specs.declared.refusals.Refusal.{Refusal}
 use Rattle.fx_stage_types.specs.declared.refusals.Refusal.TheVariants as word
-use Rattle.fx_stage_model.specs.Answers.{Taken, and_then, or_word, unless}
+use Rattle.fx_stage_model.specs.Answers.{Taken, and_then, cost_of, or_word, unless}
 use Rattle.fx_stage_model.specs.Looking.{find}
 use Rattle.fx_stage_model.specs.Properties.{changed, set}
 use Rattle.fx_stage_model.specs.Taking.{IsTaken}
@@ -45,3 +45,9 @@ module _ (path : List (List ℕ)) (text : List ℕ) (world : World) (name : Name
   unfolding by_value
   set_some value now result is taken =
       subst (λ (r : Result Taken Refusal). IsTaken r world now result) (sym (set_is (Some value) is)) taken
+
+  pub set_few : (value : Value) (old new : ℕ) → Some value ≡ value_at (kind_at world.store.entries name.0) text
+      → new ≤ old + cost_of (changed (Set name value) world) → new ≤ old + cost_of (set path text world)
+  unfolding by_value
+  set_few value old new is few =
+      subst (λ (r : Result Taken Refusal). new ≤ old + cost_of r) (sym (set_is (Some value) is)) few

@@ -1,8 +1,8 @@
 //! `bind`: properties whose values are expressions over others.
-ghost use Rattle.std.specs.Prelude.{◌≡◌, ◌∷◌, IsTrue, IfOk, Ok, length, map};
+ghost use Rattle.std.specs.Prelude.{◌≡◌, ◌∷◌, IsTrue, IfOk, Ok, length, map, ◌≤◌, ◌+◌};
 ghost use Rattle.fx_expr.specs.Tree.{is_within, tree};
 ghost use Rattle.fx_script_commands.specs.Requests.{expression_view};
-ghost use Rattle.fx_stage_model.specs.Answers.{all, and_then, both};
+ghost use Rattle.fx_stage_model.specs.Answers.{all, and_then, both, cost_of};
 ghost use Rattle.fx_stage_model.specs.Looking.{find};
 ghost use Rattle.fx_stage_model.specs.Properties as spec;
 ghost use Rattle.fx_stage_model.specs.Taking.{IsTaken};
@@ -29,6 +29,8 @@ impl Stage {
         work: &mut Work<L>,
     ) -> Result<Outcome, StageError>
         ensures taken { IsTaken (spec.bind path.now (expression_view parsed.now) self.old) self.old self.new result }
+        ensures few { work.new.evaluated ≤ work.old.evaluated
+            + cost_of (spec.bind path.now (expression_view parsed.now) self.old) }
         ensures others { work.new ≡ record work.old { evaluated = work.new.evaluated } }
     {
         if !has_operands(&parsed.expr, parsed.paths.as_slice().len()) {
@@ -48,6 +50,8 @@ impl Stage {
     ) -> Result<Outcome, StageError>
         requires places { IsTrue (is_within (tree parsed.now.expr) (length parsed.now.paths)) }
         ensures taken { IsTaken (spec.bound path.now (expression_view parsed.now) self.old) self.old self.new result }
+        ensures few { work.new.evaluated ≤ work.old.evaluated
+            + cost_of (spec.bound path.now (expression_view parsed.now) self.old) }
         ensures others { work.new ≡ record work.old { evaluated = work.new.evaluated } }
     {
         let Ok(operands) = self.find_all(alloc, parsed.paths.as_slice()) else {

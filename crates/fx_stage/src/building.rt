@@ -1,6 +1,6 @@
 //! Steps of building a scene.
-ghost use Rattle.std.specs.Prelude.{◌≡◌, ℕ, Some, false};
-ghost use Rattle.fx_stage_model.specs.Answers.{silently};
+ghost use Rattle.std.specs.Prelude.{◌≡◌, ℕ, Some, false, ◌≤◌, ◌+◌};
+ghost use Rattle.fx_stage_model.specs.Answers.{cost_of, silently};
 ghost use Rattle.fx_stage_model.specs.Building as spec;
 ghost use Rattle.fx_stage_model.specs.Nodes.{has_no_room, next_key, with_node};
 ghost use Rattle.fx_stage_model.specs.Taking.{IsBuilt, IsTaken};
@@ -34,6 +34,8 @@ impl Stage {
         requires fit { spec.IsFitStep step }
         ensures built { (slot : ℕ) × IsBuilt (spec.built slot step self.old) (spec.node_made slot step self.old)
             self.old self.new result }
+        ensures few { (slot : ℕ) → work.new.evaluated ≤ work.old.evaluated
+            + cost_of (spec.built slot step self.old) }
         ensures others { work.new ≡ record work.old { evaluated = work.new.evaluated } }
     {
         match step {

@@ -1,8 +1,9 @@
 //! `drop`: the end of nodes, with all that they have.
-ghost use Rattle.std.specs.Prelude.{◌≡◌, ◌≤◌, ◌<◌, ◌++◌, IfOk, None, OnOk, map};
+ghost use Rattle.std.specs.Prelude.{◌≡◌, ◌≤◌, ◌<◌, ◌++◌, IfOk, None, OnOk, map, ◌+◌};
 ghost use Rattle.std.specs.List.{range_with_len};
 ghost use Rattle.fx_base.specs.Names.{name_of};
 ghost use Rattle.fx_stage.specs.Dropping.{are_gone, dropped_if};
+ghost use Rattle.fx_stage_model.specs.Answers.{cost_of};
 ghost use Rattle.fx_stage_model.specs.Looking.{properties_in};
 ghost use Rattle.fx_stage_model.specs.Nodes as spec;
 ghost use Rattle.fx_stage_model.specs.Taking.{IsTaken};
@@ -30,6 +31,7 @@ impl Stage {
         work: &mut Work<L>,
     ) -> Result<Outcome, StageError>
         ensures taken { IsTaken (spec.drop path.now self.old) self.old self.new result }
+        ensures few { work.new.evaluated ≤ work.old.evaluated + cost_of (spec.drop path.now self.old) }
         ensures others { work.new ≡ record work.old { evaluated = work.new.evaluated } }
     {
         let key = match self.find_node(path) {
@@ -62,6 +64,7 @@ impl Stage {
         requires keys { keys.items ≡ subtree self.old.graph.tree.nodes key }
         requires names { names.items ≡ spec.names_of_all self.old.graph.table keys.items }
         ensures taken { IsTaken (spec.forgotten key keys.items self.old) self.old self.new result }
+        ensures few { work.new.evaluated ≤ work.old.evaluated + cost_of (spec.forgotten key keys.items self.old) }
         ensures others { work.new ≡ record work.old { evaluated = work.new.evaluated } }
     {
         let first = names.first().copied();

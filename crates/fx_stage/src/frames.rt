@@ -6,6 +6,7 @@ ghost use Rattle.fx_graph_model.specs.Unread.{after_reads, evaluations_of};
 ghost use Rattle.fx_store_model.specs.declared.changes.Change.TheVariants.{Publish};
 ghost use Rattle.fx_store_model.specs.Step.{IsFit};
 ghost use Rattle.fx_store_model.specs.Stored.{with_unread};
+ghost use Rattle.fx_stage_model.specs.Answers.{cost_of};
 ghost use Rattle.fx_stage_model.specs.Properties as spec;
 ghost use Rattle.fx_stage_model.specs.Sound.{IsSound};
 ghost use Rattle.fx_stage_model.specs.Taking.{IsReadSome, IsTaken};
@@ -76,6 +77,7 @@ impl Stage {
     ) -> Result<Outcome, StageError>
         requires { IsFit (Publish pairs) self.old.store }
         ensures taken { IsTaken (spec.changed (Publish pairs) self.old) self.old self.new result }
+        ensures few { work.new.evaluated ≤ work.old.evaluated + cost_of (spec.changed (Publish pairs) self.old) }
         ensures others { work.new ≡ record work.old { evaluated = work.new.evaluated } }
     {
         self.change_store(alloc, Change::Publish(pairs), work)

@@ -1,5 +1,6 @@
 //! Lines of a script, each by what it asks for.
-ghost use Rattle.std.specs.Prelude.{ℕ, ◌≡◌};
+ghost use Rattle.std.specs.Prelude.{ℕ, ◌≡◌, ◌≤◌, ◌+◌};
+ghost use Rattle.fx_stage_model.specs.Answers.{cost_of};
 ghost use Rattle.fx_stage_model.specs.Lines as spec;
 ghost use Rattle.fx_stage_model.specs.Taking.{IsTaken};
 
@@ -22,6 +23,8 @@ impl Stage {
         work: &mut Work<L>,
     ) -> Result<Outcome, StageError>
         ensures taken { (slot : ℕ) × IsTaken (spec.instructed slot line.now self.old) self.old self.new result }
+        ensures few { (slot : ℕ) → work.new.evaluated ≤ work.old.evaluated
+            + cost_of (spec.instructed slot line.now self.old) }
         ensures others { work.new ≡ record work.old { evaluated = work.new.evaluated } }
     {
         match line {

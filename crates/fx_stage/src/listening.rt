@@ -1,10 +1,10 @@
 //! Lines on owners and listeners.
-ghost use Rattle.std.specs.Prelude.{◌≡◌, ◌<◌, ◌≤◌, true, ◌++◌, ◌∷◌, ℕ, [], All, IfOk, OnOk, is_some, nat_eq, option_to_list, vec_capacity, vec_len};
+ghost use Rattle.std.specs.Prelude.{◌≡◌, ◌<◌, ◌≤◌, true, ◌++◌, ◌∷◌, ℕ, [], All, IfOk, OnOk, is_some, nat_eq, option_to_list, vec_capacity, vec_len, ◌+◌};
 ghost use Rattle.std.specs.Map.{lookup};
 ghost use Rattle.std.specs.Option.{option_copied};
 ghost use Rattle.fx_store_model.specs.Refusals.{owner_refusal};
 ghost use Rattle.fx_stage_types.specs.declared.refusals.Refusal.TheVariants as word;
-ghost use Rattle.fx_stage_model.specs.Answers.{silently, unless};
+ghost use Rattle.fx_stage_model.specs.Answers.{cost_of, silently, unless};
 ghost use Rattle.fx_stage_model.specs.Listening as spec;
 ghost use Rattle.fx_stage_model.specs.Taking.{IsTaken};
 ghost use Rattle.fx_stage_model.specs.World.{with_store};
@@ -102,6 +102,8 @@ impl Stage {
         ensures taken { IsTaken
             (spec.listen kind.now path.now (option_copied action.entry) (option_copied label.entry) self.old)
             self.old self.new result }
+        ensures few { work.new.evaluated ≤ work.old.evaluated
+            + cost_of (spec.listen kind.now path.now (option_copied action.entry) (option_copied label.entry) self.old) }
         ensures others { work.new ≡ record work.old { evaluated = work.new.evaluated } }
     {
         let (name, owner) = match self.find_both(path, label) {
@@ -132,6 +134,8 @@ impl Stage {
         ensures taken { IsTaken
             (spec.unlisten kind.now path.now (option_copied action.entry) (option_copied label.entry) self.old)
             self.old self.new result }
+        ensures few { work.new.evaluated ≤ work.old.evaluated
+            + cost_of (spec.unlisten kind.now path.now (option_copied action.entry) (option_copied label.entry) self.old) }
         ensures others { work.new ≡ record work.old { evaluated = work.new.evaluated } }
     {
         let (name, owner) = match self.find_both(path, label) {
@@ -220,6 +224,7 @@ impl Stage {
     ) -> Result<Outcome, StageError>
         requires listens { IsListen change }
         ensures taken { IsTaken (added change asked runs self.old) self.old self.new result }
+        ensures few { work.new.evaluated ≤ work.old.evaluated + cost_of (added change asked runs self.old) }
         ensures others { work.new ≡ record work.old { evaluated = work.new.evaluated } }
     {
         let Ok(()) = reserve(&mut self.run, &mut self.written) else {

@@ -1,10 +1,11 @@
 //! Lines on properties.
-ghost use Rattle.std.specs.Prelude.{◌≡◌, false};
+ghost use Rattle.std.specs.Prelude.{◌≡◌, false, ◌≤◌, ◌+◌};
 ghost use Rattle.fx_graph_model.specs.Refusals.{kind_at};
 ghost use Rattle.fx_graph_model.specs.Uses.{unknown_in};
 ghost use Rattle.fx_store_model.specs.declared.changes.Change.TheVariants.{Set};
 ghost use Rattle.fx_store_model.specs.Laws.{takes_away};
 ghost use Rattle.fx_store_model.specs.Step.{IsFit};
+ghost use Rattle.fx_stage_model.specs.Answers.{cost_of};
 ghost use Rattle.fx_stage_model.specs.Properties as spec;
 ghost use Rattle.fx_stage_model.specs.Taking.{IsTaken};
 
@@ -26,6 +27,7 @@ impl Stage {
         requires keeps { takes_away change ≡ false }
         requires fit { IsFit change self.old.store }
         ensures taken { IsTaken (spec.changed change self.old) self.old self.new result }
+        ensures few { work.new.evaluated ≤ work.old.evaluated + cost_of (spec.changed change self.old) }
         ensures others { work.new ≡ record work.old { evaluated = work.new.evaluated } }
     {
         told(alloc, self.store.apply(alloc, change, work))
@@ -41,6 +43,7 @@ impl Stage {
         work: &mut Work<L>,
     ) -> Result<Outcome, StageError>
         ensures taken { IsTaken (spec.set path.now text.now self.old) self.old self.new result }
+        ensures few { work.new.evaluated ≤ work.old.evaluated + cost_of (spec.set path.now text.now self.old) }
         ensures others { work.new ≡ record work.old { evaluated = work.new.evaluated } }
     {
         let name = match self.find_property(path) {
@@ -67,6 +70,7 @@ impl Stage {
         work: &mut Work<L>,
     ) -> Result<Outcome, StageError>
         ensures taken { IsTaken (spec.changed (Set name value) self.old) self.old self.new result }
+        ensures few { work.new.evaluated ≤ work.old.evaluated + cost_of (spec.changed (Set name value) self.old) }
         ensures others { work.new ≡ record work.old { evaluated = work.new.evaluated } }
     {
         self.change_store(alloc, Change::Set(name, value), work)
@@ -92,6 +96,7 @@ impl Stage {
         work: &mut Work<L>,
     ) -> Result<Outcome, StageError>
         ensures taken { IsTaken (spec.get path.now self.old) self.old self.new result }
+        ensures few { work.new.evaluated ≤ work.old.evaluated + cost_of (spec.get path.now self.old) }
         ensures others { work.new ≡ record work.old { evaluated = work.new.evaluated } }
     {
         let name = match self.find_property(path) {
@@ -110,6 +115,7 @@ impl Stage {
         work: &mut Work<L>,
     ) -> Result<Outcome, StageError>
         ensures taken { IsTaken (spec.unbind path.now self.old) self.old self.new result }
+        ensures few { work.new.evaluated ≤ work.old.evaluated + cost_of (spec.unbind path.now self.old) }
         ensures others { work.new ≡ record work.old { evaluated = work.new.evaluated } }
     {
         match self.find_property(path) {
@@ -128,6 +134,7 @@ impl Stage {
         work: &mut Work<L>,
     ) -> Result<Outcome, StageError>
         ensures taken { IsTaken (spec.pair one.now other.now self.old) self.old self.new result }
+        ensures few { work.new.evaluated ≤ work.old.evaluated + cost_of (spec.pair one.now other.now self.old) }
         ensures others { work.new ≡ record work.old { evaluated = work.new.evaluated } }
     {
         match self.find_two(one, other) {
@@ -146,6 +153,7 @@ impl Stage {
         work: &mut Work<L>,
     ) -> Result<Outcome, StageError>
         ensures taken { IsTaken (spec.unpair one.now other.now self.old) self.old self.new result }
+        ensures few { work.new.evaluated ≤ work.old.evaluated + cost_of (spec.unpair one.now other.now self.old) }
         ensures others { work.new ≡ record work.old { evaluated = work.new.evaluated } }
     {
         match self.find_two(one, other) {

@@ -38,6 +38,7 @@ use Rattle.fx_base.specs.Answers.{or_else}
 use Rattle.fx_store_model.specs.declared.errors.StoreError.{StoreError}
 use Rattle.fx_stage_types.specs.declared.answers.Outcome.{Outcome}
 use Rattle.fx_stage_types.specs.declared.answers.StageError.{StageError}
+use Rattle.fx_stage_model.specs.Answers.{cost_of}
 use Rattle.fx_stage_model.specs.Properties.{by_store, changed}
 use Rattle.fx_stage_model.specs.Taking.{IsTaken, IsUnfinished}
 use Rattle.fx_stage_facts.specs.Publishing.{AreOnce, Size, is_number, is_size, pair_of, pairs_at, pairs_in, pairs_of, published, size_if, size_named, sized, sized_by}
@@ -309,6 +310,13 @@ module _ (world : World) (sound : IsSound world.store.entries world.graph.table 
       by_taken sizes now answer
       (subst (λ (o : Option StoreError). IsTaken (by_store (Publish (pairs_of world sizes)) world o) world now answer)
       (publish_allowed sizes) taken)
+
+  pub sized_few : (sizes : List Size) (old new : ℕ)
+      → new ≤ old + cost_of (changed (Publish (pairs_of world sizes)) world) → new ≤ old + (sized sizes world).cost
+  unfolding changed
+  sized_few sizes old new few =
+      subst (λ (o : Option StoreError). new ≤ old + cost_of (by_store (Publish (pairs_of world sizes)) world o))
+      (publish_allowed sizes) few
 
 -- one node more
 pub pairs_next : (world : World) (sizes : List Size) (place : ℕ) (d : Size) (before now : List Pair) → place < length sizes

@@ -4,7 +4,7 @@ use Rattle.std.specs.List.{flat_map}
 use Rattle.std.specs.Option.{option_map_or}
 use Rattle.std.specs.Str.{bytes_eq}
 use Rattle.fx_base.specs.declared.keys.NodeKey.{NodeKey}
-use Rattle.fx_graph_model.specs.Unread.{after_reads}
+use Rattle.fx_graph_model.specs.Unread.{after_reads, evaluations_of}
 use Rattle.fx_kinds.specs.Properties.{ListedProperty, properties_of}
 use Rattle.fx_store_model.specs.Stored.{with_unread}
 use Rattle.fx_tree.specs.Scene.{Scene, subtree}
@@ -50,3 +50,7 @@ looked world =
     record world {
       store = with_unread (after_reads world.store.entries (display_names world) world.store.unread) world.store;
     }
+
+-- and how many expressions are evaluated for that
+abbrev pub look_cost : World → ℕ
+look_cost world = evaluations_of world.store.entries (display_names world) world.store.unread

@@ -15,7 +15,7 @@ use Rattle.fx_graph_model.specs.Refusals.{read_only_in}
 use Rattle.fx_store_model.specs.declared.changes.Change.{Change}
 use Rattle.fx_store_model.specs.declared.changes.Change.TheVariants.{Publish}
 use Rattle.fx_store_model.specs.declared.changes.Notices.{Notices}
-use Rattle.fx_store_model.specs.Step.{after, before_reads}
+use Rattle.fx_store_model.specs.Step.{after, before_reads, cost}
 use Rattle.fx_stage_types.specs.declared.node_data.NodeData.{NodeData}
 use Rattle.fx_stage_types.specs.Tables.{data_of}
 use Rattle.fx_stage_model.specs.Answers.{Taken}
@@ -73,6 +73,7 @@ published_by change world =
       value = None;
       notices = told change world.store;
       warnings = [];
+      cost = cost change world.store;
     }
 
 -- all sizes are published in one change

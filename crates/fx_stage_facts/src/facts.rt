@@ -1,9 +1,8 @@
 //! All that a frame takes from a stage.
 ghost use Rattle.std.specs.Prelude.{◌≡◌, ◌≤◌, ◌+◌, IfOk, OnErr, OnOk, map, true};
-ghost use Rattle.fx_graph_model.specs.Unread.{evaluations_of};
 ghost use Rattle.fx_stage_model.specs.Taking.{IsReadSome};
 ghost use Rattle.fx_tree.specs.Scene.{is_once};
-ghost use Rattle.fx_stage_facts.specs.Attached.{attached_keys, display_names, looked};
+ghost use Rattle.fx_stage_facts.specs.Attached.{attached_keys, display_names, look_cost, looked};
 ghost use Rattle.fx_stage_facts.specs.Reads.{AreRead};
 ghost use Rattle.fx_stage_facts.specs.Scenes as spec;
 ghost use Rattle.fx_stage_facts.specs.Values.{is_set_disabled as disabled_of};
@@ -74,8 +73,7 @@ pub fn read_facts<L: Ledgers>(
     ensures facts { IfOk result (λ facts. facts ≡ spec.facts_of stage.old) }
     ensures ok { OnOk result (stage.new ≡ looked stage.old) }
     ensures err { OnErr result (IsReadSome stage.old stage.new) }
-    ensures cost { work.new.evaluated ≤ work.old.evaluated
-        + evaluations_of stage.old.store.entries (display_names stage.old) stage.old.store.unread }
+    ensures cost { work.new.evaluated ≤ work.old.evaluated + look_cost stage.old }
     ensures others { work.new ≡ record work.old { evaluated = work.new.evaluated } }
 {
     stage.laws();

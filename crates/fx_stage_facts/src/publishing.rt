@@ -1,5 +1,5 @@
 //! What a frame gives back to the stage: the window, and the sizes of nodes.
-ghost use Rattle.std.specs.Prelude.{◌≡◌, ◌≤◌, ◌++◌, IfOk, OnOk, Some};
+ghost use Rattle.std.specs.Prelude.{◌≡◌, ◌≤◌, ◌+◌, ◌++◌, IfOk, OnOk, Some};
 ghost use Rattle.fx_stage_types.specs.Tables.{data_of};
 ghost use Rattle.fx_stage_types.specs.declared.node_data.NodeData.{NodeData as Data};
 ghost use Rattle.fx_base.specs.declared.keys.NodeKey.{NodeKey as Key};
@@ -129,6 +129,8 @@ pub fn publish<L: Ledgers>(
 ) -> Result<Notices, AllocError>
     requires { spec.AreOnce sizes.now }
     ensures published { spec.IsPublished window sizes.now stage.old stage.new result }
+    ensures few { OnOk result (work.new.evaluated
+        ≤ work.old.evaluated + (spec.sized sizes.now stage.old).cost) }
     ensures others { work.new ≡ record work.old { evaluated = work.new.evaluated } }
 {
     stage.laws();

@@ -37,13 +37,15 @@ unfoldable pub all : {A : Type 0} → List (Result A Refusal) → Result (List A
 all [] = Ok []
 all {A} (one ∷ others) = and_then (both one (all others)) (λ (found : A × List A). Ok (found.0 ∷ found.1))
 
--- what a line that isn't refused makes and tells: the world before the watched properties are read, and the world after
+-- what a line that isn't refused makes and tells: the world before the watched properties are read, and the world after;
+-- and how many expressions it evaluates at most
 pub record Taken : Type 0 where
   pub made : World
   pub world : World
   pub value : Option Value
   pub notices : Notices
   pub warnings : List Place
+  pub cost : ℕ
 
 -- nobody is told of anything
 abbrev pub quiet : Notices
@@ -51,4 +53,9 @@ quiet = record { added = None; invalid = []; changed = [] }
 
 -- a world, of which nothing is told
 abbrev pub silently : World → Result Taken Refusal
-silently world = Ok (record { made = world; world = world; value = None; notices = quiet; warnings = [] })
+silently world = Ok (record { made = world; world = world; value = None; notices = quiet; warnings = []; cost = 0 })
+
+-- how many expressions are evaluated at most: none where a word refuses
+abbrev pub cost_of : Result Taken Refusal → ℕ
+cost_of (Ok taken) = taken.cost
+cost_of (Err refusal) = 0

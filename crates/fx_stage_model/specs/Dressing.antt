@@ -85,6 +85,7 @@ styled key sheet world =
       value = None;
       notices = quiet;
       warnings = sheet.warnings;
+      cost = 0;
     }
 
 unfoldable pub style : List (List ℕ) → List ℕ → World → Result Taken Refusal

@@ -14,7 +14,7 @@ use Rattle.fx_store_model.specs.declared.changes.Change.{Change}
 use Rattle.fx_store_model.specs.declared.changes.Change.TheVariants.{Forget}
 use Rattle.fx_store_model.specs.Making.{after_declared}
 use Rattle.fx_store_model.specs.Refusals.{is_read_outside}
-use Rattle.fx_store_model.specs.Step.{after, before_reads}
+use Rattle.fx_store_model.specs.Step.{after, before_reads, cost}
 use Rattle.fx_store_model.specs.Stored.{Stored}
 use Rattle.fx_text.specs.Digits.{number_of_digits}
 use Rattle.fx_tree.specs.declared.TreeError.{TreeError}
@@ -124,6 +124,7 @@ without_nodes change key keys world =
       value = None;
       notices = told change world.store;
       warnings = [];
+      cost = cost change world.store;
     }
 
 -- a node and all below it, unless a property outside is bound to one of theirs

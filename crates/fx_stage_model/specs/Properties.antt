@@ -10,7 +10,7 @@ use Rattle.fx_base.specs.declared.values.Value.{Value}
 use Rattle.fx_expr.specs.Tree.{is_within}
 use Rattle.fx_graph_model.specs.Eager.{eager}
 use Rattle.fx_graph_model.specs.Refusals.{kind_at, read_only_in}
-use Rattle.fx_graph_model.specs.Unread.{after_reading}
+use Rattle.fx_graph_model.specs.Unread.{after_reading, evaluations}
 use Rattle.fx_look.specs.Readings.{value_at}
 use Rattle.fx_script_commands.specs.Requests.{Expression}
 use Rattle.fx_store_model.specs.declared.changes.Change.{Change}
@@ -19,7 +19,7 @@ use Rattle.fx_store_model.specs.declared.changes.Notices.{Notices}
 use Rattle.fx_store_model.specs.declared.errors.StoreError.{StoreError}
 use Rattle.fx_store_model.specs.Making.{after_declared, made}
 use Rattle.fx_store_model.specs.Refusals.{refusal}
-use Rattle.fx_store_model.specs.Step.{added_by, after, before_reads, changed_notices, invalid_notices, newly}
+use Rattle.fx_store_model.specs.Step.{added_by, after, before_reads, changed_notices, cost, invalid_notices, newly}
 use Rattle.fx_store_model.specs.Stored.{Stored, with_unread}
 use Rattle.fx_stage_types.specs.declared.answers.StageError.{StageError}
 use Rattle.fx_stage_types.specs.declared.answers.StageError.TheVariants.{Refused, Memory}
@@ -54,6 +54,7 @@ by_store change world None =
       value = None;
       notices = told change world.store;
       warnings = [];
+      cost = cost change world.store;
     })
 
 unfoldable pub changed : Change → World → Result Taken Refusal
@@ -106,6 +107,7 @@ get path world =
       value = Some (eager world.store.entries name.0);
       notices = quiet;
       warnings = [];
+      cost = evaluations world.store.entries name.0 world.store.unread;
     }))
 
 -- all paths are looked up before anything else is asked

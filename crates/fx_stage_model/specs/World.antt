@@ -1,5 +1,5 @@
 -- The world between two script lines, but for the frame that was written last.
-use Rattle.std.specs.Prelude.{ℕ, ℤ, Bool, false, List, [], ◌==◌, filter, Option, None}
+use Rattle.std.specs.Prelude.{◌≡◌, ℕ, ℤ, Bool, false, List, [], ◌==◌, filter, Option, None}
 use Rattle.std.specs.List.{list_any}
 use Rattle.fx_base.specs.declared.keys.Name.{Name}
 use Rattle.fx_handles.specs.declared.Owner.{Owner}
@@ -34,6 +34,11 @@ unnamed = record { free = []; labels = []; actions = []; run = []; written = [] 
 abbrev pub nowhere : World
 nowhere =
     record { store = empty; graph = bare; names = unnamed; pointer = None; button = false; window = None }
+
+-- no property is joined with another, and nobody listens, so that no change has anything read
+pub record IsUnwatched (world : World) : Type 0 where
+  pub pairs : world.store.pairs ≡ []
+  pub listeners : world.store.listeners ≡ []
 
 -- a listener of this number is living
 abbrev pub is_listening : List Listener → ℕ → Bool

@@ -9,6 +9,11 @@ returns-clause-done g c =
     let line = line_view c.args.line in
     let final = course_of c.take_line.new.stage c.take_line.new.trace in
     on_ok c.take_line.result
-    (carried_fresh line c.args.stage.now c.take_line.new.stage c.args.trace.now c.take_line.new.trace c.take_line.result c.requires
-    c.take_line.ensures.made)
-    (carried_line c.args.picture.now.entries line line.request c.args.stage.now final c.in_default.ensures)
+    (carried_fresh line c.args.stage.now c.take_line.new.stage c.args.trace.now c.take_line.new.trace c.args.work.now.evaluated
+    c.take_line.new.work.evaluated c.take_line.result c.requires c.take_line.ensures.made c.take_line.ensures.few)
+    (λ carried. record {
+      cost = carried.cost;
+      done = carried_line c.args.picture.now.entries line line.request c.args.stage.now final carried.cost c.in_default.ensures
+          carried.done;
+      few = carried.few;
+    })

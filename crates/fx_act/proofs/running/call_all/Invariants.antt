@@ -7,5 +7,6 @@ use Rattle.fx_act.proofs.running.call_all.Given as goal
 
 abbrev pub invariant-loop-name : goal.invariant-loop-name
 invariant-loop-name g l =
-    LeadsTo AreCalled (drop l.name-index l.names) (course_of l.stage l.trace) l.names (course_of l.fn.stage l.fn.trace)
+    LeadsTo AreCalled (drop l.name-index l.names) (course_of l.stage l.trace) l.work.evaluated l.names
+    (course_of l.fn.stage l.fn.trace) l.fn.work.evaluated
     × (l.work ≡ record l.fn.work { evaluated = l.work.evaluated })

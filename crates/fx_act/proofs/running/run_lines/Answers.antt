@@ -6,7 +6,8 @@ use Rattle.fx_act.proofs.running.run_lines.Goals as goal
 pub loop-line-preserved : goal.loop-line-preserved
 loop-line-preserved g c = (
   next_line c.args.lines.now c.loop-line.line-index c.line-item.result c.loop-line-test.true c.line-item.is
-      c.loop-line.invariant.0 c.in_ok-run_line.ensures.done.0 c.in_ok-run_line.ensures.done.1,
+      c.loop-line.invariant.0 c.in_ok-run_line.ensures.done.0 c.in_ok-run_line.ensures.done.1
+      (c.in_ok-run_line.ensures.few c.in_ok-run_line.ensures.done.0),
   c.in_ok-run_line.ensures.others ∙ ap (λ (w : Work g.row.L.Denot). record w { evaluated = c.run_line.new.work.evaluated }) c.loop-line.invariant.1,
 )
 

@@ -8,6 +8,6 @@ use Rattle.fx_act.proofs.running.run_lines.Given as goal
 
 abbrev pub invariant-loop-line : goal.invariant-loop-line
 invariant-loop-line g l =
-    LeadsTo AreRun (map line_view (drop l.line-index l.lines)) (course_of l.stage l.trace)
-    (map line_view l.lines) (course_of l.fn.stage l.fn.trace)
+    LeadsTo AreRun (map line_view (drop l.line-index l.lines)) (course_of l.stage l.trace) l.work.evaluated
+    (map line_view l.lines) (course_of l.fn.stage l.fn.trace) l.fn.work.evaluated
     × (l.work ≡ record l.fn.work { evaluated = l.work.evaluated })

@@ -3,6 +3,7 @@ use Rattle.std.proofs.lemmas.List.{length-reverse}
 use Rattle.fx_base.specs.declared.keys.NodeKey.{NodeKey}
 use Rattle.fx_events.specs.Routes.{route_of}
 use Rattle.fx_events.specs.declared.kinds.Phase.TheVariants as phase
+use Rattle.fx_plain_dispatch.specs.Costs.{IsDoneWithin}
 use Rattle.fx_plain_dispatch.specs.Sending.{ArePassed, there_and_back}
 use Rattle.fx_play_steps.specs.Traces.{course_of}
 use Rattle.fx_tree.specs.Scene.{Scene}
@@ -27,9 +28,14 @@ returns-clause-done g c =
     c.as_slice-2.ensures
     ∙ refilled items c.reverse.new.self (ap length turned ∙ length-reverse items)
     ∙ turned ∙ ap reverse route_is in
+    let old = c.args.work.now.evaluated in
+    let mid = c.pass_all.new.work.evaluated in
+    let new = c.pass_all-2.new.work.evaluated in
     on_ok c.pass_all-2.result c.pass_all-2.ensures.done
     (λ returned.
-    passed_both
-    (subst (λ (keys : List NodeKey). ArePassed on (map (λ (key : NodeKey). (phase.Filter, key)) keys) start half) there
+    passed_both on (map (λ (key : NodeKey). (phase.Filter, key)) route) (map (λ (key : NodeKey). (phase.Handler, key)) (reverse route))
+    start half now old mid new
+    (subst (λ (keys : List NodeKey). IsDoneWithin (ArePassed on (map (λ (key : NodeKey). (phase.Filter, key)) keys) start half) old mid) there
     c.in_ok-pass_all.ensures.done)
-    (subst (λ (keys : List NodeKey). ArePassed on (map (λ (key : NodeKey). (phase.Handler, key)) keys) half now) back returned))
+    (subst (λ (keys : List NodeKey). IsDoneWithin (ArePassed on (map (λ (key : NodeKey). (phase.Handler, key)) keys) half now) mid new) back
+    returned))

@@ -9,5 +9,6 @@ use Rattle.fx_act.proofs.sending.pass_all.Given as goal
 abbrev pub invariant-loop-key : goal.invariant-loop-key
 invariant-loop-key g l =
     LeadsTo (ArePassed l.fn.on) (map (λ (key : NodeKey). (l.fn.phase, key)) (drop l.key-index l.nodes))
-    (course_of l.stage l.trace) (map (λ (key : NodeKey). (l.fn.phase, key)) l.nodes) (course_of l.fn.stage l.fn.trace)
+    (course_of l.stage l.trace) l.work.evaluated (map (λ (key : NodeKey). (l.fn.phase, key)) l.nodes)
+    (course_of l.fn.stage l.fn.trace) l.fn.work.evaluated
     × (l.work ≡ record l.fn.work { evaluated = l.work.evaluated })

@@ -7,5 +7,6 @@ use Rattle.fx_act.proofs.sending.send_all.Given as goal
 
 abbrev pub invariant-loop-event : goal.invariant-loop-event
 invariant-loop-event g l =
-    LeadsTo AreSent (drop l.event-index l.events) (course_of l.stage l.trace) l.events (course_of l.fn.stage l.fn.trace)
+    LeadsTo AreSent (drop l.event-index l.events) (course_of l.stage l.trace) l.work.evaluated l.events
+    (course_of l.fn.stage l.fn.trace) l.fn.work.evaluated
     × (l.work ≡ record l.fn.work { evaluated = l.work.evaluated })

@@ -11,7 +11,7 @@ pub returns-then-is_some : goal.returns-then-is_some
 returns-then-is_some c =
     let here = course_of c.args.stage.now c.args.trace.now in
     on_ok c.print_overrun.result c.print_overrun.ensures
-    (λ printed. subst (λ text. IsSettled c.args.number 0 c.args.place here (record here { text = text })) (sym printed)
+    (λ printed. subst (λ text. IsSettled c.args.number 0 c.args.place here (record here { text = text }) 0) (sym printed)
     (cut_off (λ (r : Run). (r.place, r.action)) c.args.number c.args.place here
     c.in_ok-next_run.field-0 (sym c.is_some.ensures ∙ c.if-is_some.true)
     (c.in_ok-next_run.ensures.found

@@ -3,7 +3,7 @@ use Rattle.std.proofs.Common.{◌≡◌, List, [], ◌∷◌, Some, ap, refl, su
 use Rattle.fx_base.specs.declared.work.Work.{Work}
 use Rattle.fx_plain.specs.CommandLine.{Plays}
 use Rattle.fx_plain.specs.Demos.{demo_run, demo_scene, demo_script, demo_sheet}
-use Rattle.fx_plain.specs.Works.{IsRunWork}
+use Rattle.fx_plain.specs.Works.{HasWorked, IsRunWork}
 use Rattle.fx_plain_work.specs.Works.{Counted, counted}
 use Rattle.fx_port.specs.Files.{Files, files_of}
 use Rattle.fx_play.specs.Ends.{IsPlayed}
@@ -29,8 +29,10 @@ returns-clause-work g c done =
     let held = files_of c.in-Ok.shelf.files.entries in
     let named : c.from_string.result ≡ demo_sheet = c.from_string.ensures ∙ c.in-Ok-from_str.ensures.ok in
     let IsSo : List ℕ → Type 0 =
-    λ sheet. IsRunWork (record { scene = demo_scene; script = demo_script; sheets = sheet ∷ [] }) c.args.manner held
-    (count c.args.work.now) (count c.play_run.new.work) in
-    subst (λ (files : Files). IsRunWork demo_run c.args.manner files (count c.args.work.now)
-    (count c.play_run.new.work)) (ap files_of c.in-Ok.ensures)
+    λ sheet. HasWorked (λ bytes. IsRunWork (record { scene = demo_scene; script = demo_script; sheets = sheet ∷ [] })
+    c.args.manner held bytes (count c.args.work.now) (count c.play_run.new.work)) (g.O.Sink.written c.args.out.now)
+    (g.O.Sink.written c.play_run.new.out) c.args.work.now.evaluated c.play_run.new.work.evaluated in
+    subst (λ (files : Files). HasWorked (λ bytes. IsRunWork demo_run c.args.manner files bytes (count c.args.work.now)
+    (count c.play_run.new.work)) (g.O.Sink.written c.args.out.now) (g.O.Sink.written c.play_run.new.out)
+    c.args.work.now.evaluated c.play_run.new.work.evaluated) (ap files_of c.in-Ok.ensures)
     (subst IsSo named (c.play_run.ensures.work held refl done))

@@ -1,10 +1,12 @@
 -- a scene that isn't raised, and a script that is played on one
-use Rattle.std.proofs.Common.{List, ap, map, subst, sym, ℕ, ◌∙◌}
+use Rattle.std.proofs.Common.{List, ap, arith, map, refl, subst, sym, ℕ, ◌∙◌, ◌≤◌, ◌+◌}
 use Rattle.fx_base.specs.declared.work.Work.{Work}
+use Rattle.fx_plain_dispatch.specs.Costs.{IsDoneWithin}
 use Rattle.fx_load.specs.Loads.{loaded_of}
 use Rattle.fx_plain.specs.declared.answers.Status.{Status}
-use Rattle.fx_plain_runs.specs.Runs.{IsPut}
-use Rattle.fx_plain_work.specs.Works.{Counted, IsWorked, Sight, counted, no_sight}
+use Rattle.fx_plain_runs.specs.Runs.{IsPut, written_of}
+use Rattle.fx_plain_work.specs.Works.{Counted, Sight, counted, no_sight}
+use Rattle.fx_play_runs.specs.Lines.{AreDone}
 use Rattle.fx_play_frames.specs.Games.{game_of}
 use Rattle.fx_script_commands.specs.Requests.{line_view}
 use Rattle.fx_play.specs.Ends.{IsLoadedPlayed}
@@ -45,13 +47,34 @@ returns-in-Err-clause-work g c done =
 
 pub returns-clause-work : goal.returns-clause-work
 returns-clause-work g c done =
+    let sink = g.O.Sink in
     let count : Work g.row.L.Denot → Counted = λ w. counted w.styled w.laid w.painted in
+    let lines = map line_view c.args.loaded.lines.items in
+    let game = game_of c.in-Ok.game in
+    let Wrote : List ℕ → Sight → Counted → Type 0 =
+    λ warnings start n.
+    IsDoneWithin (AreDone c.args.manner warnings game start lines (sink.written c.args.out.now)
+    (sink.written c.put_played.new.out) n (count c.put_played.new.work)) c.staged.new.work.evaluated
+    c.put_played.new.work.evaluated in
+    let so =
+    subst (Wrote (loaded_of c.args.loaded).warnings no_sight) (ap count c.in-Ok.ensures.others)
+    (subst (λ (s : Sight). Wrote (loaded_of c.args.loaded).warnings s (count c.staged.new.work)) c.in-Ok.ensures.sight
+    (subst (λ (w : List ℕ). Wrote w _ (count c.staged.new.work)) c.as_slice-2.ensures.value
+    (done_put c.put_played.result (sym c.ended.ensures ∙ done) c.put_played.ensures.work))) in
+    let quiet : c.staged.new.work.evaluated ≤ c.args.work.now.evaluated = c.in-Ok.ensures.quiet in
+    let few : c.put_played.new.work.evaluated ≤ c.staged.new.work.evaluated + so.cost = so.few in
     record {
-      first = game_of c.in-Ok.game;
-      begun = c.in-Ok.ensures.staged;
-      worked = subst (λ (n : Counted). IsWorked c.args.manner.form (game_of c.in-Ok.game) no_sight
-          (map line_view c.args.loaded.lines.items) n (count c.put_played.new.work)) (ap count c.in-Ok.ensures.others)
-          (subst (λ (s : Sight). IsWorked c.args.manner.form (game_of c.in-Ok.game) s
-          (map line_view c.args.loaded.lines.items) (count c.staged.new.work) (count c.put_played.new.work))
-          c.in-Ok.ensures.sight (done_put c.put_played.result (sym c.ended.ensures ∙ done) c.put_played.ensures.work));
+      bytes = written_of c.args.manner (loaded_of c.args.loaded).warnings so.done.tolds;
+      told = so.done.wrote;
+      within = record {
+        cost = so.cost;
+        done = record {
+          first = game;
+          begun = c.in-Ok.ensures.staged;
+          tolds = so.done.tolds;
+          worked = so.done.worked;
+          wrote = refl;
+        };
+        few = omega (arith, quiet, few);
+      };
     }

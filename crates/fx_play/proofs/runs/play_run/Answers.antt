@@ -35,8 +35,18 @@ returns-in-Err-clause-work g c files held done =
     c.tell_unloaded.ensures done)
 
 pub returns-clause-work : goal.returns-clause-work
-returns-clause-work g c files held done = record {
-  loaded = loaded_of c.in-Ok.loaded;
-  elaborated = c.in-Ok.ensures.says files held;
-  work = c.play_loaded.ensures.work done;
-}
+returns-clause-work g c files held done =
+    let worked = c.play_loaded.ensures.work done in
+    record {
+      bytes = worked.bytes;
+      told = worked.told;
+      within = record {
+        cost = worked.within.cost;
+        done = record {
+          loaded = loaded_of c.in-Ok.loaded;
+          elaborated = c.in-Ok.ensures.says files held;
+          work = worked.within.done;
+        };
+        few = worked.within.few;
+      };
+    }

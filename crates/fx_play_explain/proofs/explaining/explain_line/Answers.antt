@@ -1,8 +1,11 @@
-use Rattle.std.proofs.Common.{◌++◌, ◌∙◌, ℕ, List, ap, refl}
+use Rattle.std.proofs.Common.{◌++◌, ◌∙◌, ◌≤◌, ◌+◌, ℕ, List, Result, ap, refl, subst}
 use Rattle.std.proofs.lemmas.Result.{on_ok_weaker}
+use Rattle.fx_base.specs.declared.keys.NodeKey.{NodeKey}
+use Rattle.fx_plain_explain.specs.Explaining.{explain_cost}
 use Rattle.fx_plain_steps.specs.Courses.{Course}
 use Rattle.fx_stage_facts.specs.Attached.{looked}
 use Rattle.fx_stage_text.specs.Printing.{refused_line}
+use Rattle.fx_stage_types.specs.declared.refusals.Refusal.{Refusal}
 use Rattle.fx_stage_types.specs.Words.{word_of}
 use Rattle.fx_play_explain.proofs.ToldLemmas.{line_refused, line_told, on_both, step_printing}
 use Rattle.fx_play_explain.proofs.explaining.explain_line.Goals as goal
@@ -37,3 +40,9 @@ returns-in-Err-clause-told g c =
     (is ∙ ap (λ (t : List ℕ). t ++ refused_line c.args.number c.word.result.now) empty ∙ ap (refused_line c.args.number) c.word.ensures)
     none refl))
     c.print_refusal.ensures
+
+pub returns-in-Ok-clause-few : goal.returns-in-Ok-clause-few
+returns-in-Ok-clause-few g c =
+    let world = c.args.stage.now in
+    subst (λ (found : Result NodeKey Refusal). c.tell.new.work.evaluated ≤ c.args.work.now.evaluated + explain_cost world found)
+    c.in-Ok.ensures.found c.tell.ensures.few

@@ -11,7 +11,8 @@ returns-clause-drawn g c =
     drawn_whole c.args.stage.now c.read_facts.new.stage c.publish_sizes.new.stage c.in_ok-facts.facts c.args.renderer.now
     c.draw.new.renderer (record { frame = c.in_ok-frame.frame; notices = c.in_ok-notices.notices }) c.as_slice.result.now c.rects.result.now c.in_ok-facts.ensures.facts
     c.in_ok-facts.ensures.ok (c.in_ok-frame.ensures.drawn c.args.stage.now c.in_ok-facts.ensures.facts) c.as_slice.ensures c.rects.ensures c.in_ok-notices.ensures.published.0
-    c.in_ok-notices.ensures.published.1
+    c.in_ok-notices.ensures.published.1 c.args.work.now.evaluated c.read_facts.new.work.evaluated c.draw.new.work.evaluated
+    c.publish_sizes.new.work.evaluated c.in_ok-facts.ensures.cost c.in_ok-frame.ensures.evaluated c.in_ok-notices.ensures.few
 
 pub returns-clause-work : goal.returns-clause-work
 returns-clause-work g c =

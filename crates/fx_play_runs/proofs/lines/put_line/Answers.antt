@@ -13,7 +13,7 @@ returns-clause-cut g c =
     let form = c.args.writer.now.form in
     let last = (game_of c.args.game.now).last in
     part_told form (line_view c.args.line) (game_of c.args.game.now) (game_of c.take.new.self)
-    c.in_ok-taken.taken c.put_told.result c.as_slice.ensures.value (c.in_ok-taken.ensures.told form)
+    c.in_ok-taken.taken c.put_told.result c.as_slice.ensures.value (c.in_ok-taken.ensures.told form).cost (c.in_ok-taken.ensures.told form).done
     (c.put_told.ensures.writes last c.requires.behind)
 
 pub returns-clause-behind : goal.returns-clause-behind

@@ -4,7 +4,7 @@ use Rattle.fx_plain_runs.proofs.PlayingLemmas.{not_begun_yet, put_at_err}
 use Rattle.fx_play_frames.specs.Games.{game_of}
 use Rattle.fx_script_commands.specs.Requests.{line_view}
 use Rattle.fx_play_runs.proofs.CountLemmas.{totals_told}
-use Rattle.fx_play_runs.proofs.WorkLemmas.{always}
+use Rattle.fx_play_runs.proofs.WorkLemmas.{added_done}
 use Rattle.fx_play_runs.proofs.summaries.put_summary.Goals as goal
 
 pub returns-in_err-totals-clause-put : goal.returns-in_err-totals-clause-put
@@ -28,4 +28,7 @@ returns-clause-put g c =
     c.in_ok-text.ensures c.put.ensures.writes
 
 pub returns-clause-work : goal.returns-clause-work
-returns-clause-work g c = always c.put.result (c.in_ok-totals.ensures.work c.args.manner.form)
+returns-clause-work g c =
+    λ warnings.
+    added_done warnings c.put.result c.requires.short (c.in_ok-totals.ensures.work c.args.manner.form)
+    c.as_slice.ensures.value c.in_ok-text.ensures c.put.ensures.writes

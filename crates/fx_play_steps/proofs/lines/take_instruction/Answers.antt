@@ -3,6 +3,7 @@ use Rattle.std.proofs.Common.{◌∙◌, ap, subst, sym}
 use Rattle.fx_plain_steps.specs.Lines.{Step, said_by}
 use Rattle.fx_play_steps.specs.Taken.{IsMade}
 use Rattle.fx_play_steps.specs.Traces.{course_of}
+use Rattle.fx_stage_model.specs.Lines.{taken}
 use Rattle.fx_play_steps.proofs.StepLemmas.{step_other}
 use Rattle.fx_play_steps.proofs.lines.take_instruction.Goals as goal
 
@@ -15,3 +16,7 @@ returns-then-not-is_carried-clause-made g c =
       subst (λ (s : Step). IsMade s (course_of world c.args.trace.now) (course_of world c.say.new.trace) c.say.result)
           (same ∙ sym step) (c.say.ensures world),
     )
+
+pub returns-clause-few : goal.returns-clause-few
+unfolding taken
+returns-clause-few g c = c.carry_out-answer.ensures.few

@@ -1,5 +1,5 @@
 -- one step more, one that is refused, and no more
-use Rattle.std.proofs.Common.{◌∙◌, ap}
+use Rattle.std.proofs.Common.{◌∙◌, ◌≤◌, ap, arith}
 use Rattle.fx_base.specs.declared.work.Work.{Work}
 use Rattle.fx_scene_plan.specs.Plans.{standing_of}
 use Rattle.fx_scene_build.proofs.StepLemmas.{ends, goes_on, none_left, told_on}
@@ -12,6 +12,12 @@ loop-step-preserved g c = (
       c.in-Some.step c.args.stage.now c.args.plan.items c.in-Some.ensures.items c.loop-step.invariant.0
       c.in_ok-take_step.ensures.taken,
   c.in_ok-take_step.ensures.others ∙ ap (λ (w : Work g.row.L.Denot). record w { evaluated = c.take_step.new.work.evaluated }) c.loop-step.invariant.1,
+  λ is.
+      let before = c.loop-step.invariant.2 is in
+      let after = c.in_ok-take_step.ensures.quiet before.1 in
+      let first : c.loop-step.work.evaluated ≤ c.args.work.now.evaluated = before.0 in
+      let more : c.take_step.new.work.evaluated ≤ c.loop-step.work.evaluated = after.0 in
+      (omega (arith, first, more), after.1),
 )
 
 pub returns-in_err-take_step-clause-scene : goal.returns-in_err-take_step-clause-scene

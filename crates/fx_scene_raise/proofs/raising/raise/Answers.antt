@@ -1,5 +1,5 @@
 -- one task more, one at fault, and no more
-use Rattle.std.proofs.Common.{◌∙◌, ap}
+use Rattle.std.proofs.Common.{◌∙◌, ◌≤◌, ap, arith}
 use Rattle.fx_base.specs.declared.work.Work.{Work}
 use Rattle.fx_scene_plan.specs.Plans.{standing_of}
 use Rattle.fx_scene_raise.proofs.TaskLemmas.{ends, goes_on, none_left, told_on}
@@ -12,6 +12,12 @@ loop-task-preserved g c = (
       c.in-Some.task c.args.stage.now c.args.tasks.items c.in-Some.ensures.items c.loop-task.invariant.0
       c.in_ok-take_task.ensures.taken,
   c.in_ok-take_task.ensures.others ∙ ap (λ (w : Work g.row.L.Denot). record w { evaluated = c.take_task.new.work.evaluated }) c.loop-task.invariant.1,
+  λ is.
+      let before = c.loop-task.invariant.2 is in
+      let after = c.in_ok-take_task.ensures.quiet before.1 in
+      let first : c.loop-task.work.evaluated ≤ c.args.work.now.evaluated = before.0 in
+      let more : c.take_task.new.work.evaluated ≤ c.loop-task.work.evaluated = after.0 in
+      (omega (arith, first, more), after.1),
 )
 
 pub returns-in_err-take_task-clause-raised : goal.returns-in_err-take_task-clause-raised

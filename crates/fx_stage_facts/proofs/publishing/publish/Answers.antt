@@ -1,11 +1,12 @@
-use Rattle.std.proofs.Common.{◌∙◌, List, sym, subst}
+use Rattle.std.proofs.Common.{◌∙◌, ◌≤◌, ◌+◌, List, sym, subst}
 use Rattle.fx_base.specs.declared.keys.Name.{Name}
 use Rattle.fx_base.specs.declared.values.Value.{Value}
 use Rattle.fx_store_model.specs.declared.changes.Change.TheVariants.{Publish}
 use Rattle.fx_store_model.specs.Step.{IsFit}
+use Rattle.fx_stage_model.specs.Answers.{cost_of}
 use Rattle.fx_stage_model.specs.Properties.{changed}
 use Rattle.fx_stage_model.specs.Taking.{IsTaken}
-use Rattle.fx_stage_facts.proofs.PublishLemmas.{publish_fits, published_err, published_ok}
+use Rattle.fx_stage_facts.proofs.PublishLemmas.{publish_fits, published_err, published_ok, sized_few}
 use Rattle.fx_stage_facts.proofs.publishing.publish.Goals as goal
 
 pub publish-requires : goal.publish-requires
@@ -28,3 +29,12 @@ returns-in-Err-clause-published g c =
     (subst (λ (pairs : List (Name × Value)). IsTaken (changed (Publish pairs) c.args.stage.now) c.args.stage.now c.publish.new.self c.publish.result)
     (c.from_vec.ensures ∙ c.in_ok-pairs.ensures) c.publish.ensures.taken)
     c.in-Err.is
+
+pub returns-in-Ok-clause-few : goal.returns-in-Ok-clause-few
+returns-in-Ok-clause-few g c =
+    let world = c.args.stage.now in
+    let old = c.args.work.now.evaluated in
+    let new = c.publish.new.work.evaluated in
+    sized_few world c.laws.ensures c.args.sizes.now old new
+    (subst (λ (pairs : List (Name × Value)). new ≤ old + cost_of (changed (Publish pairs) world))
+    (c.from_vec.ensures ∙ c.in_ok-pairs.ensures) c.publish.ensures.few)

@@ -1,4 +1,4 @@
-use Rattle.std.proofs.Common.{◌≡◌, ◌∙◌, ◌+◌, ◌++◌, Option, ap, arith, length, refl, subst, sym, vec_len}
+use Rattle.std.proofs.Common.{◌≡◌, ◌∙◌, ◌≤◌, ◌+◌, ◌++◌, Option, ap, arith, length, refl, subst, sym, vec_len}
 use Rattle.std.specs.Option.{option_map}
 use Rattle.fx_base.specs.declared.work.Work.{Work}
 use Rattle.fx_frame_text.specs.Frames.{frame_text}
@@ -24,29 +24,39 @@ returns-clause-shown g c = λ form.
     let course = course_of c.tell.new.stage c.tell.new.trace in
     let heard = c.tell.new.trace.heard in
     let long : vec_len heard ≡ length heard.items = omega (arith, heard.ok.0) in
+    let settled = c.in_ok-tell.ensures.settled in
+    let first_few : c.drawn.new.work.evaluated ≤ c.args.work.now.evaluated + drawn.cost = drawn.few in
+    let rest_few : c.tell.new.work.evaluated ≤ c.drawn.new.work.evaluated + settled.cost = settled.few in
     record {
-      pulsed = pulsed_as now made;
-      drawn = record {
-        world = c.drawn.new.stage;
-        clock = clock_of c.args.self.now.clock;
-        frames = c.args.self.now.frames + 1;
-        last = last_frame now;
+      cost = drawn.cost + settled.cost;
+      done = record {
+        pulsed = pulsed_as now made;
+        drawn = record {
+          world = c.drawn.new.stage;
+          clock = clock_of c.args.self.now.clock;
+          frames = c.args.self.now.frames + 1;
+          last = last_frame now;
+        };
+        own = drawn.cost;
+        made = record { drawn = drawn.done; count = refl };
+        course = course;
+        further = settled.cost;
+        settled = settled.done;
+        after = refl;
+        told_so =
+            ap (λ n. record {
+              text = frame_text form (c.args.self.now.frames + 1) before made.frame.damage.items (image_last (last_frame now))
+                  ++ c.tell.new.trace.text.items;
+              totals = frame_totals (last_frame now) (record { damage = made.frame.damage; notices = n });
+            }) (c.len.ensures ∙ long)
+            ∙ ap (λ (last : Option Framed). record {
+              text = frame_text form (c.args.self.now.frames + 1) before made.frame.damage.items (image_last last)
+                  ++ c.tell.new.trace.text.items;
+              totals = frame_totals last (record { damage = made.frame.damage; notices = length c.tell.new.trace.heard.items });
+            }) drawn.done.last_one;
+        sum = refl;
       };
-      made = record { drawn = drawn; count = refl };
-      course = course;
-      settled = c.in_ok-tell.ensures.settled;
-      after = refl;
-      told_so =
-          ap (λ n. record {
-            text = frame_text form (c.args.self.now.frames + 1) before made.frame.damage.items (image_last (last_frame now))
-                ++ c.tell.new.trace.text.items;
-            totals = frame_totals (last_frame now) (record { damage = made.frame.damage; notices = n });
-          }) (c.len.ensures ∙ long)
-          ∙ ap (λ (last : Option Framed). record {
-            text = frame_text form (c.args.self.now.frames + 1) before made.frame.damage.items (image_last last)
-                ++ c.tell.new.trace.text.items;
-            totals = frame_totals last (record { damage = made.frame.damage; notices = length c.tell.new.trace.heard.items });
-          }) drawn.last_one;
+      few = omega (arith, first_few, rest_few);
     }
 
 pub returns-clause-work : goal.returns-clause-work
@@ -63,4 +73,5 @@ returns-clause-work g c =
     (record { scene = c.drawn.new.renderer.kept.last; layout = c.drawn.new.renderer.kept.layout })
     (count c.args.work.now) n) (sym (ap count c.in_ok-tell.ensures.others))
     (pulse_work before now c.drawn.new.stage c.args.self.now.renderer c.drawn.new.renderer c.in_ok-pulsed.pulsed
-    (count c.args.work.now) (count c.drawn.new.work) refl refl c.in_ok-pulsed.ensures.drawn c.in_ok-pulsed.ensures.work)
+    (count c.args.work.now) (count c.drawn.new.work) c.in_ok-pulsed.ensures.drawn.cost refl refl
+    c.in_ok-pulsed.ensures.drawn.done c.in_ok-pulsed.ensures.work)

@@ -15,10 +15,14 @@ returns-then-is_none-clause-step g c =
     (c.is_none.ensures ∙ ap not c.if-is_none.true) in
     on_ok c.act.result c.act.ensures.line
     (λ taken. record {
-      course = course;
-      taken = subst (λ (entries : List Entry). IsLine entries (line_view c.args.line) s.stage course) same taken;
-      after = refl;
-      told_so = refl;
+      cost = taken.cost;
+      done = record {
+        course = course;
+        taken = subst (λ (entries : List Entry). IsLine entries (line_view c.args.line) s.stage course taken.cost) same taken.done;
+        after = refl;
+        told_so = refl;
+      };
+      few = taken.few;
     })
 
 pub returns-clause-step : goal.returns-clause-step
@@ -30,8 +34,12 @@ returns-clause-step g c =
     (c.is_none.ensures ∙ ap not c.if-is_none.false) in
     on_ok c.act-2.result c.act-2.ensures.line
     (λ taken. record {
-      course = course;
-      taken = subst (λ (entries : List Entry). IsLine entries (line_view c.args.line) s.stage course) same taken;
-      after = refl;
-      told_so = refl;
+      cost = taken.cost;
+      done = record {
+        course = course;
+        taken = subst (λ (entries : List Entry). IsLine entries (line_view c.args.line) s.stage course taken.cost) same taken.done;
+        after = refl;
+        told_so = refl;
+      };
+      few = taken.few;
     })

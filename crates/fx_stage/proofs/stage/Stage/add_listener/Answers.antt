@@ -3,11 +3,13 @@ use Rattle.std.proofs.lemmas.Bool.{ltb-true}
 use Rattle.fx_store_model.proofs.Leaving.{keeps_applied}
 use Rattle.fx_stage_types.specs.declared.answers.Outcome.{Outcome}
 use Rattle.fx_stage_types.specs.declared.answers.StageError.{StageError}
+use Rattle.fx_stage_model.specs.Answers.{cost_of}
 use Rattle.fx_stage_model.specs.Taking.{IsTaken}
 use Rattle.fx_stage_model.specs.World.{World, is_listening, with_store}
 use Rattle.fx_stage.specs.Kept.{seen}
 use Rattle.fx_stage.specs.Noting.{added, has_listener_behind, run_if, written_if}
 use Rattle.fx_stage_words.specs.Told.{told_as}
+use Rattle.fx_stage.proofs.CostLemmas.{added_few, changed_few}
 use Rattle.fx_stage.proofs.ListeningLemmas.{added_taken, first_true, has_new, listen_keeps, new_given, not_there, numbered_if, perhaps_noted, view_noted}
 use Rattle.fx_stage.proofs.SoundLemmas.{sound_kept}
 use Rattle.fx_stage.proofs.TakingLemmas.{changed_taken, given_settled, listening_from, settled, written_again}
@@ -90,3 +92,17 @@ returns-clause-taken g c =
     subst (λ (x : World). IsTaken (added change asked runs x) x v c.told.result) c.self.view_is
     (subst (λ (r : Result Outcome StageError). IsTaken (added change asked runs w) w v r) (sym c.told.ensures)
     (subst (λ (x : World). IsTaken (added change asked runs w) w x (told_as c.apply-answer.result)) (sym seen_is) taken))
+
+pub returns-clause-few : goal.returns-clause-few
+returns-clause-few g c =
+    let s = c.self.inside in
+    let change = c.args.change in
+    let asked = c.args.asked in
+    let runs = c.args.runs in
+    let old = c.args.work.now.evaluated in
+    let new = c.apply-answer.new.work.evaluated in
+    let w : World = seen s.store s.graph s.free.entries s.labels.entries s.actions.entries s.run.items s.written.entries s.pointer s.button s.window in
+    subst (λ (x : World). new ≤ old + cost_of (added change asked runs x)) c.self.view_is
+    (added_few change asked runs w old new
+    (changed_few change w c.apply-answer.new.self old new (listen_keeps change c.requires.listens) c.apply-answer.result
+    c.apply-answer.ensures.applied))

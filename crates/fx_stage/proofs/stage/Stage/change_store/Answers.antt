@@ -1,12 +1,14 @@
-use Rattle.std.proofs.Common.{◌≡◌, ℕ, List, Result, ap, subst, sym}
+use Rattle.std.proofs.Common.{◌≡◌, ◌≤◌, ◌+◌, ℕ, List, Result, ap, subst, sym}
 use Rattle.fx_store_model.proofs.Leaving.{keeps_applied}
 use Rattle.fx_stage_types.specs.declared.answers.Outcome.{Outcome}
 use Rattle.fx_stage_types.specs.declared.answers.StageError.{StageError}
+use Rattle.fx_stage_model.specs.Answers.{cost_of}
 use Rattle.fx_stage_model.specs.Properties.{changed}
 use Rattle.fx_stage_model.specs.Taking.{IsTaken}
 use Rattle.fx_stage_model.specs.World.{World, with_store}
 use Rattle.fx_stage.specs.Kept.{seen}
 use Rattle.fx_stage_words.specs.Told.{told_as}
+use Rattle.fx_stage.proofs.CostLemmas.{changed_few}
 use Rattle.fx_stage.proofs.SoundLemmas.{sound_kept}
 use Rattle.fx_stage.proofs.TakingLemmas.{all_below, changed_taken, given_settled, listening_from, settled, written_again}
 use Rattle.fx_stage.proofs.WrittenLemmas.{still_twice}
@@ -41,3 +43,10 @@ returns-clause-taken g c =
     subst (λ (x : World). IsTaken (changed c.args.change x) x v c.told.result) c.self.view_is
     (subst (λ (r : Result Outcome StageError). IsTaken (changed c.args.change w) w v r) (sym c.told.ensures)
     (subst (λ (x : World). IsTaken (changed c.args.change w) w x (told_as c.apply.result)) view taken))
+
+pub returns-clause-few : goal.returns-clause-few
+returns-clause-few g c =
+    let s = c.self.inside in
+    let w : World = seen s.store s.graph s.free.entries s.labels.entries s.actions.entries s.run.items s.written.entries s.pointer s.button s.window in
+    subst (λ (x : World). c.apply.new.work.evaluated ≤ c.args.work.now.evaluated + cost_of (changed c.args.change x)) c.self.view_is
+    (changed_few c.args.change w c.apply.new.self _ _ c.requires.keeps c.apply.result c.apply.ensures.applied)

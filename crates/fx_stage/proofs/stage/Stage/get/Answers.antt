@@ -1,7 +1,8 @@
-use Rattle.std.proofs.Common.{◌≡◌, ◌∙◌, List, Result, ap, subst, sym}
+use Rattle.std.proofs.Common.{◌≡◌, ◌≤◌, ◌+◌, ◌∙◌, List, Result, ap, subst, sym}
 use Rattle.fx_listen.specs.declared.entries.Listener.{Listener}
 use Rattle.fx_stage_types.specs.declared.answers.Outcome.{Outcome}
 use Rattle.fx_stage_types.specs.declared.answers.StageError.{StageError}
+use Rattle.fx_stage_model.specs.Answers.{cost_of}
 use Rattle.fx_stage_model.specs.Looking.{find}
 use Rattle.fx_stage_model.specs.Properties.{get}
 use Rattle.fx_stage_model.specs.Taking.{IsTaken}
@@ -9,7 +10,7 @@ use Rattle.fx_stage_model.specs.World.{World, still_written}
 use Rattle.fx_stage.specs.Kept.{seen}
 use Rattle.fx_stage_words.specs.Told.{told_value_as}
 use Rattle.fx_stage.proofs.FoundLemmas.{found_known}
-use Rattle.fx_stage.proofs.ReadingLemmas.{get_taken, listeners_kept}
+use Rattle.fx_stage.proofs.ReadingLemmas.{get_few, get_taken, listeners_kept}
 use Rattle.fx_stage.proofs.stage.Stage.get.Goals as goal
 
 pub returns-clause-taken : goal.returns-clause-taken
@@ -29,3 +30,12 @@ returns-clause-taken g c =
     subst (λ (x : World). IsTaken (get path x) x v c.told_value.result) c.self.view_is
     (subst (λ (r : Result Outcome StageError). IsTaken (get path w) w v r) (sym c.told_value.ensures)
     (subst (λ (x : World). IsTaken (get path w) w x (told_value_as c.read.result)) view taken))
+
+pub returns-clause-few : goal.returns-clause-few
+returns-clause-few g c =
+    let s = c.self.inside in
+    let path = c.args.path.now in
+    let w : World = seen s.store s.graph s.free.entries s.labels.entries s.actions.entries s.run.items s.written.entries s.pointer s.button s.window in
+    let here = ap (λ (x : World). find x path) c.self.view_is ∙ sym c.find_property.ensures ∙ c.in-Ok.is in
+    subst (λ (x : World). c.read.new.work.evaluated ≤ c.args.work.now.evaluated + cost_of (get path x)) c.self.view_is
+    (get_few path w c.in-Ok.name c.args.work.now.evaluated c.read.new.work.evaluated here c.read.ensures.cost)

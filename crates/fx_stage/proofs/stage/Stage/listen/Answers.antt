@@ -1,7 +1,7 @@
-use Rattle.std.proofs.Common.{◌∙◌, Result, subst, sym}
+use Rattle.std.proofs.Common.{◌≤◌, ◌+◌, ◌∙◌, Result, subst, sym}
 use Rattle.std.specs.Option.{option_copied}
 use Rattle.fx_stage_types.specs.declared.refusals.Refusal.{Refusal}
-use Rattle.fx_stage_model.specs.Answers.{Taken}
+use Rattle.fx_stage_model.specs.Answers.{Taken, cost_of}
 use Rattle.fx_stage_model.specs.Taking.{IsTaken}
 use Rattle.fx_stage.proofs.ListenLemmas.{listen_is}
 use Rattle.fx_stage.proofs.stage.Stage.listen.Goals as goal
@@ -16,3 +16,14 @@ returns-clause-taken g c =
     (sym c.find_both.ensures ∙ c.in-Ok.is) c.kind_named.ensures c.tag_of.ensures c.in-Ok-copy_names.ensures
     c.in-Ok-new_action.ensures))
     c.add_listener.ensures.taken
+
+pub returns-clause-few : goal.returns-clause-few
+returns-clause-few g c =
+    let now = c.args.self.now in
+    subst (λ (r : Result Taken Refusal). c.add_listener.new.work.evaluated ≤ c.args.work.now.evaluated + cost_of r)
+    (sym
+    (listen_is now c.args.kind.now c.args.path.now (option_copied c.args.action) (option_copied c.args.label) c.in-Ok.found
+    c.kind_named.result c.tag_of.result c.in-Ok-copy_names.asked c.in-Ok-new_action.runs
+    (sym c.find_both.ensures ∙ c.in-Ok.is) c.kind_named.ensures c.tag_of.ensures c.in-Ok-copy_names.ensures
+    c.in-Ok-new_action.ensures))
+    c.add_listener.ensures.few

@@ -20,14 +20,19 @@ use fx_lookup::NamedPaint;
 use std::alloc::{AllocError, Global};
 
 /// The paints of the names that the rules that match declare beside the rows of the style table, in their order, behind
-/// that of `-fx-text-fill`.
-pub fn kept_paints(alloc: Global, rows: Rows<'_>) -> Result<Vec<NamedPaint>, AllocError>
+/// that of `-fx-text-fill`. They stand in the room of other ones.
+pub fn kept_paints(
+    alloc: Global,
+    room: Vec<NamedPaint>,
+    rows: Rows<'_>,
+) -> Result<Vec<NamedPaint>, AllocError>
     requires wins { WinsBy rows.winners.now rows.sheets.now rows.matched.now rows.codes.now }
     requires sheets { AreWithinLimits rows.sheets.now }
     ensures { IfOk result (λ paints. paints.items
         ≡ spec.paints_of rows.entry.sheets.now rows.entry.matched.now rows.entry.codes.now) }
 {
-    let mut paints = Vec::new(alloc);
+    let mut paints = room;
+    paints.clear();
     push_fill(&mut paints, alloc, fill_value(rows))?;
     push_own(&mut paints, alloc, rows)?;
     Ok(paints)

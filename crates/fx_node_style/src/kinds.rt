@@ -9,7 +9,7 @@ ghost use Rattle.fx_node_style.specs.Values.{found_value};
 use crate::values::Winning;
 use fx_base::{List, Sides, Value};
 use fx_css_types::Declared;
-use std::alloc::{AllocError, Global};
+use std::alloc::AllocError;
 
 /// A size: the one that wins, the parent's under `inherit`, else the initial one.
 pub fn length_in(found: Option<Winning>, unset: i64, parent: i64) -> i64
@@ -99,8 +99,9 @@ fn sides_of(value: &Value, unset: Sides) -> Sides
     }
 }
 
+/// The sides of layers, in the room of other ones.
 pub fn layers_in(
-    alloc: Global,
+    room: Vec<Sides>,
     found: Option<Winning>,
     unset: Sides,
     parent: &List<Sides>,
@@ -108,16 +109,20 @@ pub fn layers_in(
     ensures { IfOk result (λ layers. layers ≡ layers_in (option_map found_value found.entry) unset parent.now) }
 {
     match found {
-        Some(Winning::Declared(Declared::SidesList(layers))) => copied(alloc, layers),
-        Some(Winning::Declared(Declared::Inherit)) => copied(alloc, parent),
-        _ => Ok(List::from_vec(Vec::from_slice(alloc, &[unset])?)),
+        Some(Winning::Declared(Declared::SidesList(layers))) => filled(room, layers.as_slice()),
+        Some(Winning::Declared(Declared::Inherit)) => filled(room, parent.as_slice()),
+        _ => filled(room, &[unset]),
     }
 }
 
-fn copied(alloc: Global, layers: &List<Sides>) -> Result<List<Sides>, AllocError>
-    ensures { IfOk result (λ copy. copy ≡ layers.now) }
+fn filled(room: Vec<Sides>, layers: &[Sides]) -> Result<List<Sides>, AllocError>
+    ensures { IfOk result (λ list. list ≡ layers.now) }
 {
-    Ok(List::from_vec(Vec::from_slice(alloc, layers.as_slice())?))
+    let mut list = room;
+    list.clear();
+    list.reserve_exact(layers.len())?;
+    list.extend_from_slice(layers)?;
+    Ok(List::from_vec(list))
 }
 
 /// The place of a constant.

@@ -8,10 +8,12 @@ mod laws;
 mod looking;
 mod node_styles;
 mod paints;
+mod rooms;
 mod styling;
 mod values;
 
 pub use laws::rows_are_named;
 pub use node_styles::NodeStyle;
-pub use styling::{Ground, style_by};
+pub use rooms::Room;
+pub use styling::{Ground, style_by, style_in};
 pub use values::Winning;

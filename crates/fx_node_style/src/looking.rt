@@ -5,6 +5,7 @@ ghost use Rattle.fx_node_style.specs.Kinds.{color_in, colors_in, layers_in, leng
 ghost use Rattle.fx_node_style.specs.Looking.{joined, layers_of, lengths_of, look_of, rows_of, spaces_of, truths_of};
 ghost use Rattle.fx_node_style.specs.Values.{WinsBy};
 
+use crate::rooms::LayersRoom;
 use crate::values::row_value;
 use crate::{kinds, paints};
 use fx_base::{Color, List, Sides};
@@ -74,7 +75,7 @@ impl Rows<'_> {
 
     fn layers(
         self,
-        alloc: Global,
+        room: Vec<Sides>,
         row: usize,
         unset: Sides,
         parent: &List<Sides>,
@@ -84,7 +85,7 @@ impl Rows<'_> {
         ensures { IfOk result (λ layers. layers ≡ layers_in (rows_of self.entry row) unset parent.now) }
     {
         kinds::layers_in(
-            alloc,
+            room,
             row_value(self.sheets, self.matched, self.codes, self.winners, row),
             unset,
             parent,
@@ -118,6 +119,7 @@ impl<'a> Rows<'a> {
     fn colors(
         self,
         alloc: Global,
+        room: Vec<Color>,
         row: usize,
         chain: &[&'a [NamedPaint]],
         parent: &List<Color>,
@@ -129,6 +131,7 @@ impl<'a> Rows<'a> {
     {
         paints::colors_in(
             alloc,
+            room,
             row_value(self.sheets, self.matched, self.codes, self.winners, row),
             chain,
             parent,
@@ -242,6 +245,7 @@ impl Rows<'_> {
 #[tactic(auto, unfolding(fx_look::specs::Styles::styles))]
 fn layers_of<'a>(
     alloc: Global,
+    room: LayersRoom,
     rows: Rows<'a>,
     chain: &[&'a [NamedPaint]],
     parent: &Look,
@@ -253,30 +257,32 @@ fn layers_of<'a>(
     Ok(Layers {
         background_color: rows.colors(
             alloc,
+            room.background_color,
             StyleKey::BackgroundColor as usize,
             chain,
             &parent.background_color,
         )?,
         background_insets: rows.layers(
-            alloc,
+            room.background_insets,
             StyleKey::BackgroundInsets as usize,
             ZERO,
             &parent.background_insets,
         )?,
         border_color: rows.colors(
             alloc,
+            room.border_color,
             StyleKey::BorderColor as usize,
             chain,
             &parent.border_color,
         )?,
         border_width: rows.layers(
-            alloc,
+            room.border_width,
             StyleKey::BorderWidth as usize,
             ONE,
             &parent.border_width,
         )?,
         border_insets: rows.layers(
-            alloc,
+            room.border_insets,
             StyleKey::BorderInsets as usize,
             ZERO,
             &parent.border_insets,
@@ -291,10 +297,11 @@ fn layers_of<'a>(
     })
 }
 
-/// The look of a node by its rows, its paints and its ancestors', and its parent's look.
+/// The look of a node by its rows, its paints and its ancestors', and its parent's look, in the room of another.
 #[tactic(auto, unfolding(crate::specs::Looking::look_of, fx_look::specs::Styles::styles))]
 pub fn look_of<'a>(
     alloc: Global,
+    room: LayersRoom,
     rows: Rows<'a>,
     chain: &[&'a [NamedPaint]],
     alignment: u8,
@@ -304,7 +311,7 @@ pub fn look_of<'a>(
     ensures { IfOk result (λ look. look ≡ look_of (rows_of rows.entry) (resolved (map
         (λ n. n.now) chain.now)) alignment parent.now) }
 {
-    let layers = layers_of(alloc, rows, chain, parent)?;
+    let layers = layers_of(alloc, room, rows, chain, parent)?;
     let padding = rows.sides(StyleKey::Padding as usize, ZERO, parent.padding);
     let alignment = rows.place(StyleKey::Alignment as usize, alignment, parent.alignment);
     Ok(joined(

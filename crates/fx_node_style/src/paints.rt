@@ -1,5 +1,5 @@
 //! Paints, some of which are looked up.
-ghost use Rattle.std.specs.Prelude.{◌≡◌, Some, IfOk, map};
+ghost use Rattle.std.specs.Prelude.{◌≡◌, [], Some, IfOk, map};
 ghost use Rattle.std.specs.Option.{option_map};
 ghost use Rattle.fx_lookup.specs.Lookups.{resolved};
 ghost use Rattle.fx_css_types.specs.declared.declarations.FoundValue.TheVariants as found;
@@ -84,9 +84,10 @@ fn declared_color<'a>(
     }
 }
 
-/// The colours of layers of paints; a layer whose name gives no colour is transparent.
+/// The colours of layers of paints, in the room of other ones; a layer whose name gives no colour is transparent.
 pub fn colors_in<'a>(
     alloc: Global,
+    room: Vec<Color>,
     found: Option<Winning<'a>>,
     chain: &[&'a [NamedPaint]],
     parent: &List<Color>,
@@ -95,13 +96,14 @@ pub fn colors_in<'a>(
         ≡ colors_in (resolved (map (λ n. n.now) chain.now)) (option_map found_value found.entry) parent.now) }
 {
     match found {
-        Some(Winning::Declared(declared)) => declared_colors(alloc, declared, chain, parent),
-        _ => Ok(List::new(alloc)),
+        Some(Winning::Declared(declared)) => declared_colors(alloc, room, declared, chain, parent),
+        _ => Ok(emptied(room)),
     }
 }
 
 fn declared_colors<'a>(
     alloc: Global,
+    room: Vec<Color>,
     declared: &'a Declared,
     chain: &[&'a [NamedPaint]],
     parent: &List<Color>,
@@ -110,20 +112,41 @@ fn declared_colors<'a>(
         ≡ colors_in (resolved (map (λ n. n.now) chain.now)) (Some (found.Declared declared.now)) parent.now) }
 {
     match declared {
-        Declared::Paints(paints) => layers(alloc, paints.as_slice(), chain),
-        Declared::Inherit => Ok(List::from_vec(Vec::from_slice(alloc, parent.as_slice())?)),
-        _ => Ok(List::new(alloc)),
+        Declared::Paints(paints) => layers(alloc, room, paints.as_slice(), chain),
+        Declared::Inherit => filled(room, parent.as_slice()),
+        _ => Ok(emptied(room)),
     }
+}
+
+fn emptied(room: Vec<Color>) -> List<Color>
+    ensures { result ≡ [] }
+{
+    let mut list = room;
+    list.clear();
+    List::from_vec(list)
+}
+
+fn filled(room: Vec<Color>, colors: &[Color]) -> Result<List<Color>, AllocError>
+    ensures { IfOk result (λ list. list ≡ colors.now) }
+{
+    let mut list = room;
+    list.clear();
+    list.reserve_exact(colors.len())?;
+    list.extend_from_slice(colors)?;
+    Ok(List::from_vec(list))
 }
 
 fn layers<'a>(
     alloc: Global,
+    room: Vec<Color>,
     paints: &'a [Paint],
     chain: &[&'a [NamedPaint]],
 ) -> Result<List<Color>, AllocError>
     ensures { IfOk result (λ colors. colors ≡ colors_of (resolved (map (λ n. n.now) chain.now)) paints.now) }
 {
-    let mut colors = Vec::with_capacity(alloc, paints.len())?;
+    let mut colors = room;
+    colors.clear();
+    colors.reserve_exact(paints.len())?;
     for paint in paints {
         colors.push(color_or(alloc, paint, chain, TRANSPARENT)?)?;
     }

@@ -13,8 +13,9 @@ ghost use Rattle.fx_node_style.specs.Values.{WinsBy, row_value};
 use crate::keeping::kept_paints;
 use crate::looking::{Rows, look_of};
 use crate::node_styles::NodeStyle;
+use crate::rooms::{LayersRoom, Room};
 use fx_base::{Ledgers, List, Work};
-use fx_cascade::{Winners, style_node};
+use fx_cascade::Winners;
 use fx_css_types::{Candidate, SheetAt};
 use fx_look::{CodeValue, Look};
 use fx_lookup::NamedPaint;
@@ -33,7 +34,6 @@ pub struct Ground<'a> {
 }
 
 /// The style of a node. Counts one styled node.
-#[tactic(auto, unfolding(crate::specs::Styling::style_under))]
 pub fn style_by<L: Ledgers>(
     alloc: Global,
     ground: Ground<'_>,
@@ -46,12 +46,35 @@ pub fn style_by<L: Ledgers>(
         (option_copied ground.entry.parent) (map (λ n. n.now) ground.entry.above.now)) }
     ensures cost { work.new ≡ record work.old { styled = work.old.styled + 1 } }
 {
-    let winners = style_node(alloc, ground.sheets, ground.matched, ground.codes, work)?;
-    styled_by(alloc, ground, &winners)
+    style_in(alloc, Room::new(alloc), ground, work)
+}
+
+/// The style of a node, in the room of another. Counts one styled node.
+pub fn style_in<L: Ledgers>(
+    alloc: Global,
+    room: Room,
+    ground: Ground<'_>,
+    work: &mut Work<L>,
+) -> Result<NodeStyle, AllocError>
+    requires rows { AreRows ground.codes.now }
+    requires sheets { AreWithinLimits ground.sheets.now }
+    ensures style { IfOk result (λ style. style
+        ≡ style_under ground.entry.sheets.now ground.entry.matched.now ground.entry.codes.now ground.entry.alignment
+        (option_copied ground.entry.parent) (map (λ n. n.now) ground.entry.above.now)) }
+    ensures cost { work.new ≡ record work.old { styled = work.old.styled + 1 } }
+{
+    let mut winners = Winners::new(alloc);
+    winners.find(alloc, ground.sheets, ground.matched, ground.codes, work)?;
+    styled_by(alloc, room, ground, &winners)
 }
 
 #[tactic(auto, unfolding(crate::specs::Styling::style_under))]
-fn styled_by(alloc: Global, ground: Ground<'_>, winners: &Winners) -> Result<NodeStyle, AllocError>
+fn styled_by(
+    alloc: Global,
+    room: Room,
+    ground: Ground<'_>,
+    winners: &Winners,
+) -> Result<NodeStyle, AllocError>
     requires wins { WinsBy winners.now ground.sheets.now ground.matched.now ground.codes.now }
     requires sheets { AreWithinLimits ground.sheets.now }
     ensures { IfOk result (λ style. style
@@ -64,8 +87,9 @@ fn styled_by(alloc: Global, ground: Ground<'_>, winners: &Winners) -> Result<Nod
         codes: ground.codes,
         winners,
     };
-    let paints = kept_paints(alloc, rows)?;
-    let look = look_by(alloc, rows, ground, paints.as_slice())?;
+    let Room { layers, paints } = room;
+    let paints = kept_paints(alloc, paints, rows)?;
+    let look = look_by(alloc, layers, rows, ground, paints.as_slice())?;
     Ok(NodeStyle {
         look,
         paints: List::from_vec(paints),
@@ -74,6 +98,7 @@ fn styled_by(alloc: Global, ground: Ground<'_>, winners: &Winners) -> Result<Nod
 
 fn look_by<'a>(
     alloc: Global,
+    room: LayersRoom,
     rows: Rows<'a>,
     ground: Ground<'a>,
     paints: &'a [NamedPaint],
@@ -83,18 +108,32 @@ fn look_by<'a>(
         (resolved (paints.now ∷ map (λ n. n.now) ground.entry.above.now)) ground.entry.alignment
         (inherited ground.entry.alignment (option_copied ground.entry.parent))) }
 {
-    let chain = chain_of(alloc, paints, ground.above)?;
-    look_under(
-        alloc,
-        rows,
-        chain.as_slice(),
-        ground.alignment,
-        ground.parent,
-    )
+    match paints {
+        [] => look_under(
+            alloc,
+            room,
+            rows,
+            ground.above,
+            ground.alignment,
+            ground.parent,
+        ),
+        [_, ..] => {
+            let chain = chain_of(alloc, paints, ground.above)?;
+            look_under(
+                alloc,
+                room,
+                rows,
+                chain.as_slice(),
+                ground.alignment,
+                ground.parent,
+            )
+        }
+    }
 }
 
 fn look_under<'a>(
     alloc: Global,
+    room: LayersRoom,
     rows: Rows<'a>,
     chain: &[&'a [NamedPaint]],
     alignment: u8,
@@ -105,10 +144,10 @@ fn look_under<'a>(
         (inherited alignment (option_copied parent.entry))) }
 {
     match parent {
-        Some(parent) => look_of(alloc, rows, chain, alignment, parent),
+        Some(parent) => look_of(alloc, room, rows, chain, alignment, parent),
         None => {
             let initial = Look::initial(alloc, alignment)?;
-            look_of(alloc, rows, chain, alignment, &initial)
+            look_of(alloc, room, rows, chain, alignment, &initial)
         }
     }
 }

@@ -18,6 +18,7 @@ pub enum Winning<'a> {
 }
 
 /// The value that wins a row.
+#[inline(always)]
 #[tactic(auto, unfolding(crate::specs::Values::row_value))]
 pub fn row_value<'a>(
     sheets: &'a [SheetAt],
@@ -34,6 +35,7 @@ pub fn row_value<'a>(
     value_of(sheets, matched, codes, row, source)
 }
 
+#[inline(always)]
 fn row_source(
     _sheets: &[SheetAt],
     _matched: &[Candidate],
@@ -48,6 +50,7 @@ fn row_source(
     winners.row(row)
 }
 
+#[inline(never)]
 fn value_of<'a>(
     sheets: &'a [SheetAt],
     matched: &[Candidate],

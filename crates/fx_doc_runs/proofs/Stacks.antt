@@ -1,6 +1,6 @@
 -- The innermost open name, and one more attribute in a tag.
 -- Below the answers on heads and end tags.
-use Rattle.std.proofs.Common.{◌≡◌, ℕ, ◌+◌, ◌-◌, ◌<◌, ◌≤◌, List, [], ◌∷◌, ◌++◌, zero, suc, map, length, drop, get_or, refl, sym, ◌∙◌, ap, subst, add-one, drop-cons, arith, Bool, true, false, ◌&&◌, Option, Some, None}
+use Rattle.std.proofs.Common.{◌≡◌, ℕ, ◌+◌, ◌-◌, ◌<◌, ◌≤◌, List, [], ◌∷◌, ◌++◌, zero, suc, map, length, drop, get_or, refl, sym, ◌∙◌, ap, add-one, drop-cons, arith}
 use Rattle.fx_base.specs.declared.positions.Position.{Position}
 use Rattle.fx_doc_grammar.specs.Grammar.{Attr, Head as HeadView}
 use Rattle.fx_doc_grammar.specs.Machine.{Stack, Bottom, Opened, stack_depth}

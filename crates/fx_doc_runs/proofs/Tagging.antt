@@ -1,13 +1,13 @@
 -- Tags: the name behind a `<`, and the end of a tag, as the reader takes them.
 -- Above the lemmas on runs; the reader's answers cite these.
-use Rattle.std.proofs.Common.{◌≡◌, ℕ, ◌+◌, ◌≤◌, ◌<◌, Bool, true, false, ◌&&◌, ◌==◌, List, [], ◌∷◌, ◌++◌, suc, drop, Some, length, refl, sym, ◌∙◌, ap, subst, append_assoc, append-nil, length-append, arith}
-use lib.Dec.{eqb, leb, ltb}
+use Rattle.std.proofs.Common.{◌≡◌, ℕ, ◌+◌, ◌≤◌, Bool, true, false, ◌&&◌, ◌==◌, List, [], ◌∷◌, ◌++◌, drop, Some, length, refl, sym, ◌∙◌, ap, subst, append_assoc, append-nil, length-append, arith}
+use lib.Dec.{leb, ltb}
 use Rattle.std.specs.List.{list_all}
 use Rattle.fx_base.specs.Positions.{after}
 use Rattle.fx_base.specs.declared.positions.Position.{Position}
 use Rattle.fx_doc_grammar.specs.Characters.{class_of, in_name, starts_name}
 use Rattle.fx_doc_grammar.specs.Grammar.{Head as HeadView}
-use Rattle.fx_doc_grammar.specs.Machine.{State, Held as HeldView, Stack, Inside, Opening, Naming, Spaced, Tight, Slashed, Ending, at, step, is_long, level_long, stack_depth, may_begin, with_leaf, open_element, in_opening, in_naming, in_ending, some_if}
+use Rattle.fx_doc_grammar.specs.Machine.{State, Held as HeldView, Inside, Opening, Naming, Spaced, Tight, Slashed, Ending, at, step, level_long, stack_depth, may_begin, with_leaf, open_element, in_opening, in_naming, in_ending}
 use Rattle.fx_doc_grammar.specs.declared.Class.{Class}
 use Rattle.fx_doc_grammar.specs.declared.Class.TheVariants.{Letter, Digit, Dash}
 use Rattle.fx_doc_grammar.proofs.Marks.{as_state}
@@ -21,7 +21,7 @@ use Rattle.fx_doc_runs.specs.declared.modes.Mode.{Mode}
 use Rattle.fx_doc_runs.specs.declared.modes.Mode.TheVariants as v
 use Rattle.fx_doc_runs.specs.declared.modes.Reader.{Reader}
 use Rattle.fx_doc_runs.proofs.Calm.{one_calm, short_or, if_fresh}
-use Rattle.fx_doc_runs.proofs.Flowing.{gap_class, gap_all_flat, flat_append, spaced_calm}
+use Rattle.fx_doc_runs.proofs.Flowing.{gap_class, gap_all_flat, spaced_calm}
 use Rattle.fx_doc_runs.proofs.Whole.{all_flat, named_flat}
 use Rattle.fx_doc_runs.proofs.Shorts.{not_past, level_short}
 use Rattle.fx_doc_runs.proofs.Stacks.{byte_none}

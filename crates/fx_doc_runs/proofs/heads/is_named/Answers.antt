@@ -1,5 +1,4 @@
-use Rattle.std.proofs.Common.{sym, ◌∙◌}
-use Rattle.std.specs.String.{string_bytes}
+use Rattle.std.proofs.Common.{sym}
 use Rattle.fx_doc_runs.proofs.Names.{fresh_more, fresh_found, fresh_none, so, so_not}
 use Rattle.fx_doc_runs.proofs.heads.is_named.Goals as goal
 

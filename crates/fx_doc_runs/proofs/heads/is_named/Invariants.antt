@@ -1,5 +1,4 @@
 use Rattle.std.proofs.Common.{◌≡◌, false}
-use Rattle.std.specs.String.{string_bytes}
 use Rattle.fx_doc_grammar.specs.Grammar.{is_among}
 use Rattle.fx_doc_runs.proofs.Names.{names_to}
 use Rattle.fx_doc_runs.proofs.heads.is_named.Given as goal

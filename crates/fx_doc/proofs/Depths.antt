@@ -3,30 +3,13 @@
 use Rattle.std.proofs.Common.{◌≡◌, ℕ, ◌+◌, ◌<◌, ◌≤◌, [], ◌∷◌, suc, length, refl, sym, ◌∙◌, ap, subst, arith, Bool, true, false, ◌&&◌, Option, Some, None, List}
 use lib.Dec.{leb}
 use Rattle.fx_base.specs.declared.positions.Position.{Position}
-use Rattle.fx_doc_grammar.specs.Machine.{Stack, Bottom, Opened, stack_depth, is_deep, is_naming, State, is_long}
+use Rattle.fx_doc_grammar.specs.Machine.{is_deep, is_naming, State, is_long}
 use Rattle.fx_doc_drafts.specs.declared.drafts.Word.{Word}
-use Rattle.fx_doc_runs.specs.Views.{view, mode_view, IsDeepAt, IsDeepMode, IsLongStep, head_view, level_view, stack_from, stack_view}
+use Rattle.fx_doc_runs.specs.Views.{view, mode_view, IsDeepAt, IsDeepMode, IsLongStep, stack_view}
 use Rattle.fx_doc_runs.specs.declared.modes.Mode.{Mode}
 use Rattle.fx_doc_runs.specs.declared.modes.Mode.TheVariants as v
-use Rattle.fx_doc_runs.specs.declared.modes.Open.{Open}
 use Rattle.fx_doc_runs.specs.declared.modes.Reader.{Reader}
-
-depth_from : (s : Stack) (os : List Open) → stack_depth (stack_from s os) ≡ stack_depth s + length os
-depth_from s [] = none_more (stack_depth s)
-  where
-    none_more : (n : ℕ) → n ≡ n + 0
-    none_more n = omega arith
-depth_from s (x ∷ os) =
-    let h : stack_depth (stack_from (Opened s (level_view x.before) (head_view x.head)) os) ≡ suc (stack_depth s) + length os = depth_from (Opened s (level_view x.before) (head_view x.head)) os in
-    h ∙ moved (stack_depth s) (length os)
-  where
-    moved : (n m : ℕ) → suc n + m ≡ n + suc m
-    moved n m = omega arith
-
-depth_is : (os : List Open) (n : ℕ) → n ≡ length os → stack_depth (stack_view os) ≡ n
-depth_is os n e =
-    let h : stack_depth (stack_view os) ≡ 0 + length os = depth_from Bottom os in
-    omega arith
+use Rattle.fx_doc_runs.proofs.Stacks.{depth_is}
 
 pub deep_view : (r : Reader) (n : ℕ) (p : Position) (w : Word) → r.mode ≡ v.Naming p w → n ≡ length r.held.stack.items → 128 ≤ n → IsDeepAt (view r) p
 deep_view r n p w e g h = (subst (λ (y : Mode). IsDeepMode (mode_view (stack_view r.held.stack.items) y) p) (sym e) refl, subst (λ y. 128 ≤ y) (sym (depth_is r.held.stack.items n g)) h)

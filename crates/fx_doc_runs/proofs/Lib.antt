@@ -9,3 +9,4 @@ pub mod Flowing
 pub mod Whole
 pub mod Carried
 pub mod Keying
+pub mod Tagging

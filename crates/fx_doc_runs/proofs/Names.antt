@@ -1,6 +1,6 @@
 -- Names that are the same: the grammar's test, and those of code.
 -- Below the answers on imports and attributes.
-use Rattle.std.proofs.Common.{◌≡◌, Bool, true, false, cond, ◌&&◌, ◌||◌, List, [], ◌∷◌, ◌++◌, map, refl, sym, ◌∙◌, ap, arith, zero, drop-cons, add-one, ◌≤◌, IsTrue, ◌↔◌, not, ℕ, ◌+◌, ◌<◌, suc, length, take, drop, get_or}
+use Rattle.std.proofs.Common.{if◌then◌else◌, ◌≡◌, Bool, true, false, cond, ◌&&◌, ◌||◌, List, [], ◌∷◌, ◌++◌, map, refl, sym, ◌∙◌, ap, arith, zero, drop-cons, add-one, ◌≤◌, IsTrue, ◌↔◌, not, ℕ, ◌+◌, ◌<◌, suc, length, take, drop, get_or}
 use lib.Dec.{eqb, leb}
 use lib.Pointwise.{pointwise}
 use Rattle.std.proofs.Math.Seq.{take-suc}
@@ -150,3 +150,11 @@ later_push xs ys a k e f = by (leb 8 (length xs)) refl
     by : (b : Bool) → leb 8 (length xs) ≡ b → cond b (map (λ (x : Attribute). x.name) (drop 8 xs) ++ (k ∷ [])) (map (λ (x : Attribute). x.name) (drop 8 xs)) ≡ map (λ (x : Attribute). x.name) (drop 8 ys)
     by true g = ap (λ z. map (λ (x : Attribute). x.name) (drop 8 xs) ++ (z ∷ [])) (sym f) ∙ (sym (map_append (drop 8 xs) (a ∷ [])) ∙ ap (map (λ (x : Attribute). x.name)) (sym (ap (drop 8) e ∙ (drop_push 8 xs a ∙ ap (λ z. cond z (drop 8 xs ++ (a ∷ [])) (drop 8 xs)) g))))
     by false g = ap (map (λ (x : Attribute). x.name)) (sym (ap (drop 8) e ∙ (drop_push 8 xs a ∙ ap (λ z. cond z (drop 8 xs ++ (a ∷ [])) (drop 8 xs)) g)))
+
+-- one of the first eight more, or none
+pub later_kept : (b : Bool) (xs ys : List Attribute) (a : Attribute) → ys ≡ (if b then xs ++ (a ∷ []) else xs) → length xs < 8 → map (λ (x : Attribute). x.name) (drop 8 xs) ≡ map (λ (x : Attribute). x.name) (drop 8 ys)
+later_kept true xs ys a e h = ap (λ b. cond b (map (λ (x : Attribute). x.name) (drop 8 xs) ++ (a.name ∷ [])) (map (λ (x : Attribute). x.name) (drop 8 xs))) (sym (few (length xs) h)) ∙ later_push xs ys a a.name e refl
+  where
+    few : (n : ℕ) → n < 8 → leb 8 n ≡ false
+    few n h = grind arith
+later_kept false xs ys a e h = ap (λ (y : List Attribute). map (λ (x : Attribute). x.name) (drop 8 y)) (sym e)

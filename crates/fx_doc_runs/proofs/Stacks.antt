@@ -1,9 +1,9 @@
 -- The innermost open name, and one more attribute in a tag.
 -- Below the answers on heads and end tags.
-use Rattle.std.proofs.Common.{◌≡◌, ℕ, ◌+◌, ◌-◌, ◌<◌, ◌≤◌, List, [], ◌∷◌, ◌++◌, zero, suc, map, length, drop, get_or, refl, sym, ◌∙◌, ap, subst, add-one, drop-cons, arith, Bool, true, false, ◌&&◌, Option, Some, None}
+use Rattle.std.proofs.Common.{◌≡◌, ℕ, ◌+◌, ◌-◌, ◌<◌, ◌≤◌, List, [], ◌∷◌, ◌++◌, zero, suc, map, length, drop, get_or, refl, sym, ◌∙◌, ap, add-one, drop-cons, arith}
 use Rattle.fx_base.specs.declared.positions.Position.{Position}
 use Rattle.fx_doc_grammar.specs.Grammar.{Attr, Head as HeadView}
-use Rattle.fx_doc_grammar.specs.Machine.{Stack, Bottom, Opened}
+use Rattle.fx_doc_grammar.specs.Machine.{Stack, Bottom, Opened, stack_depth}
 use Rattle.fx_doc_runs.specs.Views.{attr_view, head_view, level_view, stack_from, stack_view, open_name}
 use Rattle.fx_doc_runs.specs.declared.document.Attribute.{Attribute}
 use Rattle.fx_doc_runs.specs.declared.modes.Open.{Open}
@@ -40,3 +40,20 @@ drop_all (b ∷ bs) (suc i) h = drop_all bs i (let g : suc (length bs) ≤ suc i
 
 pub byte_none : (n bs : List ℕ) (i : ℕ) → n ≡ bs → length bs ≤ i → drop i n ≡ []
 byte_none n bs i e h = ap (drop i) e ∙ drop_all bs i h
+
+depth_from : (s : Stack) (os : List Open) → stack_depth (stack_from s os) ≡ stack_depth s + length os
+depth_from s [] = none_more (stack_depth s)
+  where
+    none_more : (n : ℕ) → n ≡ n + 0
+    none_more n = omega arith
+depth_from s (x ∷ os) =
+    let h : stack_depth (stack_from (Opened s (level_view x.before) (head_view x.head)) os) ≡ suc (stack_depth s) + length os = depth_from (Opened s (level_view x.before) (head_view x.head)) os in
+    h ∙ moved (stack_depth s) (length os)
+  where
+    moved : (n m : ℕ) → suc n + m ≡ n + suc m
+    moved n m = omega arith
+
+pub depth_is : (os : List Open) (n : ℕ) → n ≡ length os → stack_depth (stack_view os) ≡ n
+depth_is os n e =
+    let h : stack_depth (stack_view os) ≡ 0 + length os = depth_from Bottom os in
+    omega arith

@@ -1,5 +1,5 @@
-//! What stands ahead of the reader, taken whole: text, the inside of a comment or of an instruction, a value, an attribute.
-//! Every other character, and every fault, is left to the reader's steps.
+//! What stands ahead of the reader, taken whole: a text, a value, an attribute, a name, the end of a tag, or the inside
+//! of a comment or of an instruction. Every other character, and every fault, is left to the reader's steps.
 ghost use Rattle.std.specs.Prelude.{◌≡◌, ◌+◌, ◌<◌, ◌^◌, length, IfOk, IfErr};
 ghost use Rattle.fx_doc_runs.specs.Reached.{TookFlat};
 ghost use Rattle.fx_doc_runs.specs.Views.{view};
@@ -8,10 +8,11 @@ ghost use Rattle.fx_doc_runs.specs.declared.modes.Mode.TheVariants as kind;
 ghost use Rattle.fx_base.specs.declared.positions.Position.{Position};
 
 use crate::document::DocError;
-use crate::modes::{Mode, Reader};
+use crate::keys::name_ahead;
+use crate::modes::{Head, Mode, Reader};
 use crate::runs::{along, gap_ahead, run_ahead};
 use fx_base::{Position, Text};
-use fx_doc_drafts::{Word, attribute_ahead};
+use fx_doc_drafts::{attribute_ahead, behind_byte};
 use std::alloc::Global;
 use std::mem;
 
@@ -29,6 +30,8 @@ impl Reader {
     {
         match &self.mode {
             Mode::Inside => self.take_text(position, rest),
+            Mode::Opening(_) => self.take_name(alloc, rest),
+            Mode::Ending(_) => self.take_end_name(rest),
             Mode::Commented => {
                 let (_, left) = run_ahead(rest, b'-', b'-', rest.len());
                 Ok(left)
@@ -100,30 +103,123 @@ impl Reader {
         ensures took { IfOk result (λ left. TookFlat rest.now position (view self.old) left.now (view self.new)) }
         ensures memory { IfErr result (λ e. e ≡ fault.Memory) }
     {
+        let (gap, left) = gap_ahead(rest);
+        if gap.is_empty() {
+            return self.take_tag_end(alloc, rest);
+        }
         let Mode::Tight(head) = &mut self.mode else {
             return Ok(rest);
         };
-        let (gap, left) = gap_ahead(rest);
-        if gap.is_empty() {
-            return Ok(rest);
-        }
         let Some(ahead) = attribute_ahead(left) else {
             return Ok(rest);
         };
-        let Ok(key) = Word::of_text(alloc, ahead.name) else {
+        let Ok(new) = head.is_new(alloc, ahead.name) else {
             return Err(DocError::Memory);
         };
-        if !head.is_fresh(&key) {
+        if !new {
             return Ok(rest);
         }
-        // The value is short, so nothing but memory can be wanting.
-        let Ok(value) = Text::from_str(alloc, ahead.value) else {
-            return Err(DocError::Memory);
-        };
-        match head.add(alloc, along(position, gap.len()), key, value) {
+        match head.add(alloc, along(position, gap.len()), ahead.name, ahead.value) {
             Ok(()) => Ok(ahead.behind),
             Err(_) => Err(DocError::Memory),
         }
+    }
+
+    /// Takes the end of a tag that stands right behind a value.
+    fn take_tag_end<'a>(&mut self, alloc: Global, rest: &'a str) -> Result<&'a str, DocError>
+        ensures took { (p : Position) → IfOk result (λ left. TookFlat rest.now p (view self.old) left.now
+            (view self.new)) }
+        ensures memory { IfErr result (λ e. e ≡ fault.Memory) }
+    {
+        let Mode::Tight(_) = &self.mode else {
+            return Ok(rest);
+        };
+        let Some(one) = behind_byte(rest, b'/') else {
+            return self.take_tag_open(alloc, rest);
+        };
+        let Some(behind) = behind_byte(one, b'>') else {
+            return Ok(rest);
+        };
+        let Mode::Tight(head) = mem::replace(&mut self.mode, Mode::Inside) else {
+            unreachable!()
+        };
+        match self.held.add_leaf(alloc, head) {
+            Ok(()) => Ok(behind),
+            Err(_) => Err(DocError::Memory),
+        }
+    }
+
+    /// Takes the `>` behind which the content of an element begins.
+    fn take_tag_open<'a>(&mut self, alloc: Global, rest: &'a str) -> Result<&'a str, DocError>
+        ensures took { (p : Position) → IfOk result (λ left. TookFlat rest.now p (view self.old) left.now
+            (view self.new)) }
+        ensures memory { IfErr result (λ e. e ≡ fault.Memory) }
+    {
+        let Mode::Tight(_) = &self.mode else {
+            return Ok(rest);
+        };
+        let Some(behind) = behind_byte(rest, b'>') else {
+            return Ok(rest);
+        };
+        let Mode::Tight(head) = mem::replace(&mut self.mode, Mode::Inside) else {
+            unreachable!()
+        };
+        match self.held.open(alloc, head) {
+            Ok(()) => Ok(behind),
+            Err(_) => Err(DocError::Memory),
+        }
+    }
+
+    /// Takes the name of an element that begins, and white behind it.
+    fn take_name<'a>(&mut self, alloc: Global, rest: &'a str) -> Result<&'a str, DocError>
+        ensures took { (p : Position) → IfOk result (λ left. TookFlat rest.now p (view self.old) left.now
+            (view self.new)) }
+        ensures memory { IfErr result (λ e. e ≡ fault.Memory) }
+    {
+        let Mode::Opening(at) = &self.mode else {
+            return Ok(rest);
+        };
+        let at = *at;
+        if !self.held.has_depth() {
+            return Ok(rest);
+        }
+        if !self.held.may_begin() {
+            return Ok(rest);
+        }
+        let Some((name, behind)) = name_ahead(rest) else {
+            return Ok(rest);
+        };
+        let (gap, left) = gap_ahead(behind);
+        if gap.is_empty() {
+            return Ok(rest);
+        }
+        let Ok(name) = Text::from_str(alloc, name) else {
+            return Err(DocError::Memory);
+        };
+        self.mode = Mode::Spaced(Head::named(alloc, at, name));
+        Ok(left)
+    }
+
+    /// Takes the name of an end tag.
+    fn take_end_name<'a>(&mut self, rest: &'a str) -> Result<&'a str, DocError>
+        ensures took { (p : Position) → IfOk result (λ left. TookFlat rest.now p (view self.old) left.now
+            (view self.new)) }
+        ensures memory { IfErr result (λ e. e ≡ fault.Memory) }
+    {
+        let Mode::Ending(at) = &self.mode else {
+            return Ok(rest);
+        };
+        if *at != 0 {
+            return Ok(rest);
+        }
+        let Some((name, behind)) = name_ahead(rest) else {
+            return Ok(rest);
+        };
+        if !self.held.is_open_name(name) {
+            return Ok(rest);
+        }
+        self.mode = Mode::Ending(name.len());
+        Ok(behind)
     }
 
     /// Takes the attribute that stands ahead, if it is written as most are, and gives the text behind it.
@@ -142,20 +238,16 @@ impl Reader {
         let Some(ahead) = attribute_ahead(rest) else {
             return self.take_key(alloc, position, rest);
         };
-        let Ok(key) = Word::of_text(alloc, ahead.name) else {
+        let Ok(new) = head.is_new(alloc, ahead.name) else {
             return Err(DocError::Memory);
         };
-        if !head.is_fresh(&key) {
+        if !new {
             return Ok(rest);
         }
-        // The value is short, so nothing but memory can be wanting.
-        let Ok(value) = Text::from_str(alloc, ahead.value) else {
-            return Err(DocError::Memory);
-        };
-        let Mode::Spaced(head) = mem::replace(&mut self.mode, Mode::Ended) else {
+        let Mode::Spaced(mut head) = mem::replace(&mut self.mode, Mode::Ended) else {
             unreachable!()
         };
-        let Ok(head) = head.with_attribute(alloc, position, key, value) else {
+        let Ok(()) = head.add(alloc, position, ahead.name, ahead.value) else {
             return Err(DocError::Memory);
         };
         self.mode = Mode::Tight(head);

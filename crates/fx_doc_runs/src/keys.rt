@@ -29,7 +29,7 @@ struct Key<'a> {
 }
 
 /// The name in front, and the text behind it.
-fn name_ahead(text: &str) -> Option<(&str, &str)>
+pub fn name_ahead(text: &str) -> Option<(&str, &str)>
     ensures { IfSome result (λ x. IsNameAhead text.now x.0.now x.1.now) }
 {
     let count = name_length(text.as_bytes());

@@ -1,10 +1,10 @@
 //! Steps on what the reader holds: a sign more in a run, an element that opens or ends.
 //! Each is a function of the machine in `fx_doc_grammar`, on the reader's own values, in place.
-ghost use Rattle.std.specs.Prelude.{◌≡◌, true, OnOk, IsErrOf};
+ghost use Rattle.std.specs.Prelude.{◌≡◌, true, nat_lt, OnOk, IsErrOf};
 ghost use Rattle.fx_doc_grammar.specs.Grammar.{fresh_level, one_sign, one_child, closed, first_shown};
 ghost use Rattle.fx_doc_grammar.specs.Characters.{class_of};
-ghost use Rattle.fx_doc_grammar.specs.Machine.{at, initial, Inside, open_element, close, with_sign, with_leaf, level_long, is_open, may_begin};
-ghost use Rattle.fx_doc_runs.specs.Views.{nodes_of, level_view, level_behind, head_view, stack_view, held_view, mode_view, Moves, view};
+ghost use Rattle.fx_doc_grammar.specs.Machine.{at, initial, Inside, open_element, close, with_sign, with_leaf, level_long, is_open, may_begin, stack_depth};
+ghost use Rattle.fx_doc_runs.specs.Views.{nodes_of, level_view, level_behind, head_view, stack_view, held_view, mode_view, open_name, Moves, view};
 
 use crate::document::{Content, Element};
 use crate::modes::{Head, Held, Level, Mode, Open, Reader};
@@ -21,6 +21,9 @@ pub fn goes(held: &Held, mode: Mode) -> Result<Option<Mode>, Halt>
     let _held = held;
     Ok(Some(mode))
 }
+
+/// The greatest number of elements that may be open where one begins.
+const DEPTH_LIMIT: usize = 128;
 
 impl Level {
     pub fn new(alloc: Global) -> Level
@@ -111,6 +114,23 @@ impl Held {
         ensures { result ≡ is_open (stack_view self.now.stack.items) }
     {
         !self.stack.is_empty()
+    }
+
+    /// Are fewer elements open than may be where one begins?
+    pub fn has_depth(&self) -> bool
+        ensures { result ≡ nat_lt (stack_depth (stack_view self.now.stack.items)) 128 }
+    {
+        self.stack.len() < DEPTH_LIMIT
+    }
+
+    /// Is this the name of the innermost open element?
+    pub fn is_open_name(&self, name: &str) -> bool
+        ensures { result ≡ true → open_name (stack_view self.now.stack.items) ≡ name.now }
+    {
+        let Some(open) = self.stack.last() else {
+            return false;
+        };
+        open.head.name.equals(name)
     }
 
     /// May an element begin here: within another, or as the first?

@@ -1,14 +1,13 @@
-use Rattle.std.proofs.Common.{sym, ◌∙◌}
-use Rattle.std.specs.String.{string_bytes}
+use Rattle.std.proofs.Common.{sym}
 use Rattle.fx_doc_runs.proofs.Names.{fresh_more, fresh_found, fresh_none, so, so_not}
 use Rattle.fx_doc_runs.proofs.heads.is_named.Goals as goal
 
 pub returns-then-equals : goal.returns-then-equals
-returns-then-equals c = sym (fresh_found (string_bytes c.args.key.now.text) c.args.attributes.now c.loop-attribute.attribute-index c.attribute-item.result c.loop-attribute-test.true c.attribute-item.is (so c.equals.result c.equals.ensures c.if-equals.true ∙ c.as_str.ensures.value))
+returns-then-equals c = sym (fresh_found c.args.name.now c.args.attributes.now c.loop-attribute.attribute-index c.attribute-item.result c.loop-attribute-test.true c.attribute-item.is (so c.equals.result c.equals.ensures c.if-equals.true))
 
 pub loop-attribute-preserved : goal.loop-attribute-preserved
-loop-attribute-preserved c = fresh_more (string_bytes c.args.key.now.text) c.args.attributes.now c.loop-attribute.attribute-index c.attribute-item.result c.loop-attribute-test.true c.attribute-item.is c.loop-attribute.invariant
-    (λ e. so_not c.equals.result c.equals.ensures c.if-equals.false (e ∙ sym c.as_str.ensures.value))
+loop-attribute-preserved c = fresh_more c.args.name.now c.args.attributes.now c.loop-attribute.attribute-index c.attribute-item.result c.loop-attribute-test.true c.attribute-item.is c.loop-attribute.invariant
+    (λ e. so_not c.equals.result c.equals.ensures c.if-equals.false e)
 
 pub returns : goal.returns
-returns c = sym (fresh_none (string_bytes c.args.key.now.text) c.args.attributes.now c.loop-attribute.attribute-index c.loop-attribute-test.false c.loop-attribute.invariant)
+returns c = sym (fresh_none c.args.name.now c.args.attributes.now c.loop-attribute.attribute-index c.loop-attribute-test.false c.loop-attribute.invariant)

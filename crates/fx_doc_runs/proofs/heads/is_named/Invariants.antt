@@ -1,8 +1,7 @@
 use Rattle.std.proofs.Common.{◌≡◌, false}
-use Rattle.std.specs.String.{string_bytes}
 use Rattle.fx_doc_grammar.specs.Grammar.{is_among}
 use Rattle.fx_doc_runs.proofs.Names.{names_to}
 use Rattle.fx_doc_runs.proofs.heads.is_named.Given as goal
 
 abbrev pub invariant-loop-attribute : goal.invariant-loop-attribute
-invariant-loop-attribute l = is_among (string_bytes l.key.text) (names_to l.attributes l.attribute-index) ≡ false
+invariant-loop-attribute l = is_among l.name (names_to l.attributes l.attribute-index) ≡ false

@@ -46,9 +46,9 @@ step_taken place step before now (Err error) (Ok other) taken e = absurd e
 step_taken place step before now (Err error) (Err other) taken e = by_error place step before now error other taken e
 
 -- what is so of a step that was made is so of its task
-pub told_so : {A : Type 0} (place : Place) (answer : Answer) (result : Told) → IsTold place answer result → OnOk answer A
+pub told_so : (A : Type 0) (place : Place) (answer : Answer) (result : Told) → IsTold place answer result → OnOk answer A
     → OnOk result A
-told_so place (Ok done) (Ok other) told a = a
-told_so place (Ok done) (Err other) told a = tt
-told_so place (Err error) (Ok other) told a = absurd told
-told_so place (Err error) (Err other) told a = tt
+told_so A place (Ok done) (Ok other) says a = a
+told_so A place (Ok done) (Err other) says a = tt
+told_so A place (Err error) (Ok other) says a = absurd says
+told_so A place (Err error) (Err other) says a = tt

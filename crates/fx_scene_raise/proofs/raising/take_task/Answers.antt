@@ -17,4 +17,4 @@ returns-in-Step-clause-taken g c =
 
 pub returns-in-Step-clause-quiet : goal.returns-in-Step-clause-quiet
 returns-in-Step-clause-quiet g c = λ is.
-    told_so c.args.task.place c.take_step.result c.told.result c.told.ensures (c.take_step.ensures.quiet is)
+    told_so _ c.args.task.place c.take_step.result c.told.result c.told.ensures (c.take_step.ensures.quiet is)

@@ -22,7 +22,7 @@ pub record IsCounting (form : Form) (first now : Game) (all left : List Numbered
   pub notices : totals.notices ≤ length done * 2 ^ 64
   pub pixels : totals.pixels ≤ length done * 2 ^ 64
 
-pub begins : (form : Form) (first : Game) (all : List Numbered) → IsCounting form first first all all no_totals
+unfoldable pub begins : (form : Form) (first : Game) (all : List Numbered) → IsCounting form first first all all no_totals
 unfolding totals_of
 begins form first all = record {
   done = [];
@@ -36,7 +36,7 @@ begins form first all = record {
   pixels = omega arith;
 }
 
-pub goes_on : {form : Form} {first now next : Game} {all left : List Numbered} {totals : Totals} (line : Numbered) (told : Told)
+unfoldable pub goes_on : {form : Form} {first now next : Game} {all left : List Numbered} {totals : Totals} (line : Numbered) (told : Told)
     (more : Totals) → IsCounting form first now all (line ∷ left) totals → (cost : ℕ)
     → IsTold form line now next told cost → more ≡ told.totals → AreSmall more
     → IsCounting form first next all left (added totals more)

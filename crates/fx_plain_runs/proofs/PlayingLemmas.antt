@@ -35,7 +35,7 @@ unfolding texts_of
 no_texts warnings = sym (append-nil warnings)
 
 -- what was dropped of sheets is told
-pub begins : (form : Form) (warnings : List ℕ) (first : Game) (all : List Numbered) (old new : Option (List ℕ))
+unfoldable pub begins : (form : Form) (warnings : List ℕ) (first : Game) (all : List Numbered) (old new : Option (List ℕ))
     → new ≡ grown old warnings → IsPlaying form warnings first first all all old new
 begins form warnings first all old new told = record {
   done = [];
@@ -51,7 +51,7 @@ longer : (warnings : List ℕ) (tolds : List Told) (told : Told)
 longer warnings tolds told =
     append_assoc warnings (texts_of tolds) told.text ∙ ap (λ l. warnings ++ l) (sym (texts-snoc tolds told))
 
-pub goes_on : {form : Form} {warnings : List ℕ} {first now next : Game} {all left : List Numbered}
+unfoldable pub goes_on : {form : Form} {warnings : List ℕ} {first now next : Game} {all left : List Numbered}
     {old mid new : Option (List ℕ)} (line : Numbered) (told : Told)
     → IsPlaying form warnings first now all (line ∷ left) old mid → (cost : ℕ) → IsTold form line now next told cost
     → new ≡ grown mid told.text → IsPlaying form warnings first next all left old new

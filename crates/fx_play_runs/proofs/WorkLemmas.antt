@@ -25,30 +25,30 @@ use Rattle.fx_play_runs.proofs.LineLemmas.{next_line, nothing_left}
 
 -- where the work began: the game, what was seen, all lines, and the counters
 pub record Start : Type 0 where
-  game : Game
-  sight : Sight
-  lines : List Numbered
-  count : Counted
-  evaluated : ℕ
+  pub game : Game
+  pub sight : Sight
+  pub lines : List Numbered
+  pub count : Counted
+  pub evaluated : ℕ
 
 -- how far it has come
 pub record Point : Type 0 where
-  game : Game
-  sight : Sight
-  count : Counted
-  evaluated : ℕ
+  pub game : Game
+  pub sight : Sight
+  pub count : Counted
+  pub evaluated : ℕ
 
 -- some lines were played and written, these are left, and the work so far is of just what was told
 pub record GoesSo (form : Form) (warnings : List ℕ) (start : Start) (here : Point) (left : List Numbered)
     (old new : Option (List ℕ)) : Type 0 where
-  playing : IsPlaying form warnings start.game here.game start.lines left old new
-  working : IsWorking form start.game start.sight start.lines start.count start.evaluated here.game here.sight left
+  pub playing : IsPlaying form warnings start.game here.game start.lines left old new
+  pub working : IsWorking form start.game start.sight start.lines start.count start.evaluated here.game here.sight left
       playing.tolds here.count here.evaluated
 
 -- the same of lines that are counted
 pub record AddsSo (form : Form) (start : Start) (here : Point) (left : List Numbered) (totals : Totals) : Type 0 where
-  counting : IsCounting form start.game here.game start.lines left totals
-  working : IsWorking form start.game start.sight start.lines start.count start.evaluated here.game here.sight left
+  pub counting : IsCounting form start.game here.game start.lines left totals
+  pub working : IsWorking form start.game start.sight start.lines start.count start.evaluated here.game here.sight left
       counting.tolds here.count here.evaluated
 
 abbrev pub started : Start → Point
@@ -59,6 +59,7 @@ started start =
 pub all_to_do : (form : Form) (warnings : List ℕ) (start : Start) (lines : List Line) {left : List Line}
     {old new : Option (List ℕ)} → start.lines ≡ map line_view lines → left ≡ reverse lines → new ≡ grown old warnings
     → GoesSo form warnings start (started start) (map line_view (reverse left)) old new
+unfolding playing.begins
 all_to_do form warnings start lines {left} {old} {new} are turned told =
     let IsFirst : List Numbered → Type 0 = λ rest. GoesSo form warnings start (started start) rest old new in
     subst IsFirst (are ∙ ap (map line_view) (sym (ap reverse turned ∙ reverse-reverse lines)))
@@ -67,6 +68,18 @@ all_to_do form warnings start lines {left} {old} {new} are turned told =
       working = working.begun form start.game start.sight start.lines start.count start.evaluated;
     })
 
+one_next : {form : Form} {warnings : List ℕ} {start : Start} {here next : Point} {old mid new : Option (List ℕ)}
+    {left : List Numbered} (line : Numbered) → GoesSo form warnings start here (line ∷ left) old mid
+    → IsDoneWithin (IsLineWhole form line here.game next.game mid new) here.evaluated next.evaluated
+    → IsLineWork (is_pulse line.request) here.game next.game here.sight next.sight here.count next.count
+    → GoesSo form warnings start next left old new
+unfolding playing.goes_on
+one_next {form} {warnings} {start} {here} {next} {old} {mid} {new} {left} line so whole work = record {
+  playing = playing.goes_on line whole.done.told so.playing whole.cost whole.done.is whole.done.wrote;
+  working = working.goes_on line whole.done.told so.playing.tolds so.working
+      (record { cost = whole.cost; done = whole.done.is; few = whole.few }) work;
+}
+
 pub one_done : {form : Form} {warnings : List ℕ} {start : Start} {here next : Point} {old mid new : Option (List ℕ)}
     (left rest : List Line) (line : Line) → left ≡ rest ++ (line ∷ [])
     → GoesSo form warnings start here (map line_view (reverse left)) old mid
@@ -74,18 +87,8 @@ pub one_done : {form : Form} {warnings : List ℕ} {start : Start} {here next : 
     → IsLineWork (is_pulse (line_view line).request) here.game next.game here.sight next.sight here.count next.count
     → GoesSo form warnings start next (map line_view (reverse rest)) old new
 one_done {form} {warnings} {start} {here} {next} {old} {mid} {new} left rest line e so whole work =
-    by (subst IsNext (next_line left rest line e) so)
-  where
-    IsNext : List Numbered → Type 0
-    IsNext lines = GoesSo form warnings start here lines old mid
-
-    by : GoesSo form warnings start here (line_view line ∷ map line_view (reverse rest)) old mid
-        → GoesSo form warnings start next (map line_view (reverse rest)) old new
-    by s = record {
-      playing = playing.goes_on (line_view line) whole.done.told s.playing whole.cost whole.done.is whole.done.wrote;
-      working = working.goes_on (line_view line) whole.done.told s.playing.tolds s.working
-          (record { cost = whole.cost; done = whole.done.is; few = whole.few }) work;
-    }
+    let IsNext : List Numbered → Type 0 = λ lines. GoesSo form warnings start here lines old mid in
+    one_next (line_view line) (subst IsNext (next_line left rest line e) so) whole work
 
 -- no line is left
 pub all_done : {manner : Manner} {warnings : List ℕ} {start : Start} {here : Point} {old new : Option (List ℕ)}
@@ -121,6 +124,7 @@ all_done {manner} {warnings} {start} {here} {old} {new} left none long so =
 
 pub all_to_add : (form : Form) (start : Start) (lines : List Line) {left : List Line} → start.lines ≡ map line_view lines
     → left ≡ reverse lines → AddsSo form start (started start) (map line_view (reverse left)) no_totals
+unfolding counting.begins
 all_to_add form start lines {left} are turned =
     let IsFirst : List Numbered → Type 0 = λ rest. AddsSo form start (started start) rest no_totals in
     subst IsFirst (are ∙ ap (map line_view) (sym (ap reverse turned ∙ reverse-reverse lines)))
@@ -129,26 +133,28 @@ all_to_add form start lines {left} are turned =
       working = working.begun form start.game start.sight start.lines start.count start.evaluated;
     })
 
+next_added : (form : Form) {start : Start} {here next : Point} {totals more : Totals} {left : List Numbered} (line : Numbered)
+    → AddsSo form start here (line ∷ left) totals
+    → IsDoneWithin (IsLineCounted form line here.game next.game more) here.evaluated next.evaluated
+    → IsLineWork (is_pulse line.request) here.game next.game here.sight next.sight here.count next.count
+    → AreSmall more → AddsSo form start next left (added totals more)
+unfolding counting.goes_on
+next_added form {start} {here} {next} {totals} {more} {left} line so counted work small = record {
+  counting = counting.goes_on line counted.done.told more so.counting counted.cost counted.done.is counted.done.adds small;
+  working = working.goes_on line counted.done.told so.counting.tolds so.working
+      (record { cost = counted.cost; done = counted.done.is; few = counted.few }) work;
+}
+
 pub one_added : (form : Form) {start : Start} {here next : Point} {totals more sum : Totals} (left rest : List Line) (line : Line)
     → left ≡ rest ++ (line ∷ []) → AddsSo form start here (map line_view (reverse left)) totals
     → IsDoneWithin (IsLineCounted form (line_view line) here.game next.game more) here.evaluated next.evaluated
     → IsLineWork (is_pulse (line_view line).request) here.game next.game here.sight next.sight here.count next.count
     → AreSmall more → sum ≡ added totals more → AddsSo form start next (map line_view (reverse rest)) sum
 one_added form {start} {here} {next} {totals} {more} {sum} left rest line e so counted work small same =
-    subst (λ (t : Totals). AddsSo form start next (map line_view (reverse rest)) t) (sym same)
-    (by (subst IsNext (next_line left rest line e) so))
-  where
-    IsNext : List Numbered → Type 0
-    IsNext lines = AddsSo form start here lines totals
-
-    by : AddsSo form start here (line_view line ∷ map line_view (reverse rest)) totals
-        → AddsSo form start next (map line_view (reverse rest)) (added totals more)
-    by s = record {
-      counting = counting.goes_on (line_view line) counted.done.told more s.counting counted.cost counted.done.is
-          counted.done.adds small;
-      working = working.goes_on (line_view line) counted.done.told s.counting.tolds s.working
-          (record { cost = counted.cost; done = counted.done.is; few = counted.few }) work;
-    }
+    let IsNext : List Numbered → Type 0 = λ lines. AddsSo form start here lines totals in
+    let IsSum : Totals → Type 0 = λ t. AddsSo form start next (map line_view (reverse rest)) t in
+    subst IsSum (sym same)
+    (next_added form (line_view line) (subst IsNext (next_line left rest line e) so) counted work small)
 
 pub all_added : {form : Form} {start : Start} {here : Point} {totals : Totals} (left : Vec Line Global) → vec_len left ≡ 0
     → AddsSo form start here (map line_view (reverse left.items)) totals
@@ -172,13 +178,13 @@ all_added {form} {start} {here} {totals} left none so =
         }
 
 -- what was counted is written as the totals
-pub added_done : {E : Type 0} {manner : Manner} {first : Game} {start : Sight} {lines : List Numbered}
+pub added_done : {E : Type 0} (manner : Manner) {first : Game} {start : Sight} {lines : List Numbered}
     {totals : Totals} {count last : Counted} {began end : ℕ} {old new : Option (List ℕ)} {slice text : List ℕ}
     (warnings : List ℕ) (result : Result (Unit {0}) E) → manner.summary ≡ true
     → IsDoneWithin (AreAdded manner.form first start lines totals count last) began end
     → slice ≡ text → text ≡ summary_line totals → Writes old new result slice
     → OnOk result (IsDoneWithin (AreDone manner warnings first start lines old new count last) began end)
-added_done {E} {manner} {first} {start} {lines} {totals} {count} {last} {began} {end} {old} {new} {slice} {text} warnings (Ok done) short so same told writes =
+added_done {E} manner {first} {start} {lines} {totals} {count} {last} {began} {end} {old} {new} {slice} {text} warnings (Ok done) short so same told writes =
     record {
       cost = so.cost;
       done = record {
@@ -191,7 +197,7 @@ added_done {E} {manner} {first} {start} {lines} {totals} {count} {last} {began} 
   where
     in_short : (tolds : List Told) → summary_line (totals_of tolds) ≡ written_of manner warnings tolds
     in_short tolds = rw short refl
-added_done warnings (Err error) short so same told writes = tt
+added_done manner warnings (Err error) short so same told writes = tt
 
 -- a line that was taken is written, which is no work
 pub also_written : {E : Type 0} (result : Result (Unit {0}) E) (pulse : Bool) (before mid now : Game)

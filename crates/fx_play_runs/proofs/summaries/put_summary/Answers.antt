@@ -30,5 +30,5 @@ returns-clause-put g c =
 pub returns-clause-work : goal.returns-clause-work
 returns-clause-work g c =
     λ warnings.
-    added_done warnings c.put.result c.requires.short (c.in_ok-totals.ensures.work c.args.manner.form)
+    added_done c.args.manner warnings c.put.result c.requires.short (c.in_ok-totals.ensures.work c.args.manner.form)
     c.as_slice.ensures.value c.in_ok-text.ensures c.put.ensures.writes

@@ -7,7 +7,7 @@ use Rattle.fx_plain.specs.declared.answers.Status.{Status}
 use Rattle.fx_plain_runs.specs.Runs.{IsPut, written_of}
 use Rattle.fx_plain_work.specs.Works.{Counted, Sight, counted, no_sight}
 use Rattle.fx_play_runs.specs.Lines.{AreDone}
-use Rattle.fx_play_frames.specs.Games.{game_of}
+use Rattle.fx_play_frames.specs.Games.{game_of, sight_of}
 use Rattle.fx_script_commands.specs.Requests.{line_view}
 use Rattle.fx_play.specs.Ends.{IsLoadedPlayed}
 use Rattle.fx_play.proofs.RunLemmas.{lines_put, not_staged}
@@ -59,7 +59,7 @@ returns-clause-work g c done =
     let so =
     subst (Wrote (loaded_of c.args.loaded).warnings no_sight) (ap count c.in-Ok.ensures.others)
     (subst (λ (s : Sight). Wrote (loaded_of c.args.loaded).warnings s (count c.staged.new.work)) c.in-Ok.ensures.sight
-    (subst (λ (w : List ℕ). Wrote w _ (count c.staged.new.work)) c.as_slice-2.ensures.value
+    (subst (λ (w : List ℕ). Wrote w (sight_of c.in-Ok.game) (count c.staged.new.work)) c.as_slice-2.ensures.value
     (done_put c.put_played.result (sym c.ended.ensures ∙ done) c.put_played.ensures.work))) in
     let quiet : c.staged.new.work.evaluated ≤ c.args.work.now.evaluated = c.in-Ok.ensures.quiet in
     let few : c.put_played.new.work.evaluated ≤ c.staged.new.work.evaluated + so.cost = so.few in

@@ -26,11 +26,11 @@ grown-nil : (old : Option (List ℕ)) → old ≡ grown old []
 grown-nil None = refl
 grown-nil (Some held) = ap Some (sym (append-nil held))
 
-grown-grown : (old : Option (List ℕ)) (a b : List ℕ) → grown (grown old a) b ≡ grown old (a ++ b)
+pub grown-grown : (old : Option (List ℕ)) (a b : List ℕ) → grown (grown old a) b ≡ grown old (a ++ b)
 grown-grown None a b = refl
 grown-grown (Some held) a b = ap Some (append_assoc held a b)
 
-no_texts : (warnings : List ℕ) → warnings ≡ warnings ++ texts_of []
+pub no_texts : (warnings : List ℕ) → warnings ≡ warnings ++ texts_of []
 unfolding texts_of
 no_texts warnings = sym (append-nil warnings)
 
@@ -46,7 +46,7 @@ begins form warnings first all old new told = record {
 }
 
 -- one text more
-longer : (warnings : List ℕ) (tolds : List Told) (told : Told)
+pub longer : (warnings : List ℕ) (tolds : List Told) (told : Told)
     → (warnings ++ texts_of tolds) ++ told.text ≡ warnings ++ texts_of (tolds ++ told ∷ [])
 longer warnings tolds told =
     append_assoc warnings (texts_of tolds) told.text ∙ ap (λ l. warnings ++ l) (sym (texts-snoc tolds told))

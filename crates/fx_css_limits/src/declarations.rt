@@ -1,5 +1,5 @@
 //! Declarations: their rows, and the values that fit their names.
-ghost use Rattle.std.specs.Prelude.{◌≡◌, IsTrue, All, None};
+ghost use Rattle.std.specs.Prelude.{◌≡◌, ◌↔◌, IsTrue, All, None};
 ghost use Rattle.fx_css_types.specs.declared.declarations.Declared.TheVariants as declared;
 ghost use Rattle.fx_css_types.specs.Limits as limits;
 
@@ -9,7 +9,7 @@ use fx_look::{StyleForm, StyleName, style_named};
 
 /// Has each the row of its name, few layers, and a value that fits the name?
 pub(crate) fn are_kept(declarations: &[Declaration]) -> bool
-    ensures { IsTrue result → All limits.IsKeptDeclaration declarations.now }
+    ensures { IsTrue result ↔ All limits.IsKeptDeclaration declarations.now }
 {
     for declaration in declarations {
         if !is_kept(declaration) {
@@ -20,7 +20,7 @@ pub(crate) fn are_kept(declarations: &[Declaration]) -> bool
 }
 
 fn is_kept(declaration: &Declaration) -> bool
-    ensures { IsTrue result → limits.IsKeptDeclaration declaration.now }
+    ensures { IsTrue result ↔ limits.IsKeptDeclaration declaration.now }
 {
     let row = style_named(declaration.name.as_str());
     declaration.row == row
@@ -52,7 +52,7 @@ fn layer_count(value: &Declared) -> usize
 
 /// May the value stand under a name of this form?
 fn fits(form: Option<StyleForm>, value: &Declared) -> bool
-    ensures { IsTrue result → limits.Fits form value.now }
+    ensures { IsTrue result ↔ limits.Fits form value.now }
 {
     match form {
         None => is_paint(value),
@@ -61,7 +61,7 @@ fn fits(form: Option<StyleForm>, value: &Declared) -> bool
 }
 
 fn is_paint(value: &Declared) -> bool
-    ensures { IsTrue result → limits.Fits None value.now }
+    ensures { IsTrue result ↔ limits.Fits None value.now }
 {
     match value {
         Declared::Paint(_) => true,
@@ -70,7 +70,7 @@ fn is_paint(value: &Declared) -> bool
 }
 
 fn is_inherited(value: &Declared) -> bool
-    ensures { IsTrue result → value.now ≡ declared.Inherit }
+    ensures { IsTrue result ↔ (value.now ≡ declared.Inherit) }
 {
     match value {
         Declared::Inherit => true,
@@ -79,7 +79,7 @@ fn is_inherited(value: &Declared) -> bool
 }
 
 fn is_of_form(form: StyleForm, value: &Declared) -> bool
-    ensures { IsTrue result → limits.IsOfForm form value.now }
+    ensures { IsTrue result ↔ limits.IsOfForm form value.now }
 {
     match (form, value) {
         (StyleForm::Sides, Declared::Plain(Value::Sides(_))) => true,

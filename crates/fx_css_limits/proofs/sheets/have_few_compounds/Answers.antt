@@ -9,10 +9,10 @@ use Rattle.fx_css_limits.proofs.sheets.have_few_compounds.Goals as goal
 pub loop-selector-preserved : goal.loop-selector-preserved
 loop-selector-preserved c =
     let P : Selector → Type 0 = λ (one : Selector). length one.compounds ≤ 16 in
-    let few : P c.selector-item.result = c.has_few_compounds.ensures (subst IsTrue (sym c.if-not-has_few_compounds.false) refl) in
+    let few : P c.selector-item.result = c.has_few_compounds.ensures.0 (subst IsTrue (sym c.if-not-has_few_compounds.false) refl) in
     All-more P c.args.selectors.now c.loop-selector.selector-index c.selector-item.result c.loop-selector-test.true c.loop-selector.invariant (subst P c.selector-item.is few)
 
 pub returns : goal.returns
 returns c =
     let P : Selector → Type 0 = λ (one : Selector). length one.compounds ≤ 16 in
-    λ _. subst (All P) (take_all c.loop-selector.selector-index c.args.selectors.now c.loop-selector-test.false) c.loop-selector.invariant
+    (λ _. subst (All P) (take_all c.loop-selector.selector-index c.args.selectors.now c.loop-selector-test.false) c.loop-selector.invariant, λ _. refl)

@@ -6,4 +6,4 @@ mod kept;
 mod last;
 mod measuring;
 
-pub use kept::KeptScene;
+pub use kept::{Brought, KeptScene};

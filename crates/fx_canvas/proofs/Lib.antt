@@ -1,3 +1,4 @@
+pub mod ClipLemmas
 pub mod ByteLemmas
 pub mod DrawingLemmas
 pub mod BlockLemmas

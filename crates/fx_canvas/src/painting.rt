@@ -1,10 +1,10 @@
 //! Shapes laid over the rows of a window: each is cut to the area that is painted before its rows are walked.
-ghost use Rattle.std.specs.Prelude.{◌∷◌, [], All, if◌then◌else◌};
+ghost use Rattle.std.specs.Prelude.{◌≡◌, ◌∷◌, [], All, true, if◌then◌else◌};
 ghost use Rattle.std.specs.List.{sum_by};
 ghost use Rattle.fx_base.specs.Rectangle.{in_span, inside};
 ghost use Rattle.fx_canvas.specs.Painting as spec;
 ghost use Rattle.fx_pens.specs.Dots.{is_in};
-ghost use Rattle.fx_picture.specs.Bounds.{bounds_of, in_range};
+ghost use Rattle.fx_picture.specs.Bounds.{bounds_of, in_range, is_empty, meet};
 ghost use Rattle.fx_picture.specs.Pixels.{pixel, shapes_of};
 ghost use Rattle.fx_picture.specs.Shapes.{bounds};
 
@@ -77,11 +77,24 @@ fn lay_shape<P: Ledger>(rows: &mut [Row], area: Bounds, shape: &Shape, painted: 
     ensures { spec.IsDrawn (spec.laid_in area (shape.now ∷ [])) (in_range area.min_y area.max_y)
         (spec.points_of area shape.now) rows.old rows.new painted.old painted.new }
 {
+    if is_clipped_away(area, shape) {
+        return;
+    }
     let cut = meeting(area, bounds(shape));
     if is_empty(cut) {
         return;
     }
     lay_block(rows, block_of(cut), shape, painted);
+}
+
+/// Is it letters whose clip lies outside an area? Their cells aren't counted for that.
+fn is_clipped_away(area: Bounds, shape: &Shape) -> bool
+    ensures { result ≡ true → is_empty (meet area (bounds shape.now)) ≡ true }
+{
+    match shape {
+        Shape::Letters { clip, .. } => is_empty(meeting(area, bounds_of(*clip))),
+        Shape::Fill { .. } => false,
+    }
 }
 
 /// Lays a shape over a block, which lies within its bounds, row by row.

@@ -1,5 +1,5 @@
 -- The last scene again, in the window in which it was drawn: all stays as it is.
-use Rattle.std.proofs.Common.{refl, sym, subst, ◌∙◌, ◌≡◌, ℕ, true, false, List, [], ◌∷◌, length, replicate, Option, Some, None, arith}
+use Rattle.std.proofs.Common.{refl, sym, subst, ◌∙◌, ◌≡◌, ◌&&◌, nat_eq, ℕ, true, false, List, [], ◌∷◌, length, replicate, Option, Some, None, arith}
 use Rattle.std.specs.List.{flat_map}
 use Rattle.std.specs.Prelude.{IfSome}
 use Rattle.std.proofs.lemmas.Bool.{true≢false}
@@ -17,7 +17,12 @@ use Rattle.fx_pulse_kept.specs.Costs.{AreFew}
 use Rattle.fx_pulse_model.specs.Frames.{IsFrame, frame_damage, has_size}
 use Rattle.fx_pulse_model.specs.Scenes.{Scene, looks_of}
 use Rattle.fx_pulse_touched.specs.Touched.{AreTouched}
-use Rattle.fx_pulse.specs.Rendering.{IsCurrent, IsDrawn, Rendering, last_frame, surface_of}
+use Rattle.fx_pulse.specs.Editing.{IsOfSize, IsShownScene, IsWhole}
+use Rattle.fx_pulse.specs.Rendering.{IsCurrent, IsDrawn, IsDrawnBefore, Rendering, last_frame, surface_of}
+use Rattle.fx_pulse.specs.declared.frames.Before.{Before}
+use Rattle.fx_pulse.specs.declared.frames.Next.{Next}
+use Rattle.fx_pulse.specs.declared.frames.Next.TheVariants as next
+use Rattle.fx_pulse.specs.declared.renderer.Drawing.{Drawing}
 use Rattle.fx_pulse.proofs.ShowLemmas.{damage_next}
 
 -- ---- no damage
@@ -49,25 +54,62 @@ undamaged r is =
     sym (unchanged r.picture w h) ∙ damage_next r r.picture w h (own_size r is)
 
 -- ---- the frame that was drawn
-pub now_current : (r : Rendering) (window : Option (ℕ × ℕ)) (w h : ℕ) → (surface_of r.canvas).width ≡ w
+pub now_current : (r : Rendering) (d : Drawing) (w h : ℕ) → (surface_of r.canvas).width ≡ w
     → (surface_of r.canvas).height ≡ h
-    → IfSome r.kept.last (λ (scene : Scene). IsFrame scene window w h r.rects r.picture)
+    → IfSome r.kept.last (λ (scene : Scene). IsFrame scene d.window w h r.rects r.picture)
+    → IfSome r.kept.last (λ (scene : Scene). IsShownScene scene r.picture d.shown.items)
     → root_size r.kept.layout ≡ (w, h)
-    → IfSome r.kept.last (λ (scene : Scene). IsLayout scene.boxes (looks_of scene) window r.kept.layout)
-    → IsCurrent (Some window) r
-now_current r window w h wide high frame size placed = by r.kept.last frame placed
+    → IfSome r.kept.last (λ (scene : Scene). IsLayout scene.boxes (looks_of scene) d.window r.kept.layout)
+    → IsCurrent (Some d) r
+now_current r d w h wide high frame shown size placed = by r.kept.last frame shown placed
   where
-    by : (last : Option Scene) → IfSome last (λ (scene : Scene). IsFrame scene window w h r.rects r.picture)
-        → IfSome last (λ (scene : Scene). IsLayout scene.boxes (looks_of scene) window r.kept.layout)
-        → IfSome last (λ (scene : Scene). IsDrawn r scene window)
-    by None none also = none
-    by (Some scene) is there = record {
-      frame = subst (λ n. IsFrame scene window n (surface_of r.canvas).height r.rects r.picture) (sym wide)
-          (subst (λ n. IsFrame scene window w n r.rects r.picture) (sym high) is);
-      size = subst (λ n. root_size r.kept.layout ≡ (n, (surface_of r.canvas).height)) (sym wide)
-          (subst (λ n. root_size r.kept.layout ≡ (w, n)) (sym high) size);
-      placed = there;
-    }
+    by : (last : Option Scene) → IfSome last (λ (scene : Scene). IsFrame scene d.window w h r.rects r.picture)
+        → IfSome last (λ (scene : Scene). IsShownScene scene r.picture d.shown.items)
+        → IfSome last (λ (scene : Scene). IsLayout scene.boxes (looks_of scene) d.window r.kept.layout)
+        → IfSome last (λ (scene : Scene). IsDrawn r scene d.window × IsShownScene scene r.picture d.shown.items)
+    by None none also too = none
+    by (Some scene) is told there = (
+      record {
+        frame = subst (λ n. IsFrame scene d.window n (surface_of r.canvas).height r.rects r.picture) (sym wide)
+            (subst (λ n. IsFrame scene d.window w n r.rects r.picture) (sym high) is);
+        size = subst (λ n. root_size r.kept.layout ≡ (n, (surface_of r.canvas).height)) (sym wide)
+            (subst (λ n. root_size r.kept.layout ≡ (w, n)) (sym high) size);
+        placed = there;
+      },
+      told,
+    )
+
+-- ---- the frame before
+pub was_shown : (drawn : Option Drawing) (r : Rendering) (before : Option Before) → IsCurrent drawn r
+    → IsDrawnBefore drawn r.canvas before
+    → IfSome before (λ (b : Before). (last : Scene) → r.kept.last ≡ Some last → IsShownScene last r.picture b.shown.now)
+was_shown drawn r None current is = tt
+was_shown None r (Some b) current is = absurd is
+was_shown (Some d) r (Some b) current is = by r.canvas is
+  where
+    by : (canvas : Option Surface) → IsDrawnBefore (Some d) canvas (Some b) → (last : Scene) → r.kept.last ≡ Some last
+        → IsShownScene last r.picture b.shown.now
+    by None none last e = absurd none
+    by (Some s) is last e =
+        subst (IsShownScene last r.picture) (sym is.0)
+        (subst (λ o. IfSome o (λ (scene : Scene). IsDrawn r scene d.window × IsShownScene scene r.picture d.shown.items))
+        e current).1
+
+alike : (a b c d : ℕ) → a ≡ b → c ≡ d → (nat_eq a b && nat_eq c d) ≡ true
+alike a b c d p q = grind (arith, nat_tests)
+
+pub whole_where_other : (drawn : Option Drawing) (r : Rendering) (before : Option Before) (w h : ℕ) (made : Next)
+    → IsDrawnBefore drawn r.canvas before → IsOfSize before w h made → has_size (last_frame r) w h ≡ false
+    → IsWhole made
+whole_where_other drawn r before w h (next.Whole picture) is size other = tt
+whole_where_other drawn r None w h (next.Edited edits) is size other = absurd size
+whole_where_other None r (Some b) w h (next.Edited edits) is size other = absurd is
+whole_where_other (Some d) r (Some b) w h (next.Edited edits) is size other = by r.canvas is other
+  where
+    by : (canvas : Option Surface) → IsDrawnBefore (Some d) canvas (Some b)
+        → has_size (last_frame (record r { canvas = canvas })) w h ≡ false → ⊥
+    by None none o = absurd none
+    by (Some s) is o = true≢false (sym (alike s.width w s.height h (sym is.1 ∙ size.0) (sym is.2 ∙ size.1)) ∙ o)
 
 -- ---- no work
 none_touched : (last : Option Scene) (scene : Scene) → last ≡ Some scene

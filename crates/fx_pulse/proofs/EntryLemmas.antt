@@ -28,7 +28,7 @@ same : (ks : List ℕ) → map (λ k. k) ks ≡ ks
 same [] = refl
 same (k ∷ ks) = ap (λ l. k ∷ l) (same ks)
 
-below_more : (d : Drawn) (n : ℕ) → shown_below d (n + 1) ≡ shown_below d n ++ cond (shows d n) (n ∷ []) []
+pub below_more : (d : Drawn) (n : ℕ) → shown_below d (n + 1) ≡ shown_below d n ++ cond (shows d n) (n ∷ []) []
 below_more d n =
     sym (ap (filter (shows d)) (same (range_with_len 0 (n + 1))))
     ∙ (filter_of_map_range_with_len_more (shows d) (λ k. k) 0 n n (zero-add n)

@@ -1,5 +1,6 @@
 -- A node shows where its parent does and it is visible.
 use Rattle.std.proofs.Common.{refl, sym, ap, ◌∙◌, ◌≡◌, ℕ, ◌<◌, ◌&&◌, Bool, true, false, length, Option, None, Some, arith}
+use Rattle.std.specs.Bool.{Decides, beq}
 use Rattle.std.specs.List.{list_all}
 use Rattle.std.proofs.lemmas.List.{length-map}
 use Rattle.fx_kinds.specs.declared.facts.BoxFacts.{BoxFacts}
@@ -32,3 +33,10 @@ shows_next d k tree within =
     let long = length-map d.boxes (λ (n : BoxFacts). n.parent) in
     all_next (parents d.boxes) (λ p. (look_at d.looks p).visibility) k tree (omega (arith, within, long))
     ∙ ap (λ o. told_above (told (shows d) k) o true && (look_at d.looks k).visibility) (read d.boxes k within)
+
+-- two flags are compared
+pub Decides-flag : (a b : Bool) → Decides (beq a b) (a ≡ b)
+Decides-flag true true = (λ e. cc, λ e. cc)
+Decides-flag true false = (λ e. cc, λ e. cc)
+Decides-flag false true = (λ e. cc, λ e. cc)
+Decides-flag false false = (λ e. cc, λ e. cc)

@@ -7,4 +7,6 @@ pub mod ShowLemmas
 pub mod HeadLemmas
 pub mod WorkLemmas
 mod CurrentLemmas
+pub mod EditLemmas
+pub mod LastLemmas
 mod OrderLemmas

@@ -1,3 +1,4 @@
 pub mod Drawing
+pub mod Editing
 pub mod Rendering
 pub mod Showing

@@ -11,6 +11,9 @@ use Rattle.fx_layout.specs.Updates.{root_size}
 use Rattle.fx_pulse_kept.specs.Keeping.{Keeping}
 use Rattle.fx_pulse_model.specs.Frames.{Framed, IsFrame}
 use Rattle.fx_pulse_model.specs.Scenes.{Scene, looks_of}
+use Rattle.fx_pulse.specs.Editing.{IsShownScene}
+use Rattle.fx_pulse.specs.declared.frames.Before.{Before}
+use Rattle.fx_pulse.specs.declared.renderer.Drawing.{Drawing}
 
 -- the canvas, if there was a frame, the last picture, the rectangle of each node of its scene, in order, and what is
 -- kept of the last scene
@@ -46,7 +49,16 @@ pub record IsDrawn (r : Rendering) (scene : Scene) (window : Option (ℕ × ℕ)
   pub size : root_size r.kept.layout ≡ ((surface_of r.canvas).width, (surface_of r.canvas).height)
   pub placed : IsLayout scene.boxes (looks_of scene) window r.kept.layout
 
--- in this window the last picture is the frame of the scene that is kept; without one nothing is said
-abbrev pub IsCurrent : Option (Option (ℕ × ℕ)) → Rendering → Type 0
+-- the last picture was drawn so: it is the frame of the scene that is kept in this window, and of each node of the scene
+-- it is told whether it shows; without one nothing is said
+abbrev pub IsCurrent : Option Drawing → Rendering → Type 0
 IsCurrent drawn r =
-    IfSome drawn (λ (window : Option (ℕ × ℕ)). IfSome r.kept.last (λ (scene : Scene). IsDrawn r scene window))
+    IfSome drawn (λ (d : Drawing). IfSome r.kept.last (λ (scene : Scene).
+    IsDrawn r scene d.window × IsShownScene scene r.picture d.shown.items))
+
+-- the frame before, if there is one, is as large as the canvas, and what shows in it is known
+abbrev pub IsDrawnBefore : Option Drawing → Option Surface → Option Before → Type 0
+IsDrawnBefore drawn canvas None = Unit {0}
+IsDrawnBefore None canvas (Some b) = ⊥
+IsDrawnBefore (Some d) None (Some b) = ⊥
+IsDrawnBefore (Some d) (Some s) (Some b) = (b.shown.now ≡ d.shown.items) × (b.width ≡ s.width) × (b.height ≡ s.height)

@@ -2,6 +2,7 @@
 use Rattle.std.specs.Prelude.{◌≡◌}
 use Rattle.fx_canvas_laws.specs.Frames.{Shows}
 use Rattle.fx_pulse_model.specs.Frames.{frame_damage}
+use Rattle.fx_pulse.specs.Editing.{entries_after}
 use Rattle.fx_pulse.specs.Rendering.{Rendering, last_frame, surface_of}
 use Rattle.fx_pulse.specs.declared.frames.Made.{Made}
 use Rattle.fx_pulse.specs.declared.renderer.Frame.{Frame}
@@ -10,10 +11,10 @@ use Rattle.fx_pulse.specs.declared.renderer.Frame.{Frame}
 pub record IsShowing (made : Made) (old new : Rendering) (frame : Frame) : Type 0 where
   pub width : frame.width ≡ made.width
   pub height : frame.height ≡ made.height
-  pub picture : new.picture ≡ made.picture.entries
+  pub picture : new.picture ≡ entries_after made.next old.picture
   pub rects : new.rects ≡ made.rects.items
   pub kept : new.kept ≡ old.kept
   pub columns : (surface_of new.canvas).width ≡ made.width
   pub rows : (surface_of new.canvas).height ≡ made.height
-  pub shows : Shows (surface_of new.canvas) made.picture.entries
-  pub damage : frame.damage.items ≡ frame_damage (last_frame old) made.picture.entries made.width made.height
+  pub shows : Shows (surface_of new.canvas) new.picture
+  pub damage : frame.damage.items ≡ frame_damage (last_frame old) new.picture made.width made.height

@@ -10,7 +10,7 @@ ghost use Rattle.fx_pulse.specs.Drawing.{drawn, shown_below};
 ghost use Rattle.fx_pulse_touched.specs.Marks.{told};
 ghost use Rattle.fx_shapes.specs.Rects.{IsNear};
 
-use crate::flags::{disabled_flags, flag_at, shown_flags};
+use crate::flags::flag_at;
 use crate::paths::paths_of;
 use fx_base::{List, Rect, Text};
 use fx_kinds::{BoxFacts, is_control};
@@ -31,27 +31,27 @@ pub(crate) struct Laid<'a> {
 
 /// Whether each node shows, and whether it is disabled.
 #[derive(Clone, Copy)]
-struct Notes<'a> {
-    shown: &'a [bool],
-    disabled: &'a [bool],
+pub(crate) struct Notes<'a> {
+    pub shown: &'a [bool],
+    pub disabled: &'a [bool],
 }
 
 /// The picture: an entry for each node that shows.
-pub(crate) fn picture_of(alloc: Global, laid: Laid<'_>) -> Result<Picture, AllocError>
+pub(crate) fn picture_of(
+    alloc: Global,
+    laid: Laid<'_>,
+    notes: Notes<'_>,
+) -> Result<Picture, AllocError>
     requires tree { IsTree (parents laid.boxes.now) }
     requires few { length laid.boxes.now ≤ 4096 }
     requires looks { length laid.looks.now ≡ length laid.boxes.now }
     requires rects { length laid.rects.now ≡ length laid.boxes.now }
     requires near { (k : ℕ) → IsNear (rect_at laid.rects.now k) }
+    requires shown { notes.shown.now ≡ told (shows (drawn laid)) (length laid.boxes.now) }
+    requires disabled { notes.disabled.now ≡ told (is_disabled (drawn laid)) (length laid.boxes.now) }
     ensures { IfOk result (λ picture. IsPicture (drawn laid.entry) picture.entries) }
 {
     let paths = paths_of(alloc, laid.boxes)?;
-    let shown = shown_flags(alloc, laid)?;
-    let disabled = disabled_flags(alloc, laid)?;
-    let notes = Notes {
-        shown: shown.as_slice(),
-        disabled: disabled.as_slice(),
-    };
     let entries = entries_of(alloc, laid, notes, paths)?;
     Ok(Picture {
         entries: List::from_vec(entries),
@@ -119,7 +119,7 @@ fn add_shown(
 }
 
 /// The entry of a node.
-fn entry_of(
+pub(crate) fn entry_of(
     alloc: Global,
     laid: Laid<'_>,
     notes: Notes<'_>,

@@ -1,40 +1,79 @@
-//! A frame: the looks and the layout that are kept, brought up to the scene, and its picture.
-ghost use Rattle.std.specs.Prelude.{◌≡◌, ◌≤◌, ◌+◌, ◌*◌, IfOk, OnOk, Some, length};
+//! A frame: the looks and the layout that are kept, brought up to the scene, and its picture, whole or by edits of the
+//! last one.
+ghost use Rattle.std.specs.Prelude.{◌≡◌, ◌↔◌, ◌≤◌, ◌+◌, ◌*◌, ℕ, false, true, IfOk, IfSome, IsTrue, OnOk, Some, length};
+ghost use Rattle.std.specs.List.{list_all};
 ghost use Rattle.fx_layout.specs.Layouts.{IsLayout};
-ghost use Rattle.fx_layout.specs.Updates.{root_size};
+ghost use Rattle.fx_layout.specs.Updates.{rect_at, root_size};
+ghost use Rattle.fx_layout_sweeps.specs.Nodes.{IsTree, parents};
 ghost use Rattle.fx_pulse_kept.specs.Costs.{AreFew};
 ghost use Rattle.fx_pulse_model.specs.Frames.{IsFrame};
-ghost use Rattle.fx_pulse_model.specs.Scenes.{IsScene, looks_of};
+ghost use Rattle.fx_pulse_model.specs.Pictures.{IsPicture, is_disabled, shows};
+ghost use Rattle.fx_pulse_model.specs.Scenes.{IsScene, Scene as SceneValue, looks_of};
+ghost use Rattle.fx_pulse_touched.specs.Marks.{told};
 ghost use Rattle.fx_pulse_touched.specs.Sights.{seen};
 ghost use Rattle.fx_pulse_touched.specs.Touched.{IsUntouched};
+ghost use Rattle.fx_pulse.specs.Drawing.{drawn};
+ghost use Rattle.fx_pulse.specs.Editing.{AreLast, IsEditable, IsOfSize, IsOver, IsShownScene, IsWhole, entries_after};
+ghost use Rattle.fx_shapes.specs.Rects.{IsNear};
 
-use crate::entries::{Laid, picture_of};
+use crate::edits::{Last, edits_of};
+use crate::entries::{Laid, Notes, picture_of};
+use crate::flags::{disabled_flags, shown_flags};
 use fx_base::{Ledgers, Rect, Work};
+use fx_damage::Edit;
 use fx_picture::Picture;
 use fx_pulse_kept::KeptScene;
 use fx_pulse_touched::Scene;
 use std::alloc::{AllocError, Global};
 
-/// What is made of a scene: the size of its window in pixels, the rectangle of each node, and the picture.
+/// The next picture.
+#[derive(Drop)]
+pub(crate) enum Next {
+    Whole(Picture),
+    /// Edits that make it of the last one.
+    Edited(Vec<Edit>),
+}
+
+/// The frame before: its size in pixels, and whether each node of its scene shows.
+#[derive(Clone, Copy)]
+pub(crate) struct Before<'a> {
+    pub width: u32,
+    pub height: u32,
+    pub shown: &'a [bool],
+}
+
+/// What is made of a scene: the size of its window in pixels, the rectangle of each node, whether each shows, and the
+/// picture.
 #[derive(Drop)]
 pub(crate) struct Made {
     pub width: u32,
     pub height: u32,
     pub rects: Vec<Rect>,
-    pub picture: Picture,
+    pub shown: Vec<bool>,
+    pub next: Next,
 }
 
-/// The frame of a scene, in a window or in one as large as its root, by what is kept of the last scene.
+/// The frame of a scene, in a window or in one as large as its root, by what is kept of the last scene. Where the frame
+/// before it shows the last scene, is as large, and the same nodes show, its picture is edited: entries are made for the
+/// nodes that were measured anew, that stand elsewhere, or that are disabled where they weren't or the other way round.
 pub(crate) fn made_of<L: Ledgers>(
     alloc: Global,
     scene: Scene<'_>,
     window: Option<(u32, u32)>,
     kept: &mut KeptScene,
+    before: Option<Before<'_>>,
+    picture: &Picture,
     work: &mut Work<L>,
 ) -> Result<Made, AllocError>
-    requires { IsScene (seen scene) }
+    requires scene { IsScene (seen scene) }
+    requires before { IfSome before (λ b. (last : SceneValue) → kept.old.last ≡ Some last
+        → IsShownScene last picture.now.entries b.shown.now) }
     ensures frame { IfOk result (λ made. IsFrame (seen scene.entry) window made.width made.height made.rects.items
-        made.picture.entries) }
+        (entries_after made.next picture.now.entries)) }
+    ensures over { IfOk result (λ made. IsOver picture.now.entries made.next) }
+    ensures same_size { IfOk result (λ made. IsOfSize before.entry made.width made.height made.next) }
+    ensures shown { IfOk result (λ made. IsShownScene (seen scene.entry) (entries_after made.next picture.now.entries)
+        made.shown.items) }
     ensures size { IfOk result (λ made. root_size kept.new.layout ≡ (made.width, made.height)) }
     ensures last { OnOk result (kept.new.last ≡ Some (seen scene.entry)) }
     ensures placed { OnOk result (IsLayout (seen scene.entry).boxes (looks_of (seen scene.entry)) window
@@ -49,18 +88,94 @@ pub(crate) fn made_of<L: Ledgers>(
     ensures styled { OnOk result (work.new.styled ≤ work.old.styled + length scene.entry.styles.now) }
     ensures laid { OnOk result (work.new.laid ≤ work.old.laid + 7 * length scene.entry.boxes.now) }
 {
-    let (width, height) = kept.update(alloc, scene, window, work)?;
+    let brought = kept.update(alloc, scene, window, work)?;
+    let (width, height) = brought.size;
     let laid = Laid {
         boxes: scene.boxes,
         looks: kept.looks(),
         rects: kept.rects(),
         disabled: scene.disabled,
     };
-    let picture = picture_of(alloc, laid)?;
+    let shown = shown_flags(alloc, laid)?;
+    let disabled = disabled_flags(alloc, laid)?;
+    let notes = Notes {
+        shown: shown.as_slice(),
+        disabled: disabled.as_slice(),
+    };
+    let last = Last {
+        entries: picture.entries.as_slice(),
+        marks: brought.marks.as_slice(),
+    };
+    let edits = can_be_edited(before, width, height, notes.shown, last.marks);
+    let next = next_picture(alloc, laid, notes, last, edits)?;
+    let rects = Vec::from_slice(alloc, kept.rects())?;
     Ok(Made {
         width,
         height,
-        rects: Vec::from_slice(alloc, kept.rects())?,
-        picture,
+        rects,
+        shown,
+        next,
     })
+}
+
+/// Can the picture be made by edits: is there a frame before it, as large as it, in which the same nodes show, and is
+/// there a node that isn't marked?
+fn can_be_edited(
+    before: Option<Before<'_>>,
+    width: u32,
+    height: u32,
+    shown: &[bool],
+    marks: &[bool],
+) -> bool
+    ensures { IsTrue result → IsEditable before.entry width height shown.now marks.now }
+{
+    match before {
+        None => false,
+        Some(frame) => is_like(frame, width, height, shown) && !are_all(marks),
+    }
+}
+
+fn is_like(frame: Before<'_>, width: u32, height: u32, shown: &[bool]) -> bool
+    ensures { IsTrue result → (frame.entry.width ≡ width) × (frame.entry.height ≡ height)
+        × (frame.entry.shown.now ≡ shown.now) }
+{
+    frame.width == width && frame.height == height && are_same(frame.shown, shown)
+}
+
+fn are_same(flags: &[bool], others: &[bool]) -> bool
+    ensures { IsTrue result ↔ (flags.now ≡ others.now) }
+{
+    flags == others
+}
+
+fn are_all(marks: &[bool]) -> bool
+    ensures { result ≡ list_all (λ mark. mark) marks.now }
+{
+    marks.iter().all(|mark| *mark)
+}
+
+/// The next picture, by edits of the last one or whole.
+fn next_picture(
+    alloc: Global,
+    laid: Laid<'_>,
+    notes: Notes<'_>,
+    last: Last<'_>,
+    edits: bool,
+) -> Result<Next, AllocError>
+    requires tree { IsTree (parents laid.boxes.now) }
+    requires few { length laid.boxes.now ≤ 4096 }
+    requires looks { length laid.looks.now ≡ length laid.boxes.now }
+    requires rects { length laid.rects.now ≡ length laid.boxes.now }
+    requires near { (k : ℕ) → IsNear (rect_at laid.rects.now k) }
+    requires shown { notes.shown.now ≡ told (shows (drawn laid)) (length laid.boxes.now) }
+    requires disabled { notes.disabled.now ≡ told (is_disabled (drawn laid)) (length laid.boxes.now) }
+    requires last { edits ≡ true → AreLast (drawn laid) last.marks.now last.entries.now }
+    ensures picture { IfOk result (λ next. IsPicture (drawn laid.entry) (entries_after next last.entry.entries.now)) }
+    ensures over { IfOk result (λ next. IsOver last.entry.entries.now next) }
+    ensures whole { edits ≡ false → IfOk result IsWhole }
+{
+    if edits {
+        return Ok(Next::Edited(edits_of(alloc, laid, notes, last)?));
+    }
+    Ok(Next::Whole(picture_of(alloc, laid, notes)?))
 }

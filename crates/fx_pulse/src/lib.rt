@@ -3,10 +3,12 @@
 #![tactic(auto)]
 
 mod checking;
+mod edits;
 mod entries;
 mod flags;
 mod frames;
 mod paths;
+mod pictures;
 mod renderer;
 
 pub use checking::is_scene;

@@ -15,11 +15,13 @@ ghost use Rattle.fx_pulse_model.specs.Frames.{IsFrame, frame_damage, has_size};
 ghost use Rattle.fx_pulse_model.specs.Scenes.{IsScene, looks_of};
 ghost use Rattle.fx_pulse_touched.specs.Sights.{seen};
 ghost use Rattle.fx_pulse_touched.specs.Touched.{IsUntouched};
-ghost use Rattle.fx_pulse.specs.Rendering.{IsDrawn, IsShown, last_frame, surface_of};
+ghost use Rattle.fx_pulse.specs.Editing.{IsOver, IsShownScene, IsWhole, entries_after};
+ghost use Rattle.fx_pulse.specs.Rendering.{IsDrawn, IsDrawnBefore, IsShown, last_frame, surface_of};
 ghost use Rattle.fx_pulse.specs.Showing.{IsShowing};
 ghost use Rattle.fx_row_text.specs.Rows.{row_text};
 
-use crate::frames::{Made, made_of};
+use crate::frames::{Before, Made, made_of};
+use crate::pictures::{damage_by, follow, whole};
 use fx_base::{Ledgers, Rect, Work};
 use fx_canvas::Canvas;
 use fx_damage::damage;
@@ -38,8 +40,15 @@ pub struct Renderer {
     canvas: Option<Canvas>,
     rects: Vec<Rect>,
     kept: KeptScene,
-    /// The window in which the picture was drawn, unless it isn't that of the scene that is kept.
-    drawn: Option<Option<(u32, u32)>>,
+    /// How the picture was drawn, unless it isn't that of the scene that is kept.
+    drawn: Option<Drawing>,
+}
+
+/// The window in which a picture was drawn, and whether each node of its scene shows.
+#[derive(Drop)]
+struct Drawing {
+    window: Option<(u32, u32)>,
+    shown: Vec<bool>,
 }
 
 impl Model for Renderer {
@@ -91,9 +100,10 @@ impl Renderer {
     /// Makes the frame of a scene and shows it: the frame that the scene has from nothing. `window` is the size of the
     /// window in pixels; without one it is as large as the root, which has its preferred size. Only nodes that were
     /// touched since the last frame are styled anew, with all below them, and measured, with all above them; the
-    /// facts and the sheets are compared with those of the last scene for that. The picture is made whole, unless it
-    /// is that of the last scene in the last window: then all stays as it is. After want of memory the last picture
-    /// still shows, and the next frame may be made afresh.
+    /// facts and the sheets are compared with those of the last scene for that. In a window as large as the last one,
+    /// where the same nodes show, the last picture is edited: entries are made of those nodes alone, and of those that
+    /// stand elsewhere, and the damage is found from these. The last scene in the last window leaves all as it is.
+    /// After want of memory the last picture still shows, and the next frame may be made afresh.
     pub fn pulse<L: Ledgers>(
         &mut self,
         alloc: Global,
@@ -129,8 +139,17 @@ impl Renderer {
         if self.is_drawn(scene, window) {
             return Ok(self.still_frame(alloc));
         }
-        self.drawn = None;
-        let made = made_of(alloc, scene, window, &mut self.kept, work)?;
+        let drawn = self.drawn.take();
+        let before = frame_before(&drawn, &self.canvas);
+        let made = made_of(
+            alloc,
+            scene,
+            window,
+            &mut self.kept,
+            before,
+            &self.picture,
+            work,
+        )?;
         if self.has_size(made.width, made.height) {
             self.show_next(alloc, made, window, work)
         } else {
@@ -143,9 +162,9 @@ impl Renderer {
         ensures last { IsTrue result → self.now.kept.last ≡ Some (seen scene.entry) }
         ensures drawn { IsTrue result → IsDrawn self.now (seen scene.entry) window }
     {
-        match self.drawn {
+        match &self.drawn {
             None => false,
-            Some(last) => is_same_window(last, window) && self.kept.is_last(scene),
+            Some(last) => is_same_window(last.window, window) && self.kept.is_last(scene),
         }
     }
 
@@ -263,10 +282,13 @@ impl Renderer {
         work: &mut Work<L>,
     ) -> Result<Frame, AllocError>
         requires size { has_size (last_frame self.old) made.width made.height ≡ true }
-        requires rises { Rises made.picture.entries }
-        requires births { HasDistinctBirths made.picture.entries }
-        requires drawn { IfSome self.old.kept.last (λ scene.
-            IsFrame scene window made.width made.height made.rects.items made.picture.entries) }
+        requires over { IsOver self.old.picture made.next }
+        requires rises { Rises (entries_after made.next self.old.picture) }
+        requires births { HasDistinctBirths (entries_after made.next self.old.picture) }
+        requires drawn { IfSome self.old.kept.last (λ scene. IsFrame scene window made.width made.height
+            made.rects.items (entries_after made.next self.old.picture)) }
+        requires shown { IfSome self.old.kept.last (λ scene.
+            IsShownScene scene (entries_after made.next self.old.picture) made.shown.items) }
         requires root { root_size self.old.kept.layout ≡ (made.width, made.height) }
         requires placed { IfSome self.old.kept.last (λ scene.
             IsLayout scene.boxes (looks_of scene) window self.old.kept.layout) }
@@ -274,22 +296,23 @@ impl Renderer {
         ensures err { OnErr result (self.new ≡ self.old) }
         ensures work { OnOk result (work.new ≡ record work.old { painted = work.new.painted }) }
         ensures painted { IfOk result (λ frame. work.new.painted
-            ≤ work.old.painted + sum_by (most_writes made.picture.entries) frame.damage.items) }
+            ≤ work.old.painted + sum_by (most_writes self.new.picture) frame.damage.items) }
     {
-        let damage = damage(
-            alloc,
-            Some(&self.picture),
-            &made.picture,
-            made.width,
-            made.height,
-        )?;
-        repaint_in(&mut self.canvas, &made.picture, damage.as_slice(), work);
-        self.picture = made.picture;
-        self.rects = made.rects;
-        self.drawn = Some(window);
+        let Made {
+            width,
+            height,
+            rects,
+            shown,
+            next,
+        } = made;
+        let damage = damage_by(alloc, &self.picture, &next, width, height)?;
+        follow(alloc, &mut self.picture, next);
+        repaint_in(&mut self.canvas, &self.picture, damage.as_slice(), work);
+        self.rects = rects;
+        self.drawn = Some(Drawing { window, shown });
         Ok(Frame {
-            width: made.width,
-            height: made.height,
+            width,
+            height,
             damage,
         })
     }
@@ -304,10 +327,13 @@ impl Renderer {
     ) -> Result<Frame, AllocError>
         requires size { is_size made.width made.height ≡ true }
         requires other { has_size (last_frame self.old) made.width made.height ≡ false }
-        requires rises { Rises made.picture.entries }
-        requires births { HasDistinctBirths made.picture.entries }
-        requires drawn { IfSome self.old.kept.last (λ scene.
-            IsFrame scene window made.width made.height made.rects.items made.picture.entries) }
+        requires whole { IsWhole made.next }
+        requires rises { Rises (entries_after made.next self.old.picture) }
+        requires births { HasDistinctBirths (entries_after made.next self.old.picture) }
+        requires drawn { IfSome self.old.kept.last (λ scene. IsFrame scene window made.width made.height
+            made.rects.items (entries_after made.next self.old.picture)) }
+        requires shown { IfSome self.old.kept.last (λ scene.
+            IsShownScene scene (entries_after made.next self.old.picture) made.shown.items) }
         requires root { root_size self.old.kept.layout ≡ (made.width, made.height) }
         requires placed { IfSome self.old.kept.last (λ scene.
             IsLayout scene.boxes (looks_of scene) window self.old.kept.layout) }
@@ -315,19 +341,41 @@ impl Renderer {
         ensures err { OnErr result (self.new ≡ self.old) }
         ensures work { OnOk result (work.new ≡ record work.old { painted = work.new.painted }) }
         ensures painted { IfOk result (λ frame. work.new.painted
-            ≤ work.old.painted + sum_by (most_writes made.picture.entries) frame.damage.items) }
+            ≤ work.old.painted + sum_by (most_writes self.new.picture) frame.damage.items) }
     {
-        let damage = damage(alloc, None, &made.picture, made.width, made.height)?;
-        let canvas = painted(alloc, &made, damage.as_slice(), work)?;
-        self.picture = made.picture;
+        let Made {
+            width,
+            height,
+            rects,
+            shown,
+            next,
+        } = made;
+        let picture = whole(next);
+        let damage = damage(alloc, None, &picture, width, height)?;
+        let canvas = painted(alloc, &picture, width, height, damage.as_slice(), work)?;
+        self.picture = picture;
         self.canvas = Some(canvas);
-        self.rects = made.rects;
-        self.drawn = Some(window);
+        self.rects = rects;
+        self.drawn = Some(Drawing { window, shown });
         Ok(Frame {
-            width: made.width,
-            height: made.height,
+            width,
+            height,
             damage,
         })
+    }
+}
+
+/// The frame that was drawn last, if it is that of the scene that is kept.
+fn frame_before<'a>(drawn: &'a Option<Drawing>, canvas: &Option<Canvas>) -> Option<Before<'a>>
+    ensures { IsDrawnBefore drawn.now canvas.now result }
+{
+    match (drawn, canvas) {
+        (Some(drawing), Some(canvas)) => Some(Before {
+            width: canvas.width(),
+            height: canvas.height(),
+            shown: drawing.shown.as_slice(),
+        }),
+        _ => None,
     }
 }
 
@@ -363,21 +411,23 @@ fn repaint_in<L: Ledgers>(
 /// A new canvas on which the damage is painted.
 fn painted<L: Ledgers>(
     alloc: Global,
-    made: &Made,
+    picture: &Picture,
+    width: u32,
+    height: u32,
     damage: &[Rect],
     work: &mut Work<L>,
 ) -> Result<Canvas, AllocError>
-    requires size { is_size made.now.width made.now.height ≡ true }
-    requires all { damage.now ≡ damage_of None made.now.picture.entries made.now.width made.now.height }
-    ensures width { IfOk result (λ canvas. canvas.width ≡ made.now.width) }
-    ensures height { IfOk result (λ canvas. canvas.height ≡ made.now.height) }
-    ensures shows { IfOk result (λ canvas. Shows canvas made.now.picture.entries) }
+    requires size { is_size width height ≡ true }
+    requires all { damage.now ≡ damage_of None picture.now.entries width height }
+    ensures width { IfOk result (λ canvas. canvas.width ≡ width) }
+    ensures height { IfOk result (λ canvas. canvas.height ≡ height) }
+    ensures shows { IfOk result (λ canvas. Shows canvas picture.now.entries) }
     ensures work { OnOk result (work.new ≡ record work.old { painted = work.new.painted }) }
     ensures painted { OnOk result (work.new.painted
-        ≤ work.old.painted + sum_by (most_writes made.now.picture.entries) damage.now) }
+        ≤ work.old.painted + sum_by (most_writes picture.now.entries) damage.now) }
 {
-    let mut canvas = white_canvas(alloc, made.width, made.height)?;
-    canvas.repaint(&made.picture, damage, work);
+    let mut canvas = white_canvas(alloc, width, height)?;
+    canvas.repaint(picture, damage, work);
     Ok(canvas)
 }
 

@@ -26,7 +26,7 @@ same_items (x ∷ xs) (y ∷ ys) long same =
     ∙ ap (λ zs. y ∷ zs)
     (same_items xs ys (omega (arith, long)) (λ k within. same (suc k) (omega (arith, within))))
 
-some_free : (marks : List Bool) → list_all (λ mark. mark) marks ≡ false
+pub some_free : (marks : List Bool) → list_all (λ mark. mark) marks ≡ false
     → (p : ℕ) × (p < length marks) × (flag_in marks p ≡ false)
 some_free [] all = absurd (true≢false all)
 some_free (false ∷ marks) all = (zero, omega arith, refl)

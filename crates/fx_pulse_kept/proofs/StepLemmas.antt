@@ -24,7 +24,7 @@ use Rattle.fx_pulse_touched.specs.Touched.{AreTouched, HaveOneShape, IsLaidAsBef
 use Rattle.fx_pulse_touched.proofs.PlaceLemmas.{among_places}
 use Rattle.fx_pulse_touched.proofs.ToldLemmas.{long, read}
 use Rattle.fx_pulse_kept.specs.Keeping.{AreOf, AreStyled}
-use Rattle.fx_pulse_kept.specs.Measuring.{AreMeasuredAnew}
+use Rattle.fx_pulse_kept.specs.Measuring.{AreMeasuredAnew, IsAsBefore}
 use Rattle.fx_pulse_kept.proofs.StyleLemmas.{AreAlike, AreReady, as_many, lengths, looks_are, marked_as, same_style, styled_anew}
 
 -- the last scene, the next one, marks of what is touched, styled anew and measured anew, and what is kept
@@ -117,7 +117,7 @@ alike s g old e shape = record {
             same : (v : Scene) → Some v ≡ Some old → v ≡ old
             same v m = cc
 
-same_there : {A : Type 0} (xs ys : List A) (k : ℕ) (d : A) → slice_get xs k ≡ slice_get ys k
+pub same_there : {A : Type 0} (xs ys : List A) (k : ℕ) (d : A) → slice_get xs k ≡ slice_get ys k
     → get_or xs k d ≡ get_or ys k d
 same_there xs ys k d same =
     sym (unwrap_or-slice_get xs k d) ∙ (ap (λ o. unwrap_or o d) same ∙ unwrap_or-slice_get ys k d)
@@ -145,6 +145,18 @@ same_look s g old e shape p within free =
           (no_mark (is_among s.new_styles.changed p) (flag_in s.marks p) (g.anew.looks p within anew) free))
           ∙ ap (λ l. look_at l p) (looks_are old s.old_styles pair.was (was_of s g old e).styled)
     ]
+
+pub as_before : (s : Step) → IsStep s → (k : ℕ) → k < length s.scene.boxes → flag_in s.marks k ≡ false
+    → IsAsBefore s.last s.scene k
+as_before s g k within free = by s.last refl (box_quiet s g k within free)
+  where
+    by : (o : Option Scene) → s.last ≡ o → IsLaidAsBefore o s.scene k → IsAsBefore o s.scene k
+    by None e none = absurd none
+    by (Some old) e before = (
+      before.0,
+      before.1,
+      sym (ap (λ l. look_at l k) (sym (new_looks s g)) ∙ same_look s g old e before.0 k within free),
+    )
 
 -- ---- the same nodes
 key_at : (nodes : List BoxFacts) (j : ℕ) → (node_at nodes j).key ≡ get_or (keys nodes) j no_node.key

@@ -5,6 +5,7 @@ ghost use Rattle.fx_layout.specs.Updates.{root_size};
 ghost use Rattle.fx_layout_sweeps.specs.Nodes.{parents};
 ghost use Rattle.fx_pulse_kept.specs.Costs.{AreFew, IsBrought};
 ghost use Rattle.fx_pulse_kept.specs.Keeping.{Agrees, no_layout};
+ghost use Rattle.fx_pulse_kept.specs.Measuring.{AreOthersMarked};
 ghost use Rattle.fx_pulse_model.specs.Scenes.{IsScene, Scene as SceneValue, looks_of};
 ghost use Rattle.fx_pulse_touched.specs.Marks.{places_of, told};
 ghost use Rattle.fx_pulse_touched.specs.Sights.{seen};
@@ -21,6 +22,14 @@ use fx_select::RuleIndex;
 use fx_style::{Scene as Styled, Styles};
 use std::alloc::{AllocError, Global};
 use std::marker::Model;
+
+/// What an update tells: the size of the root in pixels, and marks of the nodes that were measured anew. Every other
+/// node has the facts for layout and the look that it had in the last scene.
+#[derive(Drop)]
+pub struct Brought {
+    pub size: (u32, u32),
+    pub marks: Vec<bool>,
+}
 
 /// The styles and the layout of the last scene, and its facts. Where these are missing, all is made afresh.
 #[derive(Drop)]
@@ -85,8 +94,8 @@ impl KeptScene {
         self.layouts.rects()
     }
 
-    /// Brings what is kept up to this scene in a window, and answers the size of the root in pixels. The facts are
-    /// compared with those of the last scene, place by place, and so are the sheets. Styled anew are the nodes of which
+    /// Brings what is kept up to this scene in a window. The facts are compared with those of the last scene, place by
+    /// place, and so are the sheets. Styled anew are the nodes of which
     /// the facts for style are others, and all below them; measured anew are those that are laid out by other facts or
     /// another look, and all above them. All nodes are where there was no last scene, where other nodes stood or hung
     /// elsewhere, or where the sheets are others. After want of memory nothing is kept: the next scene is made afresh.
@@ -96,12 +105,13 @@ impl KeptScene {
         scene: Scene<'_>,
         window: Option<(u32, u32)>,
         work: &mut Work<L>,
-    ) -> Result<(u32, u32), AllocError>
+    ) -> Result<Brought, AllocError>
         requires { IsScene (seen scene) }
         ensures looks { OnOk result (self.new.styles.looks ≡ looks_of (seen scene.entry)) }
         ensures layout { OnOk result
             (IsLayout scene.entry.boxes.now (looks_of (seen scene.entry)) window self.new.layout) }
-        ensures size { IfOk result (λ size. size ≡ root_size self.new.layout) }
+        ensures size { IfOk result (λ told. told.size ≡ root_size self.new.layout) }
+        ensures marks { IfOk result (λ told. AreOthersMarked self.old.last (seen scene.entry) told.marks.items) }
         ensures last { OnOk result (self.new.last ≡ Some (seen scene.entry)) }
         ensures err { OnErr result (self.new.last ≡ None) }
         ensures evaluated { OnOk result (work.new.evaluated ≡ work.old.evaluated) }
@@ -115,7 +125,7 @@ impl KeptScene {
         let last = self.last.take();
         let touched = touched_since(alloc, lent(&last), scene)?;
         let next = next_scene(alloc, last, scene, &touched)?;
-        let size = bring_up(
+        let told = bring_up(
             alloc,
             &mut self.styles,
             &mut self.layouts,
@@ -125,11 +135,11 @@ impl KeptScene {
             work,
         )?;
         self.last = Some(next);
-        Ok(size)
+        Ok(told)
     }
 }
 
-/// Brings styles and layout of the last scene up to this one, and answers the size of the root.
+/// Brings styles and layout of the last scene up to this one.
 fn bring_up<L: Ledgers>(
     alloc: Global,
     styles: &mut Styles,
@@ -138,15 +148,15 @@ fn bring_up<L: Ledgers>(
     touched: Touched,
     window: Option<(u32, u32)>,
     work: &mut Work<L>,
-) -> Result<(u32, u32), AllocError>
+) -> Result<Brought, AllocError>
     requires scene { IsScene (seen scene) }
     requires each { length touched.boxes.items ≡ length scene.boxes.now }
     ensures brought { (last : Maybe SceneValue)
         → Agrees (record { styles = styles.old; layout = layouts.old; last = last })
         → AreTouched last (seen scene.entry) touched.styles.items touched.boxes.items
-        → OnOk result (IsBrought last (seen scene.entry) window layouts.old styles.new layouts.new work.old.styled
-        work.new.styled work.old.laid work.new.laid) }
-    ensures size { IfOk result (λ size. size ≡ root_size layouts.new) }
+        → IfOk result (λ told. IsBrought last (seen scene.entry) window layouts.old styles.new layouts.new
+        told.marks.items work.old.styled work.new.styled work.old.laid work.new.laid) }
+    ensures size { IfOk result (λ told. told.size ≡ root_size layouts.new) }
     ensures evaluated { OnOk result (work.new.evaluated ≡ work.old.evaluated) }
     ensures painted { OnOk result (work.new.painted ≡ work.old.painted) }
 {
@@ -166,7 +176,7 @@ fn bring_up<L: Ledgers>(
         places.as_slice(),
         work,
     )?;
-    Ok(size)
+    Ok(Brought { size, marks })
 }
 
 /// Styles the touched nodes anew and all below them, and answers marks of these.

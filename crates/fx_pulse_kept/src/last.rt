@@ -8,6 +8,7 @@ ghost use Rattle.fx_pulse_model.specs.Scenes.{IsScene};
 ghost use Rattle.fx_pulse_touched.specs.Sights.{seen};
 ghost use Rattle.fx_pulse_touched.specs.Touched.{AreTouched};
 
+use crate::following::Follow;
 use fx_base::{Duplicate, List};
 use fx_css_types::SheetAt;
 use fx_kinds::{BoxFacts, StyleFacts};
@@ -36,7 +37,7 @@ impl LastScene {
         }
     }
 
-    /// Keeps the next scene in place of this one: only facts that are touched are copied, unless all are.
+    /// Keeps the next scene in place of this one: of facts that are touched only what differs is copied, unless all are.
     fn followed(
         self,
         alloc: Global,
@@ -124,7 +125,7 @@ fn copied<T: Duplicate>(alloc: Global, items: &[T]) -> Result<List<T>, AllocErro
 }
 
 /// These items, of which those that aren't marked are kept already.
-fn caught_up<T: Duplicate>(
+fn caught_up<T: Follow>(
     alloc: Global,
     kept: List<T>,
     items: &[T],
@@ -144,17 +145,11 @@ fn caught_up<T: Duplicate>(
     Ok(List::from_vec(all))
 }
 
-fn put<T: Duplicate>(
-    alloc: Global,
-    all: &mut Vec<T>,
-    item: &T,
-    place: usize,
-) -> Result<(), AllocError>
+fn put<T: Follow>(alloc: Global, all: &mut Vec<T>, item: &T, place: usize) -> Result<(), AllocError>
     requires { place < length all.old.items }
     ensures { OnOk result (all.new.items ≡ slice_set all.old.items place item.now) }
 {
-    all[place] = item.duplicate(alloc)?;
-    Ok(())
+    all[place].follow(alloc, item)
 }
 
 fn flag_at(flags: &[bool], place: usize) -> bool

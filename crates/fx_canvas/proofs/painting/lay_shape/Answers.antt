@@ -7,6 +7,11 @@ use Rattle.fx_picture.specs.Shapes.{bounds}
 use Rattle.fx_picture.specs.declared.edges.Bounds.{Bounds}
 use Rattle.fx_canvas.proofs.painting.lay_shape.Goals as goal
 
+pub returns-then-is_clipped_away : goal.returns-then-is_clipped_away
+returns-then-is_clipped_away g c =
+    area_none c.args.area c.args.shape.now c.args.rows.now c.args.painted.now
+    (c.is_clipped_away.ensures c.if-is_clipped_away.true)
+
 pub returns-then-is_empty : goal.returns-then-is_empty
 returns-then-is_empty g c =
     let cut : c.meeting-cut.result ≡ meet c.args.area (bounds c.args.shape.now) = c.meeting-cut.ensures ∙ ap (meet c.args.area) c.bounds.ensures in

@@ -4,33 +4,62 @@ use Rattle.fx_pulse_kept.specs.Keeping.{Keeping}
 use Rattle.fx_pulse_touched.specs.Sights.{seen}
 use Rattle.fx_pulse_touched.specs.Touched.{IsUntouched}
 use Rattle.fx_pulse_model.specs.Frames.{frame_damage}
-use Rattle.fx_pulse.specs.Rendering.{IsDrawn, Rendering, last_frame, surface_of}
-use Rattle.fx_pulse.proofs.CurrentLemmas.{no_work, undamaged}
+use Rattle.fx_pulse.specs.Editing.{entries_after}
+use Rattle.fx_pulse.specs.Rendering.{IsCurrent, IsDrawn, Rendering, last_frame, surface_of}
+use Rattle.fx_pulse.proofs.CurrentLemmas.{no_work, undamaged, was_shown, whole_where_other}
 use Rattle.fx_pulse.proofs.ShowLemmas.{births_of, both_ok, rises_of, sized}
 use Rattle.fx_pulse.proofs.renderer.Renderer.pulse.Goals as goal
+
+pub made_of-requires-clause-before : goal.made_of-requires-clause-before
+made_of-requires-clause-before g c =
+    let r : Rendering = record {
+      canvas = c.self.inside.canvas;
+      picture = c.self.inside.picture.entries;
+      rects = c.self.inside.rects.items;
+      kept = c.self.inside.kept;
+    } in
+    was_shown c.take-drawn.result r c.frame_before-before.result
+    (subst (λ o. IsCurrent o r) (sym c.take-drawn.ensures.value) c.self.invariant.1) c.frame_before-before.ensures
+
+pub show_first-requires-clause-whole : goal.show_first-requires-clause-whole
+show_first-requires-clause-whole g c =
+    let made = c.in_ok-made.made in
+    whole_where_other c.take-drawn.result
+    (record {
+      canvas = c.self.inside.canvas;
+      picture = c.self.inside.picture.entries;
+      rects = c.self.inside.rects.items;
+      kept = c.self.inside.kept;
+    })
+    c.frame_before-before.result made.width made.height made.next c.frame_before-before.ensures
+    c.in_ok-made.ensures.same_size (sym c.has_size.ensures ∙ c.if-has_size.false)
 
 pub show_next-requires-clause-rises : goal.show_next-requires-clause-rises
 show_next-requires-clause-rises g c =
     let made = c.in_ok-made.made in
-    rises_of (seen c.args.scene) c.args.window made.width made.height made.rects.items made.picture.entries
+    rises_of (seen c.args.scene) c.args.window made.width made.height made.rects.items
+    (entries_after made.next c.self.inside.picture.entries)
     c.requires.scene c.in_ok-made.ensures.frame
 
 pub show_next-requires-clause-births : goal.show_next-requires-clause-births
 show_next-requires-clause-births g c =
     let made = c.in_ok-made.made in
-    births_of (seen c.args.scene) c.args.window made.width made.height made.rects.items made.picture.entries
+    births_of (seen c.args.scene) c.args.window made.width made.height made.rects.items
+    (entries_after made.next c.self.inside.picture.entries)
     c.requires.scene c.in_ok-made.ensures.frame
 
 pub show_first-requires-clause-rises : goal.show_first-requires-clause-rises
 show_first-requires-clause-rises g c =
     let made = c.in_ok-made.made in
-    rises_of (seen c.args.scene) c.args.window made.width made.height made.rects.items made.picture.entries
+    rises_of (seen c.args.scene) c.args.window made.width made.height made.rects.items
+    (entries_after made.next c.self.inside.picture.entries)
     c.requires.scene c.in_ok-made.ensures.frame
 
 pub show_first-requires-clause-births : goal.show_first-requires-clause-births
 show_first-requires-clause-births g c =
     let made = c.in_ok-made.made in
-    births_of (seen c.args.scene) c.args.window made.width made.height made.rects.items made.picture.entries
+    births_of (seen c.args.scene) c.args.window made.width made.height made.rects.items
+    (entries_after made.next c.self.inside.picture.entries)
     c.requires.scene c.in_ok-made.ensures.frame
 
 pub returns-then-has_size-clause-still : goal.returns-then-has_size-clause-still
@@ -46,8 +75,8 @@ returns-then-has_size-clause-still g c =
     ))
     c.show_next.ensures.frame c.show_next.ensures.work
 
-pub returns-else-has_size-clause-still : goal.returns-else-has_size-clause-still
-returns-else-has_size-clause-still g c =
+pub returns-clause-still : goal.returns-clause-still
+returns-clause-still g c =
     both_ok c.show_first.result _ _ _
     (λ frame shown same untouched size.
     let few = c.in_ok-made.ensures.still

@@ -1,5 +1,6 @@
 pub mod CodeLemmas
 pub mod DepthLemmas
+pub mod DraftLemmas
 pub mod FactsLemmas
 pub mod LawLemmas
 pub mod LoopLemmas

@@ -1,22 +1,18 @@
 -- Lists that are made piece by piece.
-use Rattle.std.proofs.Common.{◌≡◌, ◌∙◌, ◌<◌, ◌≤◌, ◌+◌, ◌-◌, ℕ, suc, List, [], ◌∷◌, ◌++◌, add-one, append_assoc, arith, drop, drop-cons, get_or, length, map, sym, ap}
+use Rattle.std.proofs.Common.{◌≡◌, ◌∙◌, ◌<◌, ◌≤◌, ◌+◌, ◌-◌, ◌&&◌, ℕ, suc, Bool, true, false, cond, List, [], ◌∷◌, ◌++◌, add-one, append_assoc, arith, drop, drop-cons, filter, get_or, length, map, refl, sym, ap}
 use Rattle.std.specs.Prelude.{option_to_list}
 use Rattle.std.specs.List.{range_with_len}
 use Rattle.std.proofs.Math.ListN.{get_or-map}
-use Rattle.std.proofs.lemmas.List.{append-nil, drop_all, length-map}
-use Rattle.fx_base.specs.declared.keys.NodeKey.{NodeKey}
+use Rattle.std.proofs.lemmas.List.{append-nil, drop_all, length-map, nil_from_length}
 use Rattle.fx_handles.proofs.Given.{range_with_len-suc}
 use Rattle.fx_graph_model.specs.declared.entries.Entry.{Entry}
+use Rattle.fx_graph_model.specs.Unread.{marked}
 use Rattle.fx_kinds.specs.declared.classes.Class.{Class}
 use Rattle.fx_kinds.specs.declared.property_table.Property.{Property}
 use Rattle.fx_kinds.specs.Listing.{listed_property}
 use Rattle.fx_kinds.specs.Properties.{ListedProperty, properties_of}
-use Rattle.fx_stage_model.specs.World.{World}
-use Rattle.fx_stage_facts.specs.declared.stands.Stand.{Stand}
 use Rattle.fx_stage_facts.specs.Attached.{displayed_from, is_displayed, one_if}
-use Rattle.fx_stage_facts.specs.Sheets.{sheets_at}
-use Rattle.fx_stage_facts.specs.Stands.{stand_of, stands_from}
-use Rattle.fx_stage_facts.specs.Styles.{code_of, codes_from, style_at, styles_from}
+use Rattle.fx_stage_facts.specs.Styles.{code_of, codes_from}
 
 -- a piece goes from what is left to what is done
 pub piece_done : {X : Type 0} (done now piece left more whole : List X) → now ≡ done ++ piece → left ≡ piece ++ more
@@ -29,6 +25,10 @@ pub all_done : {X Y : Type 0} (done whole : List X) (from : List Y → List X) (
     → done ++ from (drop (length ys) ys) ≡ whole → done ≡ whole
 all_done done whole from ys none so_far =
     sym (append-nil done) ∙ ap (λ xs. done ++ xs) (sym (ap from (drop_all (length ys) ys (omega arith)) ∙ none)) ∙ so_far
+
+-- nothing is put behind the others
+pub none_put : {X Y : Type 0} (f : X → Y) (ys : List Y) (xs : List X) → length xs ≡ 0 → ys ≡ ys ++ map f xs
+none_put f ys xs none = sym (ap (λ zs. ys ++ map f zs) (nil_from_length xs none) ∙ append-nil ys)
 
 pub next_left : {X : Type 0} (xs : List X) (place : ℕ) (d : X) → place < length xs
     → drop place xs ≡ get_or xs place d ∷ drop (place + 1) xs
@@ -50,13 +50,36 @@ row_left class list place d are within =
     next_left (properties_of class) place (listed_property d) (omega (arith, within, long))
     ∙ ap (λ (p : ListedProperty). p ∷ drop (place + 1) (properties_of class)) (row_at class list place d are)
 
-pub displayed_next : (first : ℕ) (ps : List ListedProperty) (place : ℕ) (row : ListedProperty)
+displayed_next : (first : ℕ) (ps : List ListedProperty) (place : ℕ) (row : ListedProperty)
     → drop place ps ≡ row ∷ drop (place + 1) ps
     → displayed_from (first + place) (drop place ps)
     ≡ one_if (is_displayed row.name) (first + place) ++ displayed_from (first + (place + 1)) (drop (place + 1) ps)
 displayed_next first ps place row is =
     ap (displayed_from (first + place)) is
     ∙ ap (λ (n : ℕ). one_if (is_displayed row.name) (first + place) ++ displayed_from n (drop (place + 1) ps)) (omega arith)
+
+-- of a row that a frame reads, or doesn't, its name is left if it is unread
+left_first : (test : ℕ → Bool) (displayed : Bool) (name : ℕ) (rest : List ℕ)
+    → filter test (one_if displayed name ++ rest) ≡ one_if (test name && displayed) name ++ filter test rest
+left_first test true name rest = by_test (test name)
+  where
+    by_test : (b : Bool) → cond b (name ∷ filter test rest) (filter test rest) ≡ one_if (b && true) name ++ filter test rest
+    by_test true = refl
+    by_test false = refl
+left_first test false name rest = by_test (test name)
+  where
+    by_test : (b : Bool) → filter test rest ≡ one_if (b && false) name ++ filter test rest
+    by_test true = refl
+    by_test false = refl
+
+pub unread_next : (unread : List Bool) (first : ℕ) (ps : List ListedProperty) (place : ℕ) (row : ListedProperty)
+    → drop place ps ≡ row ∷ drop (place + 1) ps
+    → filter (marked unread) (displayed_from (first + place) (drop place ps))
+    ≡ one_if (marked unread (first + place) && is_displayed row.name) (first + place)
+    ++ filter (marked unread) (displayed_from (first + (place + 1)) (drop (place + 1) ps))
+unread_next unread first ps place row is =
+    ap (filter (marked unread)) (displayed_next first ps place row is)
+    ∙ left_first (marked unread) (is_displayed row.name) (first + place) (displayed_from (first + (place + 1)) (drop (place + 1) ps))
 
 pub codes_next : (entries : List Entry) (first : ℕ) (ps : List ListedProperty) (place : ℕ) (row : ListedProperty)
     → drop place ps ≡ row ∷ drop (place + 1) ps
@@ -67,23 +90,6 @@ codes_next entries first ps place row is =
     ∙ ap
     (λ (n : ℕ). option_to_list (code_of entries (first + place) row.styled) ++ codes_from entries n (drop (place + 1) ps))
     (omega arith)
-
--- nodes
-
-pub stands_next : (world : World) (stands now : List Stand) (keys : List NodeKey) (place : ℕ) (d : NodeKey)
-    → place < length keys → now ≡ stands ++ stand_of world stands (get_or keys place d) ∷ []
-    → stands_from world now (drop (place + 1) keys) ≡ stands_from world stands (drop place keys)
-stands_next world stands now keys place d within made =
-    ap (λ (ss : List Stand). stands_from world ss (drop (place + 1) keys)) made
-    ∙ sym (ap (stands_from world stands) (next_left keys place d within))
-
-pub styles_next : (world : World) (start end : ℕ) (stands : List Stand) (place : ℕ) (d : Stand) → place < length stands
-    → end ≡ start + length (sheets_at world.graph (get_or stands place d))
-    → styles_from world start (drop place stands)
-    ≡ style_at world start (get_or stands place d) ∷ styles_from world end (drop (place + 1) stands)
-styles_next world start end stands place d within ends =
-    ap (styles_from world start) (next_left stands place d within)
-    ∙ ap (λ (n : ℕ). style_at world start (get_or stands place d) ∷ styles_from world n (drop (place + 1) stands)) (sym ends)
 
 -- places
 

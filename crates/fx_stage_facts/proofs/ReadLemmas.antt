@@ -1,17 +1,20 @@
 -- What a frame reads: each property is one of its node's, so it is known, and it isn't unread once it was read.
-use Rattle.std.proofs.Common.{◌≡◌, ◌∙◌, ◌<◌, ◌+◌, ◌&&◌, ℕ, zero, suc, Bool, true, false, not, List, [], ◌∷◌, ◌++◌, All, Contains, arith, get_or, length, Option, Some, None, refl, sym, subst, inl, inr, true≢false}
+use Rattle.std.proofs.Common.{◌≡◌, ◌∙◌, ◌<◌, ◌≤◌, ◌+◌, ◌&&◌, ℕ, zero, suc, Bool, true, false, not, List, [], ◌∷◌, ◌++◌, All, Contains, arith, filter, get_or, length, Option, Some, None, refl, sym, ap, subst, inl, inr, true≢false}
 use Rattle.std.specs.List.{flat_map}
-use Rattle.std.proofs.lemmas.List.Elements.{All-append, All-contains_itself, All-cons, All-head, All-nil, All-tail, All-weaker, Contains-append_cases, Contains-append_left, Contains-append_right, Contains-push_cases}
+use Rattle.std.proofs.lemmas.List.Elements.{All-append, All-contains_itself, All-cons, All-filter, All-head, All-nil, All-tail, All-weaker, Contains-append_cases, Contains-append_left, Contains-append_right, Contains-push_cases, filter-append}
+use Rattle.std.proofs.lemmas.Bool.{false_from_ne_true}
 use Rattle.std.proofs.lemmas.List.FromFn.{get_or-range_with_len, length-range_with_len}
 use Rattle.fx_base.specs.Names.{numbers}
 use Rattle.fx_base.specs.declared.keys.Name.{Name}
 use Rattle.fx_base.specs.declared.keys.NodeKey.{NodeKey}
 use Rattle.fx_graph_model.specs.declared.entries.Entry.{Entry}
 use Rattle.fx_graph_model.specs.Changes.{AreKnown}
-use Rattle.fx_graph_model.specs.Unread.{after_reads, is_reached, marked}
-use Rattle.fx_graph_model.specs.Uses.{unknown_in}
-use Rattle.fx_graph_model.proofs.ManyReads.{marked-reads, reached-at}
-use Rattle.fx_graph_model.proofs.Walks.{leads-refl}
+use Rattle.fx_graph_model.specs.Unread.{IsClosed, after_reads, evaluations_of, is_reached, marked}
+use Rattle.fx_graph_model.specs.Uses.{leads, unknown_in}
+use Rattle.fx_graph_model.proofs.Flags.{same_test}
+use Rattle.fx_graph_model.proofs.ManyReads.{evaluations_more, length-reads, marked-reads, reached-at, reached-from, reached-more, reads_by}
+use Rattle.fx_graph_model.proofs.Members.{contains_filter, filter_contains}
+use Rattle.fx_graph_model.proofs.Walks.{leads-down, leads-refl}
 use Rattle.fx_kinds.specs.Properties.{ListedProperty, properties_of}
 use Rattle.fx_stage_types.specs.declared.node_data.NodeData.{NodeData}
 use Rattle.fx_stage_types.specs.Tables.{NodeTable, data_of}
@@ -20,6 +23,7 @@ use Rattle.fx_stage_model.specs.Sound.{IsSound}
 use Rattle.fx_stage_model.specs.World.{World}
 use Rattle.fx_stage_facts.specs.Attached.{attached_keys, display_names, displayed_from, displayed_in, displayed_of, is_displayed, looked, one_if}
 use Rattle.fx_stage_facts.specs.Reads.{AreRead, IsReadAt}
+use Rattle.fx_stage_facts.specs.Unread.{unread_in, unread_of}
 
 -- elements
 
@@ -75,6 +79,15 @@ owned (Some node) n there =
       get_or-range_with_len node.first (length (properties_of node.class)) one.0 n one.1 ∙ one.2,
     )
 
+-- those that are unread
+
+unread_is : (unread : List Bool) (table : NodeTable) (keys : List NodeKey)
+    → unread_of unread table keys ≡ filter (marked unread) (displayed_of table keys)
+unread_is unread table [] = refl
+unread_is unread table (key ∷ keys) =
+    ap (λ (ns : List ℕ). unread_in unread (data_of table key) ++ ns) (unread_is unread table keys)
+    ∙ sym (filter-append (marked unread) (displayed_in (data_of table key)) (displayed_of table keys))
+
 -- so all are known
 
 module _ (entries : List Entry) (table : NodeTable) (free : List (List ℕ × Name)) (sound : IsSound entries table free) where
@@ -96,9 +109,67 @@ module _ (entries : List Entry) (table : NodeTable) (free : List (List ℕ × Na
       (All-head (λ (n : ℕ). unknown_in entries n ≡ false) name.0 (numbers names) all)
       (unnumbered names (All-tail (λ (n : ℕ). unknown_in entries n ≡ false) name.0 (numbers names) all))
 
-  pub names_known : (keys : List NodeKey) (names : List Name) → numbers names ≡ displayed_of table keys → AreKnown entries names
-  names_known keys names are =
-      unnumbered names (subst (λ (ns : List ℕ). All (λ (n : ℕ). unknown_in entries n ≡ false) ns) (sym are) (known_all keys))
+  pub unread_known : (unread : List Bool) (keys : List NodeKey) (names : List Name) → numbers names ≡ unread_of unread table keys
+      → AreKnown entries names
+  unread_known unread keys names are =
+      unnumbered names
+      (subst (λ (ns : List ℕ). All (λ (n : ℕ). unknown_in entries n ≡ false) ns) (sym (are ∙ unread_is unread table keys))
+      (All-filter (marked unread) (λ (n : ℕ). unknown_in entries n ≡ false) (displayed_of table keys) (known_all keys)))
+
+-- reads of those that are unread are reads of all
+
+under_mark : (mark one other : Bool) → (mark ≡ true → one ≡ other) → (mark && not one) ≡ (mark && not other)
+under_mark true one other same = ap not (same refl)
+under_mark false one other same = refl
+
+true_from_ne_false : (b : Bool) → (b ≡ false → ⊥) → b ≡ true
+true_from_ne_false true not_false = refl
+true_from_ne_false false not_false = absurd (not_false refl)
+
+module _ (entries : List Entry) (unread : List Bool) (closed : IsClosed entries unread) (names : List ℕ) where
+  -- who reaches an unread one is unread
+  unread_up : (name other : ℕ) → leads entries name other ≡ true → marked unread other ≡ true → marked unread name ≡ true
+  unread_up name other reaches on =
+      true_from_ne_false (marked unread name)
+      (λ off.
+      true≢false
+      (sym on
+      ∙ leads-down entries (λ (k : ℕ). marked unread k ≡ false) name other off
+      (λ a o uses fails. false_from_ne_true (marked unread o) (λ up. true≢false (sym (closed a o uses up) ∙ fails))) reaches))
+
+  reached_left : (other : ℕ) → marked unread other ≡ true
+      → is_reached entries (filter (marked unread) names) other ≡ is_reached entries names other
+  reached_left other on =
+      same_test (is_reached entries (filter (marked unread) names) other) (is_reached entries names other)
+      (reached-more entries (filter (marked unread) names) names other (λ n there. (filter_contains (marked unread) names n there).0))
+      (λ reached.
+      let from = reached-from entries names other reached in
+      reached-at entries (filter (marked unread) names) from.0 other
+      (contains_filter (marked unread) names from.0 from.1 (unread_up from.0 other from.2 on)) from.2)
+
+  reads_left : after_reads entries (filter (marked unread) names) unread ≡ after_reads entries names unread
+  reads_left =
+      reads_by entries names unread (after_reads entries (filter (marked unread) names) unread)
+      (length-reads entries (filter (marked unread) names) unread)
+      (λ other.
+      marked-reads entries (filter (marked unread) names) unread other
+      ∙ under_mark (marked unread other) (is_reached entries (filter (marked unread) names) other) (is_reached entries names other)
+      (reached_left other))
+
+module _ (entries : List Entry) (table : NodeTable) (unread : List Bool) where
+  pub unread_reads : IsClosed entries unread → (keys : List NodeKey) (names : List ℕ) → names ≡ unread_of unread table keys
+      → after_reads entries names unread ≡ after_reads entries (displayed_of table keys) unread
+  unread_reads closed keys names are =
+      ap (λ (ns : List ℕ). after_reads entries ns unread) (are ∙ unread_is unread table keys)
+      ∙ reads_left entries unread closed (displayed_of table keys)
+
+  pub unread_cost : (keys : List NodeKey) (names : List ℕ) → names ≡ unread_of unread table keys
+      → evaluations_of entries names unread ≤ evaluations_of entries (displayed_of table keys) unread
+  unread_cost keys names are =
+      evaluations_more entries names (displayed_of table keys) unread
+      (λ n there.
+      (filter_contains (marked unread) (displayed_of table keys) n
+      (subst (λ (ns : List ℕ). Contains ns n) (are ∙ unread_is unread table keys) there)).0)
 
 -- and none is unread once it was read
 

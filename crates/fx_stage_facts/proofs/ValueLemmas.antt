@@ -74,13 +74,14 @@ value_kept store node property n read displayed is =
 
 -- a property by its place in the class's list
 
-pub found_at : (node : NodeData) (property : List ℕ) (o : Option ℕ) → o ≡ position (named property) (properties_of node.class)
+pub found_at : (node : NodeData) (property : List ℕ) (o : Option ℕ) → o ≡ place_of node.class property
     → option_map (λ (place : ℕ). node.first + place) o ≡ property_in (Some node) property
-unfolding property_in place_of
+unfolding property_in
 found_at node property o is = ap (λ (p : Option ℕ). option_map (λ (place : ℕ). node.first + place) p) is
 
 pub small_place : (class : Class) (property : List ℕ) (o : Option ℕ) (place : ℕ)
-    → o ≡ position (named property) (properties_of class) → o ≡ Some place → place < 100
+    → o ≡ place_of class property → o ≡ Some place → place < 100
+unfolding place_of
 small_place class property o place is found =
     let there = position-Some (named property) (properties_of class) place some_property (sym is ∙ found) in
     omega (arith, there.0, few_rows class, length-map (rows_of class) listed)

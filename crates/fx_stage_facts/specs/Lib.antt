@@ -1,10 +1,13 @@
 pub mod Attached
 pub mod Boxes
+pub mod Drafts
 pub mod Laws
+pub mod Places
 pub mod Publishing
 pub mod Reads
 pub mod Scenes
 pub mod Sheets
 pub mod Stands
 pub mod Styles
+pub mod Unread
 pub mod Values

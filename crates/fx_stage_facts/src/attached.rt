@@ -1,16 +1,19 @@
 //! The nodes that stand in the scene, and the properties that a frame reads of them.
-ghost use Rattle.std.specs.Prelude.{◌≡◌, ◌≤◌, ◌++◌, IfOk, OnOk, Some, true};
+ghost use Rattle.std.specs.Prelude.{◌≡◌, ◌≤◌, ◌++◌, ◌&&◌, IfOk, OnOk, Some, true};
 ghost use Rattle.fx_base.specs.Names.{numbers};
+ghost use Rattle.fx_graph_model.specs.Unread.{marked};
 ghost use Rattle.fx_base.specs.declared.keys.NodeKey.{NodeKey as Key};
 ghost use Rattle.fx_stage_types.specs.Tables.{data_of};
 ghost use Rattle.fx_stage_types.specs.declared.node_data.NodeData.{NodeData as Data};
 ghost use Rattle.fx_tree.specs.Scene.{IsSound, is_once, subtree};
 ghost use Rattle.fx_stage_facts.specs.Attached as spec;
+ghost use Rattle.fx_stage_facts.specs.Unread.{unread_in, unread_of};
 
 use fx_base::{Name, NodeKey};
 use fx_kinds::properties;
 use fx_stage_graph::Graph;
 use fx_stage_types::NodeData;
+use fx_store::Store;
 use fx_tree::Tree;
 use std::alloc::{AllocError, Global};
 
@@ -55,32 +58,42 @@ fn push_if(names: &mut Vec<Name>, so: bool, name: Name) -> Result<(), AllocError
     Ok(())
 }
 
-/// Puts the properties of a node that a frame reads behind the names.
-fn push_displayed(names: &mut Vec<Name>, node: &NodeData) -> Result<(), AllocError>
+/// Does a frame read the property of this name, and is it unread?
+#[inline]
+fn is_left(store: &Store, name: Name, property: &str) -> bool
+    ensures { result ≡ (marked store.now.unread name.0 && spec.is_displayed property.now) }
+{
+    store.is_unread(name) && is_displayed(property)
+}
+
+/// Puts those properties of a node that a frame reads, and that are unread, behind the names.
+fn push_unread(names: &mut Vec<Name>, store: &Store, node: &NodeData) -> Result<(), AllocError>
     requires { node.now.first ≤ 4000000 }
-    ensures { OnOk result (numbers names.new.items ≡ numbers names.old.items ++ spec.displayed_in (Some node.now)) }
+    ensures { OnOk result (numbers names.new.items
+        ≡ numbers names.old.items ++ unread_in store.now.unread (Some node.now)) }
 {
     for (place, row) in properties(node.class).iter().enumerate() {
         let name = Name(node.first + place as u32);
-        push_if(names, is_displayed(row.name), name)?;
+        push_if(names, is_left(store, name, row.name), name)?;
     }
     Ok(())
 }
 
-/// The properties that a frame reads of these nodes.
-pub(crate) fn display_names(
+/// Those properties of these nodes that a frame reads, and that are unread.
+pub(crate) fn unread_names(
     alloc: Global,
     graph: &Graph,
+    store: &Store,
     keys: &[NodeKey],
 ) -> Result<Vec<Name>, AllocError>
     requires low { (key : Key) (node : Data) → data_of graph.now.table key ≡ Some node → node.first ≤ 4000000 }
-    ensures { IfOk result (λ names. numbers names.items ≡ spec.displayed_of graph.now.table keys.now) }
+    ensures { IfOk result (λ names. numbers names.items ≡ unread_of store.now.unread graph.now.table keys.now) }
 {
     let mut names = Vec::new(alloc);
     for key in keys {
         match graph.node(*key) {
             None => {}
-            Some(node) => push_displayed(&mut names, node)?,
+            Some(node) => push_unread(&mut names, store, node)?,
         }
     }
     Ok(names)

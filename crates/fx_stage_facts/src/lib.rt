@@ -4,8 +4,10 @@
 
 mod attached;
 mod boxes;
+mod drafts;
 mod facts;
 mod laws;
+mod places;
 mod publishing;
 mod sheets;
 mod stands;

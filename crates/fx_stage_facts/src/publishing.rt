@@ -3,10 +3,13 @@ ghost use Rattle.std.specs.Prelude.{◌≡◌, ◌≤◌, ◌+◌, ◌++◌, IfO
 ghost use Rattle.fx_stage_types.specs.Tables.{data_of};
 ghost use Rattle.fx_stage_types.specs.declared.node_data.NodeData.{NodeData as Data};
 ghost use Rattle.fx_base.specs.declared.keys.NodeKey.{NodeKey as Key};
+ghost use Rattle.fx_stage_facts.specs.Places.{name_of};
 ghost use Rattle.fx_stage_facts.specs.Publishing as spec;
 
+use crate::places::{Asked, Places};
 use crate::values::name_in;
 use fx_base::{Kind, Ledgers, List, Name, NodeKey, Value, Work};
+use fx_kinds::Class;
 use fx_stage::Stage;
 use fx_stage_types::{NodeData, Outcome};
 use fx_store::Store;
@@ -29,12 +32,13 @@ fn is_size(store: &Store, name: Name) -> bool
     store.is_read_only(name) && is_number(store.kind(name))
 }
 
-/// The node's property of this name, if it is such a number.
-fn size_named(store: &Store, node: &NodeData, property: &str) -> Option<Name>
-    requires { node.now.first ≤ 4000000 }
-    ensures { result ≡ spec.size_named store.now.entries node.now property.now }
+/// The node's property, if it is such a number.
+fn size_named(store: &Store, places: &Places, node: &NodeData, asked: Asked) -> Option<Name>
+    requires class { places.now ≡ node.now.class }
+    requires low { node.now.first ≤ 4000000 }
+    ensures { result ≡ spec.size_named store.now.entries node.now (name_of asked) }
 {
-    match name_in(node, property) {
+    match name_in(places, node, asked) {
         None => None,
         Some(name) => if_size(store, name),
     }
@@ -50,19 +54,21 @@ fn if_size(store: &Store, name: Name) -> Option<Name>
     }
 }
 
-/// Puts the node's property of this name behind the others, with this length.
+/// Puts the node's property behind the others, with this length.
 fn push_pair(
     pairs: &mut Vec<(Name, Value)>,
     store: &Store,
+    places: &Places,
     node: &NodeData,
-    property: &str,
+    asked: Asked,
     length: i64,
 ) -> Result<(), AllocError>
-    requires { node.now.first ≤ 4000000 }
+    requires class { places.now ≡ node.now.class }
+    requires low { node.now.first ≤ 4000000 }
     ensures { OnOk result (pairs.new.items
-        ≡ pairs.old.items ++ spec.pair_of store.now.entries node.now property.now length) }
+        ≡ pairs.old.items ++ spec.pair_of store.now.entries node.now (name_of asked) length) }
 {
-    match size_named(store, node, property) {
+    match size_named(store, places, node, asked) {
         None => Ok(()),
         Some(name) => {
             pairs.push((name, Value::Int(length)))?;
@@ -74,22 +80,25 @@ fn push_pair(
 fn push_both(
     pairs: &mut Vec<(Name, Value)>,
     store: &Store,
+    places: &Places,
     node: &NodeData,
     width: i64,
     height: i64,
 ) -> Result<(), AllocError>
-    requires { node.now.first ≤ 4000000 }
+    requires class { places.now ≡ node.now.class }
+    requires low { node.now.first ≤ 4000000 }
     ensures { OnOk result (pairs.new.items
         ≡ pairs.old.items ++ spec.pairs_in store.now.entries width height (Some node.now)) }
 {
-    push_pair(pairs, store, node, "width", width)?;
-    push_pair(pairs, store, node, "height", height)
+    push_pair(pairs, store, places, node, Asked::Width, width)?;
+    push_pair(pairs, store, places, node, Asked::Height, height)
 }
 
 /// Puts the two properties of a node behind the others.
 fn push_size(
     pairs: &mut Vec<(Name, Value)>,
     stage: &Stage,
+    places: &mut Places,
     size: &(NodeKey, i64, i64),
 ) -> Result<(), AllocError>
     requires low { (node : Data) → data_of stage.now.graph.table size.now.0 ≡ Some node → node.first ≤ 4000000 }
@@ -98,7 +107,10 @@ fn push_size(
     let (key, width, height) = *size;
     match stage.graph().node(key) {
         None => Ok(()),
-        Some(node) => push_both(pairs, stage.store(), node, width, height),
+        Some(node) => {
+            places.turn_to(node.class);
+            push_both(pairs, stage.store(), places, node, width, height)
+        }
     }
 }
 
@@ -111,9 +123,10 @@ fn pairs_of(
     requires low { (key : Key) (node : Data) → data_of stage.now.graph.table key ≡ Some node → node.first ≤ 4000000 }
     ensures { IfOk result (λ pairs. pairs.items ≡ spec.pairs_of stage.now sizes.now) }
 {
-    let mut pairs = Vec::new(alloc);
+    let mut places = Places::of(Class::Region);
+    let mut pairs = Vec::with_capacity(alloc, sizes.len().saturating_mul(2))?;
     for size in sizes {
-        push_size(&mut pairs, stage, size)?;
+        push_size(&mut pairs, stage, &mut places, size)?;
     }
     Ok(pairs)
 }

@@ -1,11 +1,10 @@
 //! The style sheets of a scene, each with its origin.
-ghost use Rattle.std.specs.Prelude.{◌≡◌, ◌≤◌, ◌++◌, ◌-◌, IfOk, OnOk, Some, map, length, option_to_list};
+ghost use Rattle.std.specs.Prelude.{◌≡◌, ◌≤◌, ◌++◌, ◌-◌, IfOk, OnOk, Some, map, option_to_list};
 ghost use Rattle.std.specs.List.{range_with_len};
 ghost use Rattle.std.specs.Option.{option_map};
 ghost use Rattle.fx_css_types.specs.declared.sheets.SheetOrigin.TheVariants as origin;
 ghost use Rattle.fx_stage_facts.specs.Sheets as spec;
 
-use crate::stands::Stand;
 use fx_base::{List, NodeKey};
 use fx_css::agent_sheet;
 use fx_css_types::{Sheet, SheetAt, SheetOrigin};
@@ -78,37 +77,37 @@ pub(crate) fn common_sheets(alloc: Global, graph: &Graph) -> Result<Vec<SheetAt>
     Ok(sheets)
 }
 
-/// Puts a node's own sheets behind the others, and then its inline style.
-fn push_own(
+/// Puts copies of a node's own sheets behind the others. Its ancestors are counted only if it has any.
+fn push_parents(
     alloc: Global,
     sheets: &mut Vec<SheetAt>,
-    depth: u32,
-    node: &NodeData,
+    tree: &Tree,
+    key: NodeKey,
+    own: &[Sheet],
 ) -> Result<(), AllocError>
-    ensures { OnOk result (sheets.new.items ≡ sheets.old.items ++ spec.sheets_in depth (Some node.now)) }
+    ensures { OnOk result (sheets.new.items ≡ sheets.old.items
+        ++ map (spec.from_origin (origin.Parent (spec.depth_of tree.now.nodes key))) own.now) }
 {
-    push_copies(
-        alloc,
-        sheets,
-        node.sheets.as_slice(),
-        SheetOrigin::Parent(depth),
-    )?;
-    push_inline(alloc, sheets, &node.inline)
+    if own.is_empty() {
+        return Ok(());
+    }
+    let depth = depth_of(tree, key);
+    push_copies(alloc, sheets, own, SheetOrigin::Parent(depth))
 }
 
-/// Puts the sheets of a node behind the others.
-pub(crate) fn push_sheets(
+/// Puts a node's own sheets behind the others, and then its inline style.
+pub(crate) fn push_own(
     alloc: Global,
     sheets: &mut Vec<SheetAt>,
-    graph: &Graph,
-    stand: Stand,
+    tree: &Tree,
+    key: NodeKey,
+    node: &NodeData,
 ) -> Result<(), AllocError>
-    ensures { OnOk result (sheets.new.items ≡ sheets.old.items ++ spec.sheets_at graph.now stand) }
+    ensures { OnOk result (sheets.new.items
+        ≡ sheets.old.items ++ spec.sheets_in (spec.depth_of tree.now.nodes key) (Some node.now)) }
 {
-    match graph.node(stand.key) {
-        None => Ok(()),
-        Some(node) => push_own(alloc, sheets, depth_of(graph.tree(), stand.key), node),
-    }
+    push_parents(alloc, sheets, tree, key, node.sheets.as_slice())?;
+    push_inline(alloc, sheets, &node.inline)
 }
 
 /// Puts the places from one up to another behind the others.

@@ -1,15 +1,13 @@
 //! Where the nodes of a scene stand among each other.
-ghost use Rattle.std.specs.Prelude.{◌≡◌, [], IfOk, IfSome, Some, true};
+ghost use Rattle.std.specs.Prelude.{◌≡◌, IfSome, Some};
 ghost use Rattle.std.specs.List.{position};
-ghost use Rattle.fx_tree.specs.Scene.{is_once, is_same, parent_of};
-ghost use Rattle.fx_stage_facts.specs.Reads.{AreRead, IsReadAt};
+ghost use Rattle.fx_tree.specs.Scene.{is_same, parent_of};
 ghost use Rattle.fx_stage_facts.specs.Stands as spec;
+ghost use Rattle.fx_stage_facts.specs.Values.{is_set_disabled as disabled_of};
 
-use crate::values::is_set_disabled;
 use fx_base::NodeKey;
 use fx_stage::Stage;
 use fx_tree::Tree;
-use std::alloc::{AllocError, Global};
 
 /// A node in a list: its key, the place of its parent in the list, and whether it or an ancestor is disabled.
 #[derive(Clone, Copy)]
@@ -89,35 +87,16 @@ fn is_disabled_at(stands: &[Stand], parent: Option<usize>) -> bool
     }
 }
 
-/// Where a further node stands.
-fn stand_of(stage: &Stage, stands: &[Stand], key: NodeKey) -> Stand
-    requires read { IsReadAt stage.now key }
+/// Where a further node stands, which is disabled itself or isn't.
+pub(crate) fn stand_of(stage: &Stage, stands: &[Stand], key: NodeKey, own: bool) -> Stand
+    requires own { own ≡ disabled_of stage.now key }
     requires once { spec.AreOnce stands.now }
     ensures { result ≡ spec.stand_of stage.now stands.now key }
 {
     let parent = parent_place(stage.graph().tree(), stands, key);
-    let own = is_set_disabled(stage, key);
     Stand {
         key,
         parent,
         disabled: own || is_disabled_at(stands, parent),
     }
-}
-
-/// Where the nodes of these keys stand, each of which is there once.
-pub(crate) fn stands_of(
-    alloc: Global,
-    stage: &Stage,
-    keys: &[NodeKey],
-) -> Result<Vec<Stand>, AllocError>
-    requires read { AreRead stage.now keys.now }
-    requires once { is_once keys.now ≡ true }
-    ensures { IfOk result (λ stands. stands.items ≡ spec.stands_from stage.now [] keys.now) }
-{
-    let mut stands = Vec::with_capacity(alloc, keys.len())?;
-    for key in keys {
-        let stand = stand_of(stage, stands.as_slice(), *key);
-        stands.push(stand)?;
-    }
-    Ok(stands)
 }

@@ -1,19 +1,19 @@
 //! What the style of each node in a scene hangs on.
-ghost use Rattle.std.specs.Prelude.{◌≡◌, ◌≤◌, ◌+◌, ◌++◌, IfOk, IfSome, OnOk, Some, false, length, option_to_list};
-ghost use Rattle.std.specs.List.{flat_map};
+ghost use Rattle.std.specs.Prelude.{◌≡◌, ◌≤◌, ◌+◌, ◌++◌, ℕ, IfOk, IfSome, None, OnOk, Some, false, length, option_to_list, true};
 ghost use Rattle.std.specs.Option.{option_map};
 ghost use Rattle.fx_graph_model.specs.Uses.{unknown_in};
 ghost use Rattle.fx_graph_model.specs.Unread.{marked};
 ghost use Rattle.fx_kinds.specs.Properties.{properties_of};
-ghost use Rattle.fx_stage_facts.specs.Reads.{AreReadStands, IsRead, IsReadAt};
-ghost use Rattle.fx_stage_facts.specs.Sheets.{common_sheets as common_of, inline_place, sheets_at};
+ghost use Rattle.fx_stage_facts.specs.Reads.{IsRead};
+ghost use Rattle.fx_stage_facts.specs.Sheets.{common_sheets as common_of, inline_place};
 ghost use Rattle.fx_stage_facts.specs.Styles as spec;
 
-use crate::sheets::{places_of, push_sheets};
+use crate::places::{Asked, Places};
+use crate::sheets::places_of;
 use crate::stands::{Stand, is_same};
 use crate::values::text_in;
 use fx_base::{List, Name, NodeKey, Text};
-use fx_css_types::{Sheet, SheetAt};
+use fx_css_types::Sheet;
 use fx_graph_model::Origin;
 use fx_kinds::{Class, StyleFacts, properties};
 use fx_look::{CodeValue, StyleName};
@@ -99,7 +99,20 @@ fn code_with(
     }
 }
 
+/// Did nothing but its declaration give the property its value?
+#[inline]
+fn is_first(store: &Store, name: Name) -> bool
+    requires { unknown_in store.now.entries name.0 ≡ false }
+    ensures { result ≡ true → (style : ℕ) → spec.code_of store.now.entries name.0 (Some style) ≡ None }
+{
+    match store.origin(name) {
+        Some(Origin::Initial) => true,
+        _ => false,
+    }
+}
+
 /// Puts the value by code of a property behind the others, if a declaration styles the property and it has one.
+#[inline]
 fn push_code(
     alloc: Global,
     store: &Store,
@@ -115,6 +128,9 @@ fn push_code(
     let Some(style) = styled else {
         return Ok(());
     };
+    if is_first(store, name) {
+        return Ok(());
+    }
     match code_with(alloc, store, name, style)? {
         None => Ok(()),
         Some(code) => {
@@ -148,7 +164,7 @@ fn inline_place(place: usize, inline: &Option<Sheet>) -> Option<usize>
 }
 
 /// A node that has nothing.
-fn bare_style(alloc: Global, stand: Stand) -> StyleFacts
+pub(crate) fn bare_style(alloc: Global, stand: Stand) -> StyleFacts
     ensures { result ≡ spec.bare_style stand }
 {
     StyleFacts {
@@ -167,20 +183,22 @@ fn bare_style(alloc: Global, stand: Stand) -> StyleFacts
 /// Where the sheets of a node stand: so many count for every node, and its own begin at a place, with so many sheets in
 /// all by now.
 #[derive(Clone, Copy)]
-struct Spot {
-    common: usize,
-    start: usize,
-    end: usize,
+pub struct Spot {
+    pub common: usize,
+    pub start: usize,
+    pub end: usize,
 }
 
 /// The facts of a node that has something.
-fn style_with(
+pub(crate) fn style_with(
     alloc: Global,
     stage: &Stage,
+    places: &Places,
     spot: Spot,
     stand: Stand,
     node: &NodeData,
 ) -> Result<StyleFacts, AllocError>
+    requires class { places.now ≡ node.now.class }
     requires read { IsRead stage.now.store node.now }
     requires room { spot.start + length node.now.sheets ≤ spot.end }
     requires common { spot.common ≡ length (common_of stage.now.graph) }
@@ -191,56 +209,11 @@ fn style_with(
         key: stand.key,
         parent: stand.parent,
         class: node.class,
-        id: text_in(alloc, stage, node, "id")?,
+        id: text_in(alloc, stage, places, node, Asked::Id)?,
         classes: node.classes.copy(alloc)?,
         pseudos: pseudos_of(alloc, stage.graph(), stand, node)?,
         inline: inline_place(end, &node.inline),
         sheets: places_of(alloc, spot.common, stand.parent, spot.start, end)?,
         codes: codes_of(alloc, stage.store(), node)?,
     })
-}
-
-/// The facts of a node.
-fn style_of(
-    alloc: Global,
-    stage: &Stage,
-    spot: Spot,
-    stand: Stand,
-) -> Result<StyleFacts, AllocError>
-    requires read { IsReadAt stage.now stand.key }
-    requires room { spot.start + length (sheets_at stage.now.graph stand) ≤ spot.end }
-    requires common { spot.common ≡ length (common_of stage.now.graph) }
-    ensures { IfOk result (λ facts. facts ≡ spec.style_at stage.now spot.start stand) }
-{
-    match stage.graph().node(stand.key) {
-        None => Ok(bare_style(alloc, stand)),
-        Some(node) => style_with(alloc, stage, spot, stand, node),
-    }
-}
-
-/// The facts of the nodes. Their sheets go behind those that count for every node.
-pub(crate) fn styles_of(
-    alloc: Global,
-    stage: &Stage,
-    sheets: &mut Vec<SheetAt>,
-    stands: &[Stand],
-) -> Result<Vec<StyleFacts>, AllocError>
-    requires read { AreReadStands stage.now stands.now }
-    requires common { sheets.old.items ≡ common_of stage.now.graph }
-    ensures styles { IfOk result (λ styles. styles.items
-        ≡ spec.styles_from stage.now (length sheets.old.items) stands.now) }
-    ensures sheets { OnOk result (sheets.new.items
-        ≡ sheets.old.items ++ flat_map (sheets_at stage.now.graph) stands.now) }
-{
-    let common = sheets.len();
-    let mut styles = Vec::with_capacity(alloc, stands.len())?;
-    for stand in stands {
-        let start = sheets.len();
-        push_sheets(alloc, sheets, stage.graph(), *stand)?;
-        let end = sheets.len();
-        let spot = Spot { common, start, end };
-        let facts = style_of(alloc, stage, spot, *stand)?;
-        styles.push(facts)?;
-    }
-    Ok(styles)
 }

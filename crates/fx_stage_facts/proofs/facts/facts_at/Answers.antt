@@ -1,28 +1,55 @@
-use Rattle.std.proofs.Common.{◌∙◌, List, ap, subst, sym}
+use Rattle.std.proofs.Common.{◌∙◌, List, ap, arith, refl}
+use Rattle.std.specs.Prelude.{◌++◌, drop}
+use Rattle.fx_base.specs.declared.keys.NodeKey.{NodeKey}
 use Rattle.fx_stage_model.specs.Graphs.{Graph}
 use Rattle.fx_stage_facts.specs.declared.stands.Stand.{Stand}
-use Rattle.fx_stage_facts.specs.Reads.{AreReadStands}
 use Rattle.fx_stage_facts.specs.Sheets.{common_sheets}
-use Rattle.fx_stage_facts.proofs.FactsLemmas.{all_stands_read, facts_made}
+use Rattle.fx_stage_facts.specs.Stands.{keys_of, stands_from}
+use Rattle.fx_stage_facts.proofs.DraftLemmas.{draft_next, draft_none, facts_drafted, keys_next, marks_next, stands_next}
+use Rattle.fx_stage_facts.proofs.PlaceLemmas.{once_so_far}
 use Rattle.fx_stage_facts.proofs.facts.facts_at.Goals as goal
 
-pub styles_of-requires-clause-read : goal.styles_of-requires-clause-read
-styles_of-requires-clause-read c =
-    subst (λ (stands : List Stand). AreReadStands c.args.stage.now stands)
-    (sym (c.as_slice.ensures.value ∙ c.in_ok-stands.ensures))
-    (all_stands_read c.args.stage.now c.args.keys.now c.requires.read)
+no_key : NodeKey
+no_key = record { slot = 0; birth = 0 }
 
-pub boxes_of-requires : goal.boxes_of-requires
-boxes_of-requires c =
-    subst (λ (stands : List Stand). AreReadStands c.args.stage.now stands)
-    (sym (c.as_slice-2.ensures.value ∙ c.in_ok-stands.ensures))
-    (all_stands_read c.args.stage.now c.args.keys.now c.requires.read)
+pub loop-key-init : goal.loop-key-init
+loop-key-init c = (
+  ap (λ (ss : List Stand). stands_from c.args.stage.now ss c.args.keys.now) c.in_ok-standing.ensures.stands,
+  ap (λ (ss : List Stand). keys_of ss ++ c.args.keys.now) c.in_ok-standing.ensures.stands,
+  c.in_ok-standing.ensures.marks,
+  draft_none c.args.stage.now c.in_ok-standing.standing.stands.items c.in_ok-draft.draft c.in_ok-standing.ensures.stands
+      (c.in_ok-draft.ensures.sheets ∙ ap (λ (g : Graph). common_sheets g) c.graph.ensures)
+      c.in_ok-draft.ensures.styles c.in_ok-draft.ensures.boxes,
+)
+
+pub push_node-requires-clause-read : goal.push_node-requires-clause-read
+unfolding no_key
+push_node-requires-clause-read c = c.requires.read c.loop-key.key-index no_key c.loop-key-test.true
+
+pub push_node-requires-clause-once : goal.push_node-requires-clause-once
+push_node-requires-clause-once c =
+    once_so_far c.loop-key.standing.stands.items c.loop-key.standing.stands.items c.args.keys.now
+    (drop c.loop-key.key-index c.args.keys.now) refl c.loop-key.invariant.1 c.requires.once
+
+pub loop-key-preserved : goal.loop-key-preserved
+unfolding no_key
+loop-key-preserved c =
+    let world = c.args.stage.now in
+    let keys = c.args.keys.now in
+    let place = c.loop-key.key-index in
+    let stands = c.loop-key.standing.stands.items in
+    let now = c.push_node.new.standing in
+    let put = c.in_ok-push_node.ensures in
+    let within = c.loop-key-test.true in (
+      stands_next world stands now.stands.items keys place no_key within put.stands ∙ c.loop-key.invariant.0,
+      keys_next world stands now.stands.items keys place no_key within put.stands ∙ c.loop-key.invariant.1,
+      marks_next world c.loop-key.standing.marks.items now.marks.items keys place no_key within put.marks c.loop-key.invariant.2,
+      draft_next world stands now.stands.items _ c.loop-key.draft c.push_node.new.draft put.stands put.sheets put.styles put.boxes
+          c.loop-key.invariant.3,
+    )
 
 pub returns : goal.returns
 returns c =
-    facts_made c.args.stage.now c.args.keys.now c.as_slice.result.now c.as_slice-2.result.now c.in_ok-sheets.sheets.items
-    c.from_vec.result c.from_vec-2.result c.from_vec-3.result c.from_vec-4.result c.window.result c.requires.keys
-    (c.as_slice.ensures.value ∙ c.in_ok-stands.ensures) (c.as_slice-2.ensures.value ∙ c.in_ok-stands.ensures)
-    (c.in_ok-sheets.ensures ∙ ap (λ (g : Graph). common_sheets g) c.graph.ensures)
-    (c.from_vec.ensures ∙ c.in_ok-styles.ensures.sheets) (c.from_vec-2.ensures ∙ c.in_ok-styles.ensures.styles)
-    (c.from_vec-3.ensures ∙ c.in_ok-boxes.ensures) (c.from_vec-4.ensures ∙ c.in_ok-disabled.ensures) c.window.ensures
+    c.finished.ensures
+    ∙ facts_drafted c.args.stage.now c.args.keys.now c.loop-key.key-index c.loop-key.standing c.loop-key.draft c.requires.keys
+    (omega (arith, c.loop-key-test.false)) c.loop-key.invariant.0 c.loop-key.invariant.2 c.loop-key.invariant.3

@@ -1,0 +1,167 @@
+//! The lists of a frame's facts while they are made, one node after another, so that each node is looked up once.
+ghost use Rattle.std.specs.Prelude.{◌≡◌, ◌++◌, ◌∷◌, [], IfOk, OnOk, Some, length};
+ghost use Rattle.fx_stage_types.specs.Tables.{data_of};
+ghost use Rattle.fx_stage_facts.specs.Boxes.{bare_box as spec_box, box_at};
+ghost use Rattle.fx_stage_facts.specs.Reads.{IsRead, IsReadAt};
+ghost use Rattle.fx_stage_facts.specs.Sheets.{common_sheets as common_of, sheets_at};
+ghost use Rattle.fx_stage_facts.specs.Stands.{AreOnce, stand_of as next_stand};
+ghost use Rattle.fx_stage_facts.specs.Styles.{bare_style as spec_style, style_at};
+ghost use Rattle.fx_stage_facts.specs.Values.{is_set_disabled};
+
+use crate::boxes::{bare_box, box_with};
+use crate::places::{Asked, Places};
+use crate::sheets::{common_sheets, push_own};
+use crate::stands::{Stand, stand_of};
+use crate::styles::{Spot, bare_style, style_with};
+use crate::values::truth_in;
+use fx_base::NodeKey;
+use fx_css_types::SheetAt;
+use fx_kinds::{BoxFacts, StyleFacts};
+use fx_stage::Stage;
+use fx_stage_graph::Graph;
+use fx_stage_types::NodeData;
+use std::alloc::{AllocError, Global};
+
+/// The facts of the nodes so far, and all sheets.
+#[derive(Drop)]
+pub struct Draft {
+    pub sheets: Vec<SheetAt>,
+    pub styles: Vec<StyleFacts>,
+    pub boxes: Vec<BoxFacts>,
+}
+
+/// Where the nodes so far stand, and which of them are disabled themselves.
+#[derive(Drop)]
+pub struct Standing {
+    pub stands: Vec<Stand>,
+    pub marks: Vec<bool>,
+}
+
+impl Draft {
+    /// No facts, with room for those of so many nodes, and the sheets that count for every node.
+    pub(crate) fn with_room(alloc: Global, graph: &Graph, count: usize) -> Result<Draft, AllocError>
+        ensures sheets { IfOk result (λ draft. draft.sheets.items ≡ common_of graph.now) }
+        ensures styles { IfOk result (λ draft. draft.styles.items ≡ []) }
+        ensures boxes { IfOk result (λ draft. draft.boxes.items ≡ []) }
+    {
+        let sheets = common_sheets(alloc, graph)?;
+        let styles = Vec::with_capacity(alloc, count)?;
+        let boxes = Vec::with_capacity(alloc, count)?;
+        Ok(Draft {
+            sheets,
+            styles,
+            boxes,
+        })
+    }
+}
+
+impl Standing {
+    /// No nodes, and room for so many.
+    pub(crate) fn with_room(alloc: Global, count: usize) -> Result<Standing, AllocError>
+        ensures stands { IfOk result (λ standing. standing.stands.items ≡ []) }
+        ensures marks { IfOk result (λ standing. standing.marks.items ≡ []) }
+    {
+        let stands = Vec::with_capacity(alloc, count)?;
+        let marks = Vec::with_capacity(alloc, count)?;
+        Ok(Standing { stands, marks })
+    }
+
+    /// A node more, which is disabled itself or isn't.
+    fn push(&mut self, stand: Stand, own: bool) -> Result<(), AllocError>
+        ensures stands { OnOk result (self.new.stands.items ≡ self.old.stands.items ++ stand ∷ []) }
+        ensures marks { OnOk result (self.new.marks.items ≡ self.old.marks.items ++ own ∷ []) }
+    {
+        self.stands.push(stand)?;
+        self.marks.push(own)?;
+        Ok(())
+    }
+}
+
+/// Puts the facts of a node that has nothing behind the others.
+fn push_bare(alloc: Global, draft: &mut Draft, stand: Stand) -> Result<(), AllocError>
+    ensures sheets { OnOk result (draft.new.sheets.items ≡ draft.old.sheets.items) }
+    ensures styles { OnOk result (draft.new.styles.items ≡ draft.old.styles.items ++ spec_style stand ∷ []) }
+    ensures boxes { OnOk result (draft.new.boxes.items ≡ draft.old.boxes.items ++ spec_box stand ∷ []) }
+{
+    draft.styles.push(bare_style(alloc, stand))?;
+    draft.boxes.push(bare_box(alloc, stand))?;
+    Ok(())
+}
+
+/// Puts the facts of a node that has something behind the others. So many sheets count for every node.
+fn push_facts(
+    alloc: Global,
+    stage: &Stage,
+    places: &Places,
+    common: usize,
+    draft: &mut Draft,
+    stand: Stand,
+    node: &NodeData,
+) -> Result<(), AllocError>
+    requires class { places.now ≡ node.now.class }
+    requires read { IsRead stage.now.store node.now }
+    requires here { data_of stage.now.graph.table stand.key ≡ Some node.now }
+    requires common { common ≡ length (common_of stage.now.graph) }
+    ensures sheets { OnOk result (draft.new.sheets.items
+        ≡ draft.old.sheets.items ++ sheets_at stage.now.graph stand) }
+    ensures styles { OnOk result (draft.new.styles.items
+        ≡ draft.old.styles.items ++ style_at stage.now (length draft.old.sheets.items) stand ∷ []) }
+    ensures boxes { OnOk result (draft.new.boxes.items ≡ draft.old.boxes.items ++ box_at stage.now stand ∷ []) }
+{
+    let start = draft.sheets.len();
+    push_own(
+        alloc,
+        &mut draft.sheets,
+        stage.graph().tree(),
+        stand.key,
+        node,
+    )?;
+    let end = draft.sheets.len();
+    let spot = Spot { common, start, end };
+    let style = style_with(alloc, stage, places, spot, stand, node)?;
+    draft.styles.push(style)?;
+    let facts = box_with(alloc, stage, places, stand, node)?;
+    draft.boxes.push(facts)?;
+    Ok(())
+}
+
+/// Puts a node behind the others.
+pub(crate) fn push_node(
+    alloc: Global,
+    stage: &Stage,
+    places: &mut Places,
+    common: usize,
+    standing: &mut Standing,
+    draft: &mut Draft,
+    key: NodeKey,
+) -> Result<(), AllocError>
+    requires read { IsReadAt stage.now key }
+    requires once { AreOnce standing.old.stands.items }
+    requires common { common ≡ length (common_of stage.now.graph) }
+    ensures stands { OnOk result (standing.new.stands.items
+        ≡ standing.old.stands.items ++ next_stand stage.now standing.old.stands.items key ∷ []) }
+    ensures marks { OnOk result (standing.new.marks.items
+        ≡ standing.old.marks.items ++ is_set_disabled stage.now key ∷ []) }
+    ensures sheets { OnOk result (draft.new.sheets.items ≡ draft.old.sheets.items
+        ++ sheets_at stage.now.graph (next_stand stage.now standing.old.stands.items key)) }
+    ensures styles { OnOk result (draft.new.styles.items ≡ draft.old.styles.items
+        ++ style_at stage.now (length draft.old.sheets.items)
+        (next_stand stage.now standing.old.stands.items key) ∷ []) }
+    ensures boxes { OnOk result (draft.new.boxes.items ≡ draft.old.boxes.items
+        ++ box_at stage.now (next_stand stage.now standing.old.stands.items key) ∷ []) }
+{
+    match stage.graph().node(key) {
+        None => {
+            let stand = stand_of(stage, standing.stands.as_slice(), key, false);
+            standing.push(stand, false)?;
+            push_bare(alloc, draft, stand)
+        }
+        Some(node) => {
+            places.turn_to(node.class);
+            let own = truth_in(stage, places, node, Asked::Disable);
+            let stand = stand_of(stage, standing.stands.as_slice(), key, own);
+            standing.push(stand, own)?;
+            push_facts(alloc, stage, places, common, draft, stand, node)
+        }
+    }
+}

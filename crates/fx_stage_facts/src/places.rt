@@ -1,0 +1,153 @@
+//! Where the properties that a frame asks for by name stand among those of a class.
+ghost use Rattle.std.specs.Prelude.{◌≡◌, true};
+ghost use Rattle.fx_stage_model.specs.Looking.{place_of};
+ghost use Rattle.fx_stage_facts.specs.Places.{name_of};
+
+use fx_kinds::{Class, property_named};
+use std::marker::Model;
+use std::mem::swap;
+
+/// A property that a frame asks for by name.
+#[derive(Clone, Copy)]
+pub enum Asked {
+    Id,
+    Disable,
+    Text,
+    LayoutX,
+    LayoutY,
+    FocusTraversable,
+    Width,
+    Height,
+}
+
+/// The places of these properties in the list of one class. Contracts see the class.
+#[derive(Drop)]
+struct ClassPlaces {
+    class: Class,
+    id: Option<usize>,
+    disable: Option<usize>,
+    text: Option<usize>,
+    layout_x: Option<usize>,
+    layout_y: Option<usize>,
+    focus_traversable: Option<usize>,
+    width: Option<usize>,
+    height: Option<usize>,
+}
+
+impl Model for ClassPlaces {
+    ghost use Rattle.std.specs.Prelude.{◌≡◌, codes};
+    ghost use Rattle.fx_kinds.specs.declared.classes.Class.{Class as ClassName};
+    ghost use Rattle.fx_stage_model.specs.Looking.{place_of};
+
+    ghost Value = { ClassName };
+
+    ghost view = { λ p. p.class };
+
+    ghost invariant = { λ p. (p.id ≡ place_of p.class (codes "id"))
+        × (p.disable ≡ place_of p.class (codes "disable"))
+        × (p.text ≡ place_of p.class (codes "text"))
+        × (p.layout_x ≡ place_of p.class (codes "layoutX"))
+        × (p.layout_y ≡ place_of p.class (codes "layoutY"))
+        × (p.focus_traversable ≡ place_of p.class (codes "focusTraversable"))
+        × (p.width ≡ place_of p.class (codes "width"))
+        × (p.height ≡ place_of p.class (codes "height")) };
+}
+
+#[tactic(auto, unfolding(fx_stage_model::specs::Looking::place_of))]
+fn place_named(class: Class, name: &str) -> Option<usize>
+    ensures { result ≡ place_of class name.now }
+{
+    property_named(class, name)
+}
+
+impl ClassPlaces {
+    fn of(class: Class) -> ClassPlaces
+        ensures { result ≡ class }
+    {
+        ClassPlaces {
+            class,
+            id: place_named(class, "id"),
+            disable: place_named(class, "disable"),
+            text: place_named(class, "text"),
+            layout_x: place_named(class, "layoutX"),
+            layout_y: place_named(class, "layoutY"),
+            focus_traversable: place_named(class, "focusTraversable"),
+            width: place_named(class, "width"),
+            height: place_named(class, "height"),
+        }
+    }
+
+    #[inline]
+    fn is_of(&self, class: Class) -> bool
+        ensures { result ≡ true → self.now ≡ class }
+    {
+        self.class == class
+    }
+
+    #[inline]
+    fn at(&self, asked: Asked) -> Option<usize>
+        ensures { result ≡ place_of self.now (name_of asked) }
+    {
+        match asked {
+            Asked::Id => self.id,
+            Asked::Disable => self.disable,
+            Asked::Text => self.text,
+            Asked::LayoutX => self.layout_x,
+            Asked::LayoutY => self.layout_y,
+            Asked::FocusTraversable => self.focus_traversable,
+            Asked::Width => self.width,
+            Asked::Height => self.height,
+        }
+    }
+}
+
+/// The places of the two classes that were asked for last, since a pane's children mostly are of one class. Contracts
+/// see the class that counts now.
+#[derive(Drop)]
+pub struct Places {
+    last: ClassPlaces,
+    other: ClassPlaces,
+}
+
+impl Model for Places {
+    ghost use Rattle.fx_kinds.specs.declared.classes.Class.{Class as ClassName};
+
+    ghost Value = { ClassName };
+
+    ghost view = { λ p. p.last };
+}
+
+impl Places {
+    /// The places for the class.
+    pub(crate) fn of(class: Class) -> Places
+        ensures { result ≡ class }
+    {
+        Places {
+            last: ClassPlaces::of(class),
+            other: ClassPlaces::of(class),
+        }
+    }
+
+    /// The places for this class from now on. They are looked for only if neither of the last two classes was it.
+    #[inline]
+    pub(crate) fn turn_to(&mut self, class: Class)
+        ensures { self.new ≡ class }
+    {
+        if self.last.is_of(class) {
+            return;
+        }
+        swap(&mut self.last, &mut self.other);
+        if self.last.is_of(class) {
+            return;
+        }
+        self.last = ClassPlaces::of(class);
+    }
+
+    /// The place of the property.
+    #[inline]
+    pub(crate) fn at(&self, asked: Asked) -> Option<usize>
+        ensures { result ≡ place_of self.now (name_of asked) }
+    {
+        self.last.at(asked)
+    }
+}

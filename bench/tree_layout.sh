@@ -1,5 +1,6 @@
 #!/bin/bash
-# Counts the instructions a node that it takes to lay out a tree of all panes: anew, and after one leaf has changed.
+# Counts the instructions a node that it takes to lay out a tree of all panes: anew, and after one leaf has changed; and
+# rows of ten labels one below the other, after each label has changed.
 # It builds crates/tree_layout_bench with `rt run`, and needs valgrind.
 set -euo pipefail
 source "$(dirname "$0")/program.sh" tree_layout_bench leaf 40 1
@@ -15,4 +16,7 @@ node() {
 for count in 2000 4000; do
     echo "$count nodes anew:              $(node all "$count") instructions a node"
     echo "$count nodes, one leaf changed: $(node leaf "$count") instructions a node"
+done
+for count in 1981 3961; do
+    echo "$count nodes in rows, anew:      $(node rows "$count") instructions a node"
 done

@@ -45,7 +45,8 @@ columns_in control w = max 1 (content (pane_axis Across control) w / (4 * scale_
 -- the control has so many lines in a width: one, unless its text wraps
 abbrev pub IsLineCount : PaneFacts → ℕ → ℕ → Type 0
 IsLineCount control w lines = MatchBool control.wrap
-    ((ranges : List (ℕ × ℕ)) × IsWrapping (columns_in control w) (chars control.text) ranges × (lines ≡ length ranges))
+    ((ranges : List (ℕ × ℕ)) × IsWrapping (columns_in control w) (chars control.text) ranges
+    × (lines ≡ length ranges))
     (lines ≡ 1)
 
 -- the sizes of a control, with the heights that it has in this width
@@ -56,8 +57,8 @@ pub record IsControl (control : PaneFacts) (w : ℕ) (answer : Sizes) : Type 0 w
 
 -- in one width a control has one list of sizes
 abbrev pub OneControl : Type 0
-OneControl = (control : PaneFacts) (w : ℕ) (one another : Sizes) → IsControl control w one → IsControl control w another
-    → one ≡ another
+OneControl = (control : PaneFacts) (w : ℕ) (one another : Sizes)
+    → IsControl control w one → IsControl control w another → one ≡ another
 
 -- and its widths are the same in all widths
 abbrev pub SameWidths : Type 0

@@ -1,6 +1,6 @@
 -- A row of children, and children beside one another in a row: JavaFX 21 API, javafx.scene.layout.HBox and VBox.
 -- An HBox is a row across, with its children side by side down; a VBox is the same with the axes exchanged.
--- Cited by src/rows.rt, src/hbox.rt and src/vbox.rt.
+-- Cited by src/rows.rt, src/sides.rt, src/hbox.rt and src/vbox.rt.
 use Rattle.std.specs.Prelude.{ℕ, ◌+◌, ◌-◌, List, [], ◌∷◌, length, map, sum, sum_by}
 use Rattle.fx_base.specs.declared.facts.ChildSize.{ChildSize}
 use Rattle.fx_base.specs.declared.facts.PaneFacts.{PaneFacts}
@@ -14,12 +14,14 @@ use Rattle.fx_panes_parts.specs.declared.axes.PaneAxis.{PaneAxis}
 use Rattle.fx_panes_parts.specs.declared.axes.Span.{Span}
 use Rattle.fx_panes_parts.specs.declared.parts.Part.{Part}
 use Rattle.fx_panes_parts.specs.Axes.{content, gaps, insets, rect_of}
-use Rattle.fx_panes_parts.specs.Lengths.{aligned, pixels}
+use Rattle.fx_panes_parts.specs.Lengths.{aligned, length_of, pixels, place_of}
 use Rattle.fx_panes_parts.specs.Panes.{measured, placed}
 use Rattle.fx_panes_parts.specs.Parts.{greatest_of, part_of}
 use Rattle.fx_panes_parts.specs.Sizes.{filled_length, in_area, pane_extent}
 use Rattle.fx_panes_parts.specs.Tracks.{lengths_by, tracked}
 use Rattle.fx_boxes.specs.declared.rows.Row.{Row}
+use Rattle.fx_boxes.specs.declared.sides.RowSide.{RowSide}
+use Rattle.fx_boxes.specs.declared.sides.RowSide.TheVariants.{Along, Beside}
 
 -- the children with their margins
 abbrev pub parts_of : List ChildAxis → List Part
@@ -97,3 +99,16 @@ rect_along Down along beside = rect_of beside along
 abbrev pub other : Axis → Axis
 other Across = Down
 other Down = Across
+
+-- what a pane does with a row of children along one axis, by what the axis is to the row
+abbrev pub side_extent : RowSide → PaneAxis → List ChildAxis → Extent
+side_extent Along pane children = row_extent pane children
+side_extent Beside pane children = beside_extent pane children
+
+abbrev pub side_spans : RowSide → PaneAxis → List ChildAxis → ℕ → List Span
+side_spans Along pane children n = row_spans pane children n
+side_spans Beside pane children n = beside_spans pane children n
+
+-- a span with its numbers as a rectangle has them
+abbrev pub clamped : Span → Span
+clamped span = record { start = place_of span.start; length = length_of (pixels span.length) }

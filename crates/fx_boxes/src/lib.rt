@@ -7,4 +7,5 @@ pub mod hbox;
 pub mod pane;
 pub mod region;
 mod rows;
+pub mod sides;
 pub mod vbox;

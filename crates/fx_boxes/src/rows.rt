@@ -126,7 +126,7 @@ fn parts_along(alloc: Global, axis: Axis, children: &[ChildSize]) -> Result<Vec<
 }
 
 /// The row before any child has been placed, of children that have these parts.
-fn row_for(pane: &PaneAxis, parts: &[Part], length_along: u64) -> Row
+pub(crate) fn row_for(pane: &PaneAxis, parts: &[Part], length_along: u64) -> Row
     requires pane { IsPaneAxis pane.now }
     requires few { length parts.now ≤ 4096 }
     requires long { length_along ≤ 100000 }
@@ -149,7 +149,7 @@ fn row_for(pane: &PaneAxis, parts: &[Part], length_along: u64) -> Row
 
 impl Row {
     /// Where the next child stands along the row.
-    fn next(&mut self, child: &ChildAxis) -> Span
+    pub(crate) fn next(&mut self, child: &ChildAxis) -> Span
         requires child { IsChildAxis child.now }
         requires at { self.old.at < 2 ^ 60 }
         requires spacing { self.old.spacing ≤ 100000 }
@@ -179,7 +179,7 @@ fn span_at(at: u64, child: &ChildAxis, outer_length: u64) -> Span
 
 /// Where a child stands beside the row, in a pane of this length.
 #[tactic(auto, unfolding(crate::specs::Rows::beside_span))]
-fn beside_span(pane: &PaneAxis, length_beside: u64, child: &ChildAxis) -> Span
+pub(crate) fn beside_span(pane: &PaneAxis, length_beside: u64, child: &ChildAxis) -> Span
     requires pane { IsPaneAxis pane.now }
     requires long { length_beside ≤ 100000 }
     requires child { IsChildAxis child.now }

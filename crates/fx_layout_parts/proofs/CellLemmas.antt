@@ -54,7 +54,7 @@ down_cell rule.Anchor node a d = record { index = omega arith; span = omega arit
 down_cell rule.Grid node a d =
     record { index = place_most 0 255 _ (omega arith); span = place_most 1 64 _ (omega arith) }
 
-all_are : {X : Type 0} (P : X → Type 0) → ((x : X) → P x) → (xs : List X) → All P xs
+pub all_are : {X : Type 0} (P : X → Type 0) → ((x : X) → P x) → (xs : List X) → All P xs
 all_are P every [] = All-nil P
 all_are P every (x ∷ xs) = All-cons P x xs (every x) (all_are P every xs)
 

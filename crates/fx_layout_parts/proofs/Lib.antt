@@ -1,2 +1,3 @@
 pub mod CellLemmas
 pub mod LeafLemmas
+pub mod RowSides

@@ -1,7 +1,7 @@
 -- The rule of a node by its class, and by the rule its sizes and the places of its children (JavaFX 21 API,
 -- javafx.scene.layout).
 -- Cited by src/rules.rt and by the layout of a tree.
-use Rattle.std.specs.Prelude.{◌≡◌, ℕ, ◌≤◌, Bool, true, false, List, [], length, map}
+use Rattle.std.specs.Prelude.{◌≡◌, ℕ, ◌≤◌, Bool, true, false, List, [], length, map, Option, Some, None}
 use Rattle.fx_base.specs.declared.facts.ChildSize.{ChildSize}
 use Rattle.fx_base.specs.declared.facts.PaneFacts.{PaneFacts}
 use Rattle.fx_base.specs.declared.facts.Sizes.{Sizes}
@@ -12,10 +12,14 @@ use Rattle.fx_boxes.specs.Controls.{IsControl}
 use Rattle.fx_boxes.specs.Panes.{pane_rects, pane_sizes}
 use Rattle.fx_boxes.specs.Regions.{region_sizes}
 use Rattle.fx_boxes.specs.Rows.{hbox_rects, hbox_sizes, vbox_rects, vbox_sizes}
+use Rattle.fx_boxes.specs.declared.sides.RowSide.{RowSide}
+use Rattle.fx_boxes.specs.declared.sides.RowSide.TheVariants.{Along, Beside}
 use Rattle.fx_panes.specs.Anchor.{anchor_rects, anchor_sizes}
 use Rattle.fx_panes.specs.Border.{border_rects, border_sizes}
 use Rattle.fx_panes.specs.Stack.{stack_rects, stack_sizes}
 use Rattle.fx_grid.specs.Grid.{IsGrid, grid_rects, grid_sizes}
+use Rattle.fx_panes_parts.specs.declared.axes.Axis.{Axis}
+use Rattle.fx_panes_parts.specs.declared.axes.Axis.TheVariants.{Across, Down}
 use Rattle.fx_panes_parts.specs.declared.axes.Extent.{Extent}
 use Rattle.fx_panes_parts.specs.declared.axes.Span.{Span}
 use Rattle.fx_panes_parts.specs.Lengths.{length_of, pixels, place_of}
@@ -66,6 +70,20 @@ abbrev pub is_pane : Rule → Bool
 is_pane rule.Region = false
 is_pane rule.Control = false
 is_pane _ = true
+
+-- what an axis is to the row of a pane that puts its children in one
+abbrev pub hbox_side : Axis → RowSide
+hbox_side Across = Along
+hbox_side Down = Beside
+
+abbrev pub vbox_side : Axis → RowSide
+vbox_side Across = Beside
+vbox_side Down = Along
+
+abbrev pub row_side : Rule → Axis → Option RowSide
+row_side rule.HBox axis = Some (hbox_side axis)
+row_side rule.VBox axis = Some (vbox_side axis)
+row_side _ axis = None
 
 abbrev pub AreSizes : NodeBox → List ChildSize → ℕ → Sizes → Type 0
 AreSizes node children w sizes = AreSizesBy node.rule node.facts children w sizes

@@ -46,7 +46,7 @@ fn pane_facts(alloc: Global, node: &BoxFacts, look: &Look) -> Result<PaneFacts, 
 
 /// A node as a pane along an axis, which its look alone tells.
 #[tactic(auto, unfolding(fx_panes_parts::specs::Axes::pane_axis))]
-pub(crate) fn look_axis(axis: Axis, look: &Look) -> PaneAxis
+pub fn look_axis(axis: Axis, look: &Look) -> PaneAxis
     ensures value { (node : Facts) → result ≡ pane_axis axis (pane_facts node look.now) }
     ensures bounds { IsPaneAxis result }
 {

@@ -1,12 +1,15 @@
 //! A child as its pane sees it.
 ghost use Rattle.std.specs.Prelude.{◌≡◌};
+ghost use Rattle.fx_panes_parts.specs.declared.axes.Extent.{Extent as Lengths};
+ghost use Rattle.fx_panes_parts.specs.Axes.{child_axis};
 ghost use Rattle.fx_layout_parts.specs.Children.{anchor_child, border_child, child_of, grid_child, hbox_child, plain_child, stack_child, vbox_child, with_constraints};
 
 use crate::constraints::{NO_SIDES, choice_of, index_of, number_of, sides_of, span_of, truth_of};
+use crate::leaves::in_pixels;
 use crate::rules::Rule;
 use fx_base::ChildSize;
 use fx_kinds::{BoxFacts, Constraint};
-use fx_panes_parts::{Extent, joined};
+use fx_panes_parts::{Axis, ChildAxis, Extent, child_axis, joined};
 
 /// A child of these lengths, in pixels, in a pane of this rule. Constraints that are another pane's say nothing.
 #[tactic(auto, unfolding(crate::specs::Children::child_of))]
@@ -18,6 +21,75 @@ pub fn child_of(pane: Rule, node: &BoxFacts, across: Extent, down: Extent) -> Ch
         return plain_child(node, across, down);
     }
     with_constraints(pane, said, plain_child(node, across, down))
+}
+
+/// The same child along one axis alone.
+pub fn child_along(
+    axis: Axis,
+    pane: Rule,
+    node: &BoxFacts,
+    across: Extent,
+    down: Extent,
+) -> ChildAxis
+    ensures { result ≡ child_axis axis (child_of pane node.now across down) }
+{
+    let said = node.constraints.as_slice();
+    if said.is_empty() {
+        return plain_along(axis, node, across, down);
+    }
+    child_axis(axis, &child_of(pane, node, across, down))
+}
+
+/// A child of which nothing is said, along one axis alone.
+fn plain_along(axis: Axis, node: &BoxFacts, across: Extent, down: Extent) -> ChildAxis
+    ensures { result ≡ child_axis axis (plain_child node.now across down) }
+{
+    match axis {
+        Axis::Across => plain_across(node, across),
+        Axis::Down => plain_down(node, down),
+    }
+}
+
+#[tactic(auto, unfolding(fx_panes_parts::specs::Axes::child_axis))]
+fn plain_across(node: &BoxFacts, across: Extent) -> ChildAxis
+    ensures { (down : Lengths) → result ≡ child_axis Axis.Across (plain_child node.now across down) }
+{
+    ChildAxis {
+        extent: in_pixels(across),
+        before: 0,
+        after: 0,
+        grow: None,
+        alignment: None,
+        align: None,
+        low: None,
+        high: None,
+        index: 0,
+        span: 1,
+        fill: true,
+        edge: node.edge,
+        layout: node.layout_x,
+    }
+}
+
+#[tactic(auto, unfolding(fx_panes_parts::specs::Axes::child_axis))]
+fn plain_down(node: &BoxFacts, down: Extent) -> ChildAxis
+    ensures { (across : Lengths) → result ≡ child_axis Axis.Down (plain_child node.now across down) }
+{
+    ChildAxis {
+        extent: in_pixels(down),
+        before: 0,
+        after: 0,
+        grow: None,
+        alignment: None,
+        align: None,
+        low: None,
+        high: None,
+        index: 0,
+        span: 1,
+        fill: true,
+        edge: node.edge,
+        layout: node.layout_y,
+    }
 }
 
 fn with_constraints(pane: Rule, said: &[Constraint], child: ChildSize) -> ChildSize

@@ -1,5 +1,5 @@
-//! Nodes that need nothing of their children: regions, and controls whose text stands on one line. Their lengths come of
-//! their looks and texts as they stand, with nothing copied.
+//! Nodes that need nothing of their children: regions, and controls whose text stands on one line. Their lengths come
+//! of their looks and texts as they stand, with nothing copied.
 ghost use Rattle.std.specs.Prelude.{◌≡◌, ℕ, List, [], IfSome, false};
 ghost use Rattle.fx_base.specs.declared.facts.ChildSize.{ChildSize as Child};
 ghost use Rattle.fx_boxes.specs.Controls.{control_heights, control_widths};
@@ -79,7 +79,7 @@ fn label_heights(look: &Look) -> Option<Extent>
 }
 
 /// Lengths as they are where they are told in pixels.
-fn in_pixels(extent: Extent) -> Extent
+pub fn in_pixels(extent: Extent) -> Extent
     ensures { result ≡ in_pixels extent }
 {
     Extent {

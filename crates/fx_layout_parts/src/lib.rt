@@ -8,10 +8,10 @@ mod constraints;
 mod leaves;
 mod rules;
 
-pub use boxes::box_of;
-pub use children::child_of;
-pub use leaves::{leaf_heights, leaf_widths};
+pub use boxes::{box_of, look_axis};
+pub use children::{child_along, child_of};
+pub use leaves::{in_pixels, leaf_heights, leaf_widths};
 pub use rules::{
     NodeBox, Rule, across_half, across_span, down_half, down_span, is_pane, measure, measure_in,
-    place, rule_of,
+    place, row_side, rule_of,
 };

@@ -4,11 +4,12 @@ ghost use Rattle.fx_layout_parts.specs.Rules as spec;
 ghost use Rattle.fx_panes_parts.specs.Lengths.{length_of};
 
 use fx_base::{ChildSize, Ledgers, PaneFacts, Rect, Sizes, Work};
+use fx_boxes::sides::RowSide;
 use fx_boxes::{control, hbox, pane, region, vbox};
 use fx_grid::grid;
 use fx_kinds::Class;
 use fx_panes::{anchor, border, stack};
-use fx_panes_parts::{Extent, Span, length_of, place_of};
+use fx_panes_parts::{Axis, Extent, Span, length_of, place_of};
 use std::alloc::{AllocError, Global};
 
 /// How a node is laid out.
@@ -60,6 +61,35 @@ pub fn is_pane(rule: Rule) -> bool
         Rule::Region => false,
         Rule::Control => false,
         _ => true,
+    }
+}
+
+/// What an axis is to the row of a pane of this rule, if it puts its children in a row.
+pub fn row_side(rule: Rule, axis: Axis) -> Option<RowSide>
+    ensures { result ≡ spec.row_side rule axis }
+{
+    match rule {
+        Rule::HBox => Some(hbox_side(axis)),
+        Rule::VBox => Some(vbox_side(axis)),
+        _ => None,
+    }
+}
+
+fn hbox_side(axis: Axis) -> RowSide
+    ensures { result ≡ spec.hbox_side axis }
+{
+    match axis {
+        Axis::Across => RowSide::Along,
+        Axis::Down => RowSide::Beside,
+    }
+}
+
+fn vbox_side(axis: Axis) -> RowSide
+    ensures { result ≡ spec.vbox_side axis }
+{
+    match axis {
+        Axis::Across => RowSide::Beside,
+        Axis::Down => RowSide::Along,
     }
 }
 

@@ -7,7 +7,10 @@ use Rattle.std.proofs.lemmas.List.Sums.{count_by-le-length, length-filter}
 use Rattle.std.specs.List.{range_with_len}
 use Rattle.fx_kinds.specs.declared.facts.BoxFacts.{BoxFacts}
 use Rattle.fx_look.specs.declared.looks.Look.{Look}
+use Rattle.fx_panes_parts.specs.declared.axes.Axis.{Axis}
+use Rattle.fx_panes_parts.specs.declared.axes.ChildAxis.{ChildAxis}
 use Rattle.fx_panes_parts.specs.declared.axes.Extent.{Extent}
+use Rattle.fx_panes_parts.specs.Axes.{along, child_axis}
 use Rattle.fx_layout_parts.specs.declared.rules.NodeBox.{NodeBox}
 use Rattle.fx_layout_parts.specs.Rules.{CanBeAsked}
 use Rattle.fx_base.specs.declared.facts.ChildSize.{ChildSize}
@@ -37,6 +40,19 @@ can_be_asked nodes looks p widths heights are within =
           (All-get_or (λ (n : BoxFacts). length n.columns ≤ 256) nodes p no_node within are.columns)
           (All-get_or (λ (n : BoxFacts). length n.rows ≤ 256) nodes p no_node within are.rows);
     }
+
+-- nor has a row too many children along one axis
+pub axes_few : (nodes : List BoxFacts) (looks : List Look) (children : List (List ℕ)) (p : ℕ) (widths heights : List Extent)
+    (axis : Axis) (axes : List ChildAxis) → AreNodes nodes → children ≡ children_lists (parents nodes) → p < length nodes
+    → axes ≡ along axis (seen (box_at nodes looks p).rule nodes widths heights (places_at children p))
+    → length axes ≤ 4096
+axes_few nodes looks children p widths heights axis axes are same within is =
+    let all = seen (box_at nodes looks p).rule nodes widths heights (places_at children p) in
+    let asked = can_be_asked nodes looks p widths heights are within in
+    let few : length all ≤ 4096 = rw same asked.few in
+    let count : length axes ≡ length all =
+    ap (λ (l : List ChildAxis). length l) is ∙ length-map all (child_axis axis) in
+    omega (arith, few, count)
 
 pub lists_long : (nodes : List BoxFacts) (children : List (List ℕ)) → children ≡ children_lists (parents nodes)
     → length children ≡ length nodes

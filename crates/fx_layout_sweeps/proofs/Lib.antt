@@ -4,6 +4,7 @@ pub mod Children
 pub mod Marking
 pub mod Reading
 pub mod Respreads
+pub mod RowHalves
 pub mod Spreads
 pub mod Tallies
 pub mod Turns

@@ -4,13 +4,15 @@ use Rattle.std.proofs.lemmas.List.{get_or_default}
 use Rattle.fx_kinds.specs.declared.facts.BoxFacts.{BoxFacts}
 use Rattle.fx_look.specs.declared.looks.Look.{Look}
 use Rattle.fx_look.specs.Looks.{initial_look}
+use Rattle.fx_panes_parts.specs.declared.axes.Axis.{Axis}
 use Rattle.fx_panes_parts.specs.declared.axes.Extent.{Extent}
+use Rattle.fx_panes_parts.specs.Axes.{child_axis}
 use Rattle.fx_layout_parts.specs.declared.rules.NodeBox.{NodeBox}
 use Rattle.fx_layout_parts.specs.declared.rules.Rule.{Rule}
 use Rattle.fx_layout_parts.specs.Boxes.{box_of}
-use Rattle.fx_layout_parts.specs.Rules.{is_pane, rule_of}
+use Rattle.fx_layout_parts.specs.Rules.{rule_of}
 use Rattle.fx_layout_parts.specs.Children.{child_of}
-use Rattle.fx_layout_sweeps.specs.Nodes.{box_at, child_at, extent_at, no_node, node_at}
+use Rattle.fx_layout_sweeps.specs.Nodes.{box_at, child_at, extent_at, look_at, no_node, node_at}
 
 pub box_read : (nodes : List BoxFacts) (looks : List Look) (p : ℕ) (node : BoxFacts) (look : Look)
     → length looks ≡ length nodes → p < length nodes
@@ -38,7 +40,18 @@ child_read pane nodes widths heights p node within =
     ap (λ (n : BoxFacts). child_of pane n (extent_at widths p) (extent_at heights p))
     (get_or_default nodes p node no_node within)
 
-pub pane_read : (nodes : List BoxFacts) (p : ℕ) (node : BoxFacts) → p < length nodes
-    → is_pane (rule_of (slice_index_or nodes p node).class) ≡ is_pane (rule_of (node_at nodes p).class)
-pane_read nodes p node within =
-    ap (λ (n : BoxFacts). is_pane (rule_of n.class)) (get_or_default nodes p node no_node within)
+pub rule_read : (nodes : List BoxFacts) (p : ℕ) (node : BoxFacts) → p < length nodes
+    → rule_of (slice_index_or nodes p node).class ≡ rule_of (node_at nodes p).class
+rule_read nodes p node within =
+    ap (λ (n : BoxFacts). rule_of n.class) (get_or_default nodes p node no_node within)
+
+pub look_read : (looks : List Look) (p : ℕ) (look : Look) → p < length looks → look ≡ slice_index_or looks p look
+    → look ≡ look_at looks p
+look_read looks p look within is = is ∙ get_or_default looks p look (initial_look 0) within
+
+pub axis_read : (axis : Axis) (pane : Rule) (nodes : List BoxFacts) (widths heights : List Extent) (p : ℕ) (node : BoxFacts)
+    → p < length nodes
+    → child_axis axis (child_of pane (slice_index_or nodes p node) (extent_at widths p) (extent_at heights p))
+    ≡ child_axis axis (child_at pane nodes widths heights p)
+axis_read axis pane nodes widths heights p node within =
+    ap (child_axis axis) (child_read pane nodes widths heights p node within)

@@ -23,14 +23,6 @@ use Rattle.fx_layout_sweeps.specs.Marks.{flag_in}
 use Rattle.fx_layout_sweeps.specs.Sweeps.{IsPlacedAt, IsPut, fitted, half, held_length, is_worked, spans_along, spans_for}
 use Rattle.fx_layout_sweeps.proofs.Turns.{map_same}
 
-pub half_read : (axis : Axis) (rects : List Rect) (k : ℕ) (rect : Rect) → k < length rects
-    → half axis (slice_index_or rects k rect) ≡ span_at (map (half axis) rects) k
-half_read axis rects k rect within = sym (get_or-map (half axis) rects k rect nowhere within)
-
-pub half_missing : (axis : Axis) (rects : List Rect) (k : ℕ) → length rects ≤ k → nowhere ≡ span_at (map (half axis) rects) k
-half_missing axis rects k past =
-    sym (get_or-eq_default (map (half axis) rects) nowhere (subst (λ n. n ≤ k) (sym (length-map rects (half axis))) past))
-
 pub kept_read : (spans : List Span) (places : List ℕ) (k d : ℕ) → k < length places
     → span_at spans (slice_index_or places k d) ≡ span_at (map (span_at spans) places) k
 kept_read spans places k d within = sym (get_or-map (span_at spans) places k d nowhere within)
@@ -105,14 +97,12 @@ no_rects rule.Anchor facts children w h none = absurd (true≢false none)
 no_rects rule.Grid facts children w h none = absurd (true≢false none)
 
 -- what is no pane has no children to place
-pub no_halves : (axis : Axis) (node : NodeBox) (children : List ChildSize) (room : ℕ) (rects : List Rect)
-    → is_pane node.rule ≡ false → rects ≡ [] → map (half axis) rects ≡ spans_along axis node children room
-no_halves Across node children room rects none empty =
-    ap (λ (l : List Rect). map across_span l)
-    (empty ∙ sym (no_rects node.rule node.facts children (held_length room) 0 none))
-no_halves Down node children room rects none empty =
-    ap (λ (l : List Rect). map down_span l)
-    (empty ∙ sym (no_rects node.rule node.facts children 0 (held_length room) none))
+pub no_spans : (axis : Axis) (node : NodeBox) (children : List ChildSize) (room : ℕ) (spans : List Span)
+    → is_pane node.rule ≡ false → spans ≡ [] → spans ≡ spans_along axis node children room
+no_spans Across node children room spans none empty =
+    empty ∙ sym (ap (λ (l : List Rect). map across_span l) (no_rects node.rule node.facts children (held_length room) 0 none))
+no_spans Down node children room spans none empty =
+    empty ∙ sym (ap (λ (l : List Rect). map down_span l) (no_rects node.rule node.facts children 0 (held_length room) none))
 
 pub halves_across : (axis : Axis) (node : NodeBox) (children : List ChildSize) (room : ℕ) (rects : List Rect)
     → axis ≡ Across → rects ≡ rects_in node children (held_length room) 0

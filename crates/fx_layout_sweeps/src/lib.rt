@@ -10,6 +10,7 @@ mod moving;
 mod nodes;
 mod places;
 mod placing;
+mod rows;
 
 pub use lengths::{NOWHERE, UNKNOWN, extent_at, span_at};
 pub use marks::Marks;

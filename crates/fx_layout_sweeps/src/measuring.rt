@@ -1,15 +1,18 @@
 //! Measuring from the leaves, along one axis.
-ghost use Rattle.std.specs.Prelude.{◌≡◌, ◌+◌, ◌<◌, [], IfOk, OnOk, length};
-ghost use Rattle.fx_layout_sweeps.specs.Nodes.{AreNodes, box_at, children_lists, extent_at, parents, places_at, seen, span_at};
+ghost use Rattle.std.specs.Prelude.{◌≡◌, ◌+◌, ◌<◌, [], IfOk, OnOk, Some, length};
+ghost use Rattle.fx_layout_sweeps.specs.Nodes.{AreNodes, box_at, children_lists, extent_at, node_at, parents, places_at, seen, span_at};
 ghost use Rattle.fx_layout_sweeps.specs.Sweeps.{AreMeasured, IsMeasured, held_length, seen_along, tally};
 ghost use Rattle.fx_layout_sweeps.specs.Marks.{flag_in};
-ghost use Rattle.fx_layout_parts.specs.Rules.{IsHigh, IsWide};
+ghost use Rattle.fx_layout_parts.specs.Rules.{IsHigh, IsWide, row_side, rule_of};
 
 use crate::lengths::span_at;
 use crate::marks::Marks;
-use crate::nodes::{box_in, children_in, leaf_heights_in, leaf_widths_in, seen};
+use crate::nodes::{box_in, children_in, leaf_heights_in, leaf_widths_in, row_side_at, seen};
 use crate::places::Places;
+use crate::placing::Placing;
+use crate::rows::row_lengths;
 use fx_base::{Ledgers, Work};
+use fx_boxes::sides::RowSide;
 use fx_kinds::BoxFacts;
 use fx_layout_parts::{across_half, down_half, measure, measure_in};
 use fx_look::Look;
@@ -108,8 +111,61 @@ fn widths_of<L: Ledgers>(
 }
 
 /// The widths of a node by its pane over those of its children.
-#[tactic(auto, using(crate::proofs::Asking::asked))]
 fn pane_widths<L: Ledgers>(
+    alloc: Global,
+    sweep: Measuring<'_>,
+    place: usize,
+    widths: &[Extent],
+    work: &mut Work<L>,
+) -> Result<Extent, AllocError>
+    requires looks { length sweep.looks.now ≡ length sweep.nodes.now }
+    requires nodes { AreNodes sweep.nodes.now }
+    requires children { sweep.children.now ≡ children_lists (parents sweep.nodes.now) }
+    requires place { place < length sweep.nodes.now }
+    ensures lengths { IfOk result (IsWide (box_at sweep.entry.nodes.now sweep.entry.looks.now place)
+        (seen (box_at sweep.entry.nodes.now sweep.entry.looks.now place).rule
+        sweep.entry.nodes.now widths.now [] (places_at sweep.entry.children.now place))) }
+    ensures work { OnOk result (work.new ≡ record work.old { laid = work.old.laid + 1 }) }
+{
+    match row_side_at(sweep.nodes, place, Axis::Across) {
+        Some(side) => row_widths(alloc, sweep, side, place, widths, work),
+        None => other_widths(alloc, sweep, place, widths, work),
+    }
+}
+
+fn row_widths<L: Ledgers>(
+    alloc: Global,
+    sweep: Measuring<'_>,
+    side: RowSide,
+    place: usize,
+    widths: &[Extent],
+    work: &mut Work<L>,
+) -> Result<Extent, AllocError>
+    requires looks { length sweep.looks.now ≡ length sweep.nodes.now }
+    requires nodes { AreNodes sweep.nodes.now }
+    requires children { sweep.children.now ≡ children_lists (parents sweep.nodes.now) }
+    requires place { place < length sweep.nodes.now }
+    requires side { Some side ≡ row_side (rule_of (node_at sweep.nodes.now place).class) Axis.Across }
+    ensures lengths { IfOk result (IsWide (box_at sweep.entry.nodes.now sweep.entry.looks.now place)
+        (seen (box_at sweep.entry.nodes.now sweep.entry.looks.now place).rule
+        sweep.entry.nodes.now widths.now [] (places_at sweep.entry.children.now place))) }
+    ensures work { OnOk result (work.new ≡ record work.old { laid = work.old.laid + 1 }) }
+{
+    let scene = Placing {
+        axis: Axis::Across,
+        nodes: sweep.nodes,
+        looks: sweep.looks,
+        children: sweep.children,
+        widths,
+        heights: &[],
+    };
+    work.laid.tick();
+    row_lengths(alloc, scene, side, place)
+}
+
+/// The widths of a node by the whole rule of its pane.
+#[tactic(auto, using(crate::proofs::Asking::asked))]
+fn other_widths<L: Ledgers>(
     alloc: Global,
     sweep: Measuring<'_>,
     place: usize,
@@ -159,8 +215,63 @@ fn heights_of<L: Ledgers>(
 }
 
 /// The heights of a node in its width, by its pane over those of its children.
-#[tactic(auto, using(crate::proofs::Asking::asked))]
 fn pane_heights<L: Ledgers>(
+    alloc: Global,
+    sweep: Measuring<'_>,
+    place: usize,
+    heights: &[Extent],
+    work: &mut Work<L>,
+) -> Result<Extent, AllocError>
+    requires looks { length sweep.looks.now ≡ length sweep.nodes.now }
+    requires nodes { AreNodes sweep.nodes.now }
+    requires children { sweep.children.now ≡ children_lists (parents sweep.nodes.now) }
+    requires place { place < length sweep.nodes.now }
+    ensures lengths { IfOk result (IsHigh (box_at sweep.entry.nodes.now sweep.entry.looks.now place)
+        (seen (box_at sweep.entry.nodes.now sweep.entry.looks.now place).rule sweep.entry.nodes.now
+        sweep.entry.widths.now heights.now (places_at sweep.entry.children.now place))
+        (held_length (span_at sweep.entry.spans.now place).length)) }
+    ensures work { OnOk result (work.new ≡ record work.old { laid = work.old.laid + 1 }) }
+{
+    match row_side_at(sweep.nodes, place, Axis::Down) {
+        Some(side) => row_heights(alloc, sweep, side, place, heights, work),
+        None => other_heights(alloc, sweep, place, heights, work),
+    }
+}
+
+fn row_heights<L: Ledgers>(
+    alloc: Global,
+    sweep: Measuring<'_>,
+    side: RowSide,
+    place: usize,
+    heights: &[Extent],
+    work: &mut Work<L>,
+) -> Result<Extent, AllocError>
+    requires looks { length sweep.looks.now ≡ length sweep.nodes.now }
+    requires nodes { AreNodes sweep.nodes.now }
+    requires children { sweep.children.now ≡ children_lists (parents sweep.nodes.now) }
+    requires place { place < length sweep.nodes.now }
+    requires side { Some side ≡ row_side (rule_of (node_at sweep.nodes.now place).class) Axis.Down }
+    ensures lengths { IfOk result (IsHigh (box_at sweep.entry.nodes.now sweep.entry.looks.now place)
+        (seen (box_at sweep.entry.nodes.now sweep.entry.looks.now place).rule sweep.entry.nodes.now
+        sweep.entry.widths.now heights.now (places_at sweep.entry.children.now place))
+        (held_length (span_at sweep.entry.spans.now place).length)) }
+    ensures work { OnOk result (work.new ≡ record work.old { laid = work.old.laid + 1 }) }
+{
+    let scene = Placing {
+        axis: Axis::Down,
+        nodes: sweep.nodes,
+        looks: sweep.looks,
+        children: sweep.children,
+        widths: sweep.widths,
+        heights,
+    };
+    work.laid.tick();
+    row_lengths(alloc, scene, side, place)
+}
+
+/// The heights of a node in its width, by the whole rule of its pane.
+#[tactic(auto, using(crate::proofs::Asking::asked))]
+fn other_heights<L: Ledgers>(
     alloc: Global,
     sweep: Measuring<'_>,
     place: usize,

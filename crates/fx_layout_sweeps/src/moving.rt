@@ -1,5 +1,5 @@
 //! Placing from the root, along one axis, where nodes may stand elsewhere in the list than they stood.
-ghost use Rattle.std.specs.Prelude.{ℕ, ◌≡◌, ◌≢◌, ◌+◌, ◌<◌, All, AllPairs, OnOk, cond, length, map};
+ghost use Rattle.std.specs.Prelude.{ℕ, ◌≡◌, ◌≢◌, ◌+◌, ◌<◌, All, AllPairs, OnOk, if◌then◌else◌, length, map};
 ghost use Rattle.fx_layout_sweeps.specs.Marks.{flag_in};
 ghost use Rattle.fx_layout_sweeps.specs.Nodes.{AreNodes, children_lists, parents, places_at, span_at};
 ghost use Rattle.fx_layout_sweeps.specs.Sweeps.{ArePlaced, IsPut, is_worked, kept_in, last_in, old_at, spans_for, tally};
@@ -8,7 +8,7 @@ use crate::lengths::{NOWHERE, span_at};
 use crate::marks::Marks;
 use crate::nodes::children_in;
 use crate::places::Places;
-use crate::placing::{Placing, put_halves, rects_of};
+use crate::placing::{Placing, put_spans, spans_of};
 use fx_base::{Ledgers, Work};
 use fx_panes_parts::Span;
 use std::alloc::{AllocError, Global};
@@ -132,13 +132,13 @@ fn place_children<L: Ledgers>(
         (kept_in sweep.entry.olds.now sweep.entry.old_children.now sweep.entry.old_spans.now) at worked
         (span_at spans.old.items at).length)
         spans.old.items spans.new.items) }
-    ensures work { OnOk result (work.new ≡ record work.old { laid = work.old.laid + cond worked 1 0 }) }
+    ensures work { OnOk result (work.new ≡ record work.old { laid = work.old.laid + (if worked then 1 else 0) }) }
 {
     let places = children_in(sweep.placing.nodes, sweep.placing.children, at);
     if worked {
         let room = span_at(spans.as_slice(), at).length;
-        let rects = rects_of(alloc, sweep.placing, at, room, work)?;
-        put_halves(sweep.placing.axis, places, rects.as_slice(), spans);
+        let found = spans_of(alloc, sweep.placing, at, room, work)?;
+        put_spans(places, found.as_slice(), spans);
     } else {
         let old = old_places(sweep.old_children, old_at(sweep.olds, at));
         put_kept(places, old, sweep.old_spans, spans);

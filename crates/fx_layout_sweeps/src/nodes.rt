@@ -1,18 +1,23 @@
 //! Nodes as the sweeps look at them.
 ghost use Rattle.std.specs.Prelude.{◌≡◌, ◌≢◌, ◌<◌, ℕ, All, AllPairs, IfOk, IfSome, List, length, map};
+ghost use Rattle.fx_kinds.specs.declared.facts.BoxFacts.{BoxFacts as Facts};
+ghost use Rattle.fx_panes_parts.specs.Axes.{IsPaneAxis, along, child_axis, pane_axis};
+ghost use Rattle.fx_layout_parts.specs.Boxes.{pane_facts};
 ghost use Rattle.fx_base.specs.declared.facts.ChildSize.{ChildSize as Child};
-ghost use Rattle.fx_layout_parts.specs.Rules.{IsHigh, IsWide, is_pane, rule_of};
-ghost use Rattle.fx_layout_sweeps.specs.Nodes.{AreNodes, box_at, child_at, children_lists, node_at, parents, places_at, seen};
+ghost use Rattle.fx_layout_parts.specs.Rules.{IsHigh, IsWide, is_pane, row_side, rule_of};
+ghost use Rattle.fx_layout_sweeps.specs.Nodes.{AreNodes, box_at, child_at, children_lists, look_at, node_at, parents, places_at, seen};
 
 use crate::lengths::extent_at;
 use crate::places::Places;
 use fx_base::ChildSize;
+use fx_boxes::sides::RowSide;
 use fx_kinds::BoxFacts;
 use fx_layout_parts::{
-    NodeBox, Rule, box_of, child_of, is_pane, leaf_heights, leaf_widths, rule_of,
+    NodeBox, Rule, box_of, child_along, child_of, is_pane, leaf_heights, leaf_widths, look_axis,
+    row_side, rule_of,
 };
 use fx_look::Look;
-use fx_panes_parts::Extent;
+use fx_panes_parts::{Axis, ChildAxis, Extent, PaneAxis};
 use std::alloc::{AllocError, Global};
 
 /// What the node at this place is laid out by.
@@ -50,13 +55,38 @@ pub fn leaf_heights_in(nodes: &[BoxFacts], looks: &[Look], place: usize) -> Opti
     leaf_heights(&nodes[place], &looks[place])
 }
 
+/// The node at this place as a pane along an axis, which its look alone tells.
+pub fn pane_in(axis: Axis, looks: &[Look], place: usize) -> PaneAxis
+    requires { place < length looks.now }
+    ensures value { (node : Facts) → result ≡ pane_axis axis (pane_facts node (look_at looks.now place)) }
+    ensures bounds { IsPaneAxis result }
+{
+    look_axis(axis, &looks[place])
+}
+
+/// The rule of the node at this place.
+#[tactic(auto, using(crate::proofs::Reading::rule_read))]
+pub fn rule_at(nodes: &[BoxFacts], place: usize) -> Rule
+    requires { place < length nodes.now }
+    ensures { result ≡ rule_of (node_at nodes.now place).class }
+{
+    rule_of(nodes[place].class)
+}
+
+/// What an axis is to the row of the node at this place, if it puts its children in a row.
+pub fn row_side_at(nodes: &[BoxFacts], place: usize, axis: Axis) -> Option<RowSide>
+    requires { place < length nodes.now }
+    ensures { result ≡ row_side (rule_of (node_at nodes.now place).class) axis }
+{
+    row_side(rule_at(nodes, place), axis)
+}
+
 /// Have the children of the node at this place places?
-#[tactic(auto, using(crate::proofs::Reading::pane_read))]
 pub fn is_pane_at(nodes: &[BoxFacts], place: usize) -> bool
     requires { place < length nodes.now }
     ensures { result ≡ is_pane (rule_of (node_at nodes.now place).class) }
 {
-    is_pane(rule_of(nodes[place].class))
+    is_pane(rule_at(nodes, place))
 }
 
 /// The places of a node's children.
@@ -110,6 +140,48 @@ fn child_at(
     ensures { result ≡ child_at pane nodes.now widths.now heights.now place }
 {
     child_of(
+        pane,
+        &nodes[place],
+        extent_at(widths, place),
+        extent_at(heights, place),
+    )
+}
+
+/// The same children along one axis alone.
+pub fn seen_along(
+    alloc: Global,
+    axis: Axis,
+    pane: Rule,
+    nodes: &[BoxFacts],
+    widths: &[Extent],
+    heights: &[Extent],
+    places: &[usize],
+) -> Result<Vec<ChildAxis>, AllocError>
+    requires { All (λ j. j < length nodes.now) places.now }
+    ensures { IfOk result (λ children. children.items
+        ≡ along axis (seen pane nodes.now widths.now heights.now places.now)) }
+{
+    let mut children = Vec::with_capacity(alloc, places.len())?;
+    for place in places {
+        children.push(axis_at(axis, pane, nodes, widths, heights, *place))?;
+    }
+    Ok(children)
+}
+
+#[tactic(auto, using(crate::proofs::Reading::axis_read))]
+fn axis_at(
+    axis: Axis,
+    pane: Rule,
+    nodes: &[BoxFacts],
+    widths: &[Extent],
+    heights: &[Extent],
+    place: usize,
+) -> ChildAxis
+    requires { place < length nodes.now }
+    ensures { result ≡ child_axis axis (child_at pane nodes.now widths.now heights.now place) }
+{
+    child_along(
+        axis,
         pane,
         &nodes[place],
         extent_at(widths, place),

@@ -1,15 +1,17 @@
 //! Placing from the root, along one axis, where nodes stand in the list where they stood.
-ghost use Rattle.std.specs.Prelude.{ℕ, ◌≡◌, ◌≢◌, ◌+◌, ◌<◌, All, AllPairs, IfOk, OnOk, length, map, slice_set};
+ghost use Rattle.std.specs.Prelude.{ℕ, ◌≡◌, ◌≢◌, ◌+◌, ◌<◌, All, AllPairs, IfOk, OnOk, Some, length, map, slice_set};
 ghost use Rattle.fx_layout_sweeps.specs.Marks.{flag_in};
-ghost use Rattle.fx_layout_sweeps.specs.Nodes.{AreNodes, box_at, children_lists, parents, places_at, seen, span_at};
-ghost use Rattle.fx_layout_parts.specs.Rules.{rects_in};
+ghost use Rattle.fx_layout_sweeps.specs.Nodes.{AreNodes, box_at, children_lists, node_at, parents, places_at, seen, span_at};
+ghost use Rattle.fx_layout_parts.specs.Rules.{rects_in, row_side, rule_of};
 ghost use Rattle.fx_layout_sweeps.specs.Sweeps.{ArePlaced, IsPut, half, held_length, is_worked, kept_here, spans_along, tally};
 
-use crate::lengths::{NOWHERE, span_at};
+use crate::lengths::span_at;
 use crate::marks::Marks;
-use crate::nodes::{box_in, children_in, is_pane_at, seen};
+use crate::nodes::{box_in, children_in, is_pane_at, row_side_at, seen};
 use crate::places::Places;
+use crate::rows::row_spans;
 use fx_base::{Ledgers, Rect, Work};
+use fx_boxes::sides::RowSide;
 use fx_kinds::BoxFacts;
 use fx_layout_parts::{across_span, down_span, place};
 use fx_look::Look;
@@ -56,9 +58,9 @@ pub fn place_again<L: Ledgers>(
     let mut from = 0;
     while let Some(at) = marks.first_from(from) {
         let room = span_at(spans.as_slice(), at).length;
-        let rects = rects_of(alloc, sweep, at, room, work)?;
+        let found = spans_of(alloc, sweep, at, room, work)?;
         let places = children_in(sweep.nodes, sweep.children, at);
-        move_children(sweep.axis, places, rects.as_slice(), marks, spans);
+        move_children(places, found.as_slice(), marks, spans);
         from = at + 1;
     }
     Ok(())
@@ -128,8 +130,83 @@ fn rects_down<L: Ledgers>(
     place(alloc, &node, children.as_slice(), 0, pixels(height), work)
 }
 
-/// The rectangles of the children of a node that is so long along the axis. What is no pane isn't asked.
-pub(crate) fn rects_of<L: Ledgers>(
+/// Where the children of a node stand that is so long along the axis. What is no pane isn't asked, and of a row only
+/// the half along the axis is.
+pub(crate) fn spans_of<L: Ledgers>(
+    alloc: Global,
+    sweep: Placing<'_>,
+    at: usize,
+    room: u64,
+    work: &mut Work<L>,
+) -> Result<Vec<Span>, AllocError>
+    requires looks { length sweep.looks.now ≡ length sweep.nodes.now }
+    requires nodes { AreNodes sweep.nodes.now }
+    requires children { sweep.children.now ≡ children_lists (parents sweep.nodes.now) }
+    requires place { at < length sweep.nodes.now }
+    ensures spans { IfOk result (λ spans. spans.items
+        ≡ spans_along sweep.entry.axis (box_at sweep.entry.nodes.now sweep.entry.looks.now at)
+        (seen (box_at sweep.entry.nodes.now sweep.entry.looks.now at).rule sweep.entry.nodes.now
+        sweep.entry.widths.now sweep.entry.heights.now (places_at sweep.entry.children.now at)) room) }
+    ensures work { OnOk result (work.new ≡ record work.old { laid = work.old.laid + 1 }) }
+{
+    if !is_pane_at(sweep.nodes, at) {
+        work.laid.tick();
+        return Ok(Vec::new(alloc));
+    }
+    match row_side_at(sweep.nodes, at, sweep.axis) {
+        Some(side) => spans_in_row(alloc, sweep, side, at, room, work),
+        None => spans_in_pane(alloc, sweep, at, room, work),
+    }
+}
+
+/// Where the children of a row stand that is so long along the axis.
+fn spans_in_row<L: Ledgers>(
+    alloc: Global,
+    sweep: Placing<'_>,
+    side: RowSide,
+    at: usize,
+    room: u64,
+    work: &mut Work<L>,
+) -> Result<Vec<Span>, AllocError>
+    requires looks { length sweep.looks.now ≡ length sweep.nodes.now }
+    requires nodes { AreNodes sweep.nodes.now }
+    requires children { sweep.children.now ≡ children_lists (parents sweep.nodes.now) }
+    requires place { at < length sweep.nodes.now }
+    requires side { Some side ≡ row_side (rule_of (node_at sweep.nodes.now at).class) sweep.axis }
+    ensures spans { IfOk result (λ spans. spans.items
+        ≡ spans_along sweep.entry.axis (box_at sweep.entry.nodes.now sweep.entry.looks.now at)
+        (seen (box_at sweep.entry.nodes.now sweep.entry.looks.now at).rule sweep.entry.nodes.now
+        sweep.entry.widths.now sweep.entry.heights.now (places_at sweep.entry.children.now at)) room) }
+    ensures work { OnOk result (work.new ≡ record work.old { laid = work.old.laid + 1 }) }
+{
+    work.laid.tick();
+    row_spans(alloc, sweep, side, at, room)
+}
+
+/// Where the children of a pane stand that is so long along the axis, by its whole rule.
+fn spans_in_pane<L: Ledgers>(
+    alloc: Global,
+    sweep: Placing<'_>,
+    at: usize,
+    room: u64,
+    work: &mut Work<L>,
+) -> Result<Vec<Span>, AllocError>
+    requires looks { length sweep.looks.now ≡ length sweep.nodes.now }
+    requires nodes { AreNodes sweep.nodes.now }
+    requires children { sweep.children.now ≡ children_lists (parents sweep.nodes.now) }
+    requires place { at < length sweep.nodes.now }
+    ensures spans { IfOk result (λ spans. spans.items
+        ≡ spans_along sweep.entry.axis (box_at sweep.entry.nodes.now sweep.entry.looks.now at)
+        (seen (box_at sweep.entry.nodes.now sweep.entry.looks.now at).rule sweep.entry.nodes.now
+        sweep.entry.widths.now sweep.entry.heights.now (places_at sweep.entry.children.now at)) room) }
+    ensures work { OnOk result (work.new ≡ record work.old { laid = work.old.laid + 1 }) }
+{
+    let rects = rects_of(alloc, sweep, at, room, work)?;
+    halves(alloc, sweep.axis, rects.as_slice())
+}
+
+/// The rectangles of the children of a node that is so long along the axis.
+fn rects_of<L: Ledgers>(
     alloc: Global,
     sweep: Placing<'_>,
     at: usize,
@@ -146,14 +223,21 @@ pub(crate) fn rects_of<L: Ledgers>(
         sweep.entry.widths.now sweep.entry.heights.now (places_at sweep.entry.children.now at)) room) }
     ensures work { OnOk result (work.new ≡ record work.old { laid = work.old.laid + 1 }) }
 {
-    if !is_pane_at(sweep.nodes, at) {
-        work.laid.tick();
-        return Ok(Vec::new(alloc));
-    }
     match sweep.axis {
         Axis::Across => rects_across(alloc, sweep, at, room, work),
         Axis::Down => rects_down(alloc, sweep, at, room, work),
     }
+}
+
+/// The halves of rectangles along the axis.
+fn halves(alloc: Global, axis: Axis, rects: &[Rect]) -> Result<Vec<Span>, AllocError>
+    ensures { IfOk result (λ spans. spans.items ≡ map (half axis) rects.now) }
+{
+    let mut spans = Vec::with_capacity(alloc, rects.len())?;
+    for rect in rects {
+        spans.push(half(axis, *rect))?;
+    }
+    Ok(spans)
 }
 
 /// Half a rectangle, along the axis.
@@ -166,46 +250,29 @@ fn half(axis: Axis, rect: Rect) -> Span
     }
 }
 
-#[tactic(auto, using(crate::proofs::Spreads::half_read, crate::proofs::Spreads::half_missing))]
-fn half_at(axis: Axis, rects: &[Rect], k: usize) -> Span
-    ensures { result ≡ span_at (map (half axis) rects.now) k }
-{
-    if k < rects.len() {
-        half(axis, rects[k])
-    } else {
-        NOWHERE
-    }
-}
-
-/// Puts the halves of these rectangles at the places.
-pub(crate) fn put_halves(axis: Axis, places: &[usize], rects: &[Rect], spans: &mut Vec<Span>)
+/// Puts these spans at the places.
+pub(crate) fn put_spans(places: &[usize], found: &[Span], spans: &mut Vec<Span>)
     requires within { All (λ j. j < length spans.old.items) places.now }
     requires apart { AllPairs (λ i j. i ≢ j) places.now }
-    ensures { IsPut places.now (map (half axis) rects.now) spans.old.items spans.new.items }
+    ensures { IsPut places.now found.now spans.old.items spans.new.items }
 {
     for k in 0..places.len() {
-        spans[places[k]] = half_at(axis, rects, k);
+        spans[places[k]] = span_at(found, k);
     }
 }
 
-/// Puts the halves of these rectangles at the places, and marks those at which the length is another one then.
-fn move_children(
-    axis: Axis,
-    places: &[usize],
-    rects: &[Rect],
-    marks: &mut Marks,
-    spans: &mut Vec<Span>,
-)
+/// Puts these spans at the places, and marks those at which the length is another one then.
+fn move_children(places: &[usize], found: &[Span], marks: &mut Marks, spans: &mut Vec<Span>)
     requires within { All (λ j. j < length spans.old.items) places.now }
     requires apart { AllPairs (λ i j. i ≢ j) places.now }
     requires marks { length marks.old ≡ length spans.old.items }
-    ensures put { IsPut places.now (map (half axis) rects.now) spans.old.items spans.new.items }
+    ensures put { IsPut places.now found.now spans.old.items spans.new.items }
     ensures each_mark { length marks.new ≡ length marks.old }
     ensures marks { (q : ℕ) → q < length marks.old
         → flag_in marks.new q ≡ is_worked (flag_in marks.old) (span_at spans.old.items) spans.new.items q }
 {
     for k in 0..places.len() {
-        move_child(places[k], half_at(axis, rects, k), marks, spans);
+        move_child(places[k], span_at(found, k), marks, spans);
     }
 }
 

@@ -1,5 +1,6 @@
-//! Lays out a tree of all panes, and then so many times after one leaf has changed or everything has, and prints a
-//! checksum of the rectangles. A script counts its instructions; no other crate stands on this one.
+//! Lays out a tree of all panes, and then so many times after one leaf has changed or everything has, or rows of labels
+//! of which each changes each time, and prints a checksum of the rectangles. A script counts its instructions; no other
+//! crate stands on this one.
 #![tactic(auto)]
 
 ghost use Rattle.std.specs.Prelude.{◌≡◌, length};
@@ -14,15 +15,28 @@ use std::env;
 use std::marker::Brand;
 use std::sync::ledger::Blank;
 
-/// How many children a pane has.
+/// How many children a pane has in the tree of all panes.
 const CHILDREN: usize = 9;
+
+/// A row and its labels.
+const ROW: usize = 11;
+
+/// What is laid out, and what changes each time.
+#[derive(Clone, Copy)]
+enum Part {
+    /// A tree of all panes, of which everything is laid out anew.
+    All,
+    /// The same, of which a leaf with its ancestors is laid out anew.
+    Leaf,
+    /// Rows of labels one below the other, of which each label gets another width.
+    Rows,
+}
 
 /// What is laid out, and how often.
 #[derive(Clone, Copy)]
 struct Task {
+    part: Part,
     nodes: usize,
-    /// Is everything laid out anew each time, or a leaf with its ancestors?
-    anew: bool,
     rounds: u64,
 }
 
@@ -30,11 +44,11 @@ fn main(rt: HostRuntime) -> anyhow::Result<()> {
     let mut words = env::args(&rt)?;
     let _program = words.next();
     let (Some(part), Some(nodes), Some(rounds)) = (words.next(), words.next(), words.next()) else {
-        bail!("usage: tree_layout_bench all|leaf NODES ROUNDS");
+        bail!("usage: tree_layout_bench all|leaf|rows NODES ROUNDS");
     };
     let task = Task {
+        part: part_named(part.as_str()),
         nodes: nodes.as_str().parse::<usize>()?,
-        anew: part.as_str() == "all",
         rounds: rounds.as_str().parse::<u64>()?,
     };
     let sum = start::<Brand>(
@@ -63,7 +77,7 @@ fn start<L: Ledgers>(
     requires painted { (painted.name ≡ L.painted_name) × (painted.parts ≡ 1) }
 {
     let mut work: Work<L> = Work::new(evaluated, styled, laid, painted);
-    let nodes = nodes(alloc, task.nodes)?;
+    let nodes = nodes(alloc, task.part, task.nodes)?;
     let mut looks = looks(alloc, nodes.len())?;
     if !can_be_laid(nodes.as_slice()) || looks.len() != nodes.len() {
         bail!("too many nodes, or none");
@@ -81,23 +95,48 @@ fn start<L: Ledgers>(
         &mut work,
     )?;
     for round in 0..task.rounds {
-        widen(&mut looks, slice.len().saturating_sub(1), round % 2 == 0);
-        let listed = if task.anew {
-            all.as_slice()
-        } else {
-            chain.as_slice()
+        let first = first_changed(task.part, slice.len());
+        widen(task.part, first, &mut looks, round % 2 == 0);
+        let listed = match task.part {
+            Part::Leaf => chain.as_slice(),
+            _ => all.as_slice(),
         };
         layouts.update(alloc, slice, looks.as_slice(), None, listed, &mut work)?;
     }
     Ok(checksum(layouts.rects()))
 }
 
-/// Makes a leaf wider or narrower.
-fn widen(looks: &mut Vec<Look>, leaf: usize, is_wide: bool)
+fn part_named(name: &str) -> Part {
+    match name {
+        "all" => Part::All,
+        "rows" => Part::Rows,
+        _ => Part::Leaf,
+    }
+}
+
+/// The first of the nodes that get another width each time.
+fn first_changed(part: Part, count: usize) -> usize {
+    match part {
+        Part::Rows => 1,
+        _ => count.saturating_sub(1),
+    }
+}
+
+/// Makes nodes from a place on wider or narrower, but no row.
+fn widen(part: Part, first: usize, looks: &mut Vec<Look>, is_wide: bool)
     ensures { length looks.new.items ≡ length looks.old.items }
 {
-    if let Some(look) = looks.get_mut(leaf) {
-        look.pref_width = if is_wide { 31 } else { 30 };
+    for place in first..looks.len() {
+        if !is_row(part, place) {
+            looks[place].pref_width = if is_wide { 31 } else { 30 };
+        }
+    }
+}
+
+fn is_row(part: Part, place: usize) -> bool {
+    match part {
+        Part::Rows => place % ROW == 1,
+        _ => false,
     }
 }
 
@@ -124,23 +163,31 @@ fn chain(alloc: Global, count: usize) -> Result<Vec<usize>, AllocError> {
     Ok(chain)
 }
 
-/// A tree in which each pane has as many children, and each node stands behind its parent.
-fn nodes(alloc: Global, count: usize) -> anyhow::Result<Vec<BoxFacts>> {
+/// A tree in which each node stands behind its parent.
+fn nodes(alloc: Global, part: Part, count: usize) -> anyhow::Result<Vec<BoxFacts>> {
     let mut nodes = Vec::with_capacity(alloc, count)?;
     for place in 0..count {
-        nodes.push(node(alloc, place, count)?)?;
+        nodes.push(match part {
+            Part::Rows => node(alloc, place, row_parent(place), row_class(place))?,
+            _ => node(alloc, place, parent(place), class(place, count))?,
+        })?;
     }
     Ok(nodes)
 }
 
-fn node(alloc: Global, place: usize, count: usize) -> anyhow::Result<BoxFacts> {
+fn node(
+    alloc: Global,
+    place: usize,
+    parent: Option<usize>,
+    class: Class,
+) -> anyhow::Result<BoxFacts> {
     Ok(BoxFacts {
         key: NodeKey {
             slot: place,
             birth: 1,
         },
-        parent: parent(place),
-        class: class(place, count),
+        parent,
+        class,
         constraints: List::new(alloc),
         edge: edge(place % CHILDREN),
         columns: List::new(alloc),
@@ -157,6 +204,27 @@ fn parent(place: usize) -> Option<usize> {
         return None;
     }
     Some((place - 1) / CHILDREN)
+}
+
+/// Rows stand in the root, and each label behind its row.
+fn row_parent(place: usize) -> Option<usize> {
+    if place == 0 {
+        return None;
+    }
+    match (place - 1) % ROW {
+        0 => Some(0),
+        behind => Some(place - behind),
+    }
+}
+
+fn row_class(place: usize) -> Class {
+    if place == 0 {
+        Class::VBox
+    } else if is_row(Part::Rows, place) {
+        Class::HBox
+    } else {
+        Class::Label
+    }
 }
 
 /// Nodes with children are panes of each kind in turn, and the others labels and regions.

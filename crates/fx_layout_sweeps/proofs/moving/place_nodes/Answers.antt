@@ -1,4 +1,4 @@
-use Rattle.std.proofs.Common.{refl, sym, ap, ◌≡◌, ◌<◌, ℕ, ◌+◌, List, Bool, false, cond, add-zero, length, slice_set, arith}
+use Rattle.std.proofs.Common.{refl, sym, ap, ◌≡◌, ◌<◌, ℕ, ◌+◌, List, Bool, false, cond, if◌then◌else◌, add-zero, length, slice_set, arith}
 use Rattle.std.proofs.lemmas.List.{get_or-set_same, get_or-set_other}
 use Rattle.fx_layout_sweeps.specs.Marks.{flag_in}
 use Rattle.fx_layout_sweeps.specs.Sweeps.{kept_in, last_in, tally}
@@ -31,9 +31,9 @@ loop-at-preserved g c =
     (λ q less. sym (get_or-set_other flags p q worked false (λ equal. omega (arith, less, equal)))) in
     let few : p < length flags = omega (arith, c.loop-at.invariant.0.each_flag, c.loop-at-test.true) in
     let marked : ℕ = cond (flag_in after p) 1 0 in
-    let ticked : ℕ = cond worked 1 0 in
+    let ticked : ℕ = if worked then 1 else 0 in
     let here : marked ≡ ticked = ap {B = ℕ} (λ (b : Bool). cond b 1 0) (get_or-set_same flags p worked false few) in
-    let total : c.loop-at.work.laid + cond worked 1 0 ≡ c.args.work.now.laid + tally (flag_in after) (p + 1) =
+    let total : c.loop-at.work.laid + (if worked then 1 else 0) ≡ c.args.work.now.laid + tally (flag_in after) (p + 1) =
     omega (arith, ap (λ w. w.laid) same, unchanged, tally_more (flag_in after) p, here) in
     rw (c.put.ensures) (
       spread_more sweep.placing.axis sweep.placing.nodes.now sweep.placing.looks.now sweep.placing.children.now c.args.marks.now sweep.placing.widths.now

@@ -34,11 +34,11 @@ loop-at-preserved g c =
     let turn : IsTurn t flags after_flags spans after at = record {
       within = within;
       is_marked = found.2;
-      put = rw (c.as_slice-in-Some.ensures.value, c.in_ok-rects.ensures.rects, c.span_at-room.ensures, c.as_slice.ensures.value, c.children_in-places.ensures.value) at c.move_children.ensures.put;
+      put = rw (c.as_slice-in-Some.ensures.value, c.in_ok-found.ensures.spans, c.span_at-room.ensures, c.as_slice.ensures.value, c.children_in-places.ensures.value) at c.move_children.ensures.put;
       each_flag = c.move_children.ensures.each_mark;
       marks = c.move_children.ensures.marks;
     } in
-    let step = c.in_ok-rects.ensures.work in
+    let step = c.in_ok-found.ensures.work in
     let same = c.loop-at.invariant.1 in
     let passed = tally_between (flag_in flags) c.loop-at.from at found.0 found.3 in
     let counted = tally_turn t flags after_flags spans after at known here.each_flag turn in

@@ -13,7 +13,7 @@ along-same (Some (Color color)) f g same = refl
 along-same (Some (Named name)) f g same = same name
 
 -- the search is the same where the nearest paints are
-same-in : (most : ℕ) (one other : List (List NamedPaint))
+pub same-in : (most : ℕ) (one other : List (List NamedPaint))
     → ((name : List ℕ) → nearest one name ≡ nearest other name) → (visited : List (List ℕ)) (name : List ℕ)
     → resolved_in most one visited name ≡ resolved_in most other visited name
 unfolding resolved_in

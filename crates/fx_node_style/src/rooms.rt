@@ -1,4 +1,5 @@
 //! The memory of styles that are gone: the lists of the next ones are made in it.
+ghost use Rattle.std.specs.Prelude.{◌≡◌, []};
 
 use crate::node_styles::NodeStyle;
 use fx_base::{Color, Sides};
@@ -9,13 +10,13 @@ use std::alloc::Global;
 /// The memory of a style's lists. What stands in it doesn't matter.
 #[derive(Drop)]
 pub struct Room {
-    pub(crate) layers: LayersRoom,
-    pub(crate) paints: Vec<NamedPaint>,
+    pub layers: LayersRoom,
+    pub paints: Vec<NamedPaint>,
 }
 
 /// The memory of a look's layers.
 #[derive(Drop)]
-pub(crate) struct LayersRoom {
+pub struct LayersRoom {
     pub background_color: Vec<Color>,
     pub background_insets: Vec<Sides>,
     pub border_color: Vec<Color>,
@@ -25,7 +26,9 @@ pub(crate) struct LayersRoom {
 
 impl Room {
     /// No memory yet.
-    pub fn new(alloc: Global) -> Room {
+    pub fn new(alloc: Global) -> Room
+        ensures { result.paints.items ≡ [] }
+    {
         Room {
             layers: LayersRoom {
                 background_color: Vec::new(alloc),
@@ -38,8 +41,15 @@ impl Room {
         }
     }
 
-    /// The memory of this style.
-    pub fn of(style: NodeStyle) -> Room {
+    /// The memory of this style: its lists, as they are.
+    pub fn of(style: NodeStyle) -> Room
+        ensures paints { result.paints.items ≡ style.paints }
+        ensures backgrounds { (result.layers.background_color.items ≡ style.look.background_color)
+            × (result.layers.background_insets.items ≡ style.look.background_insets) }
+        ensures borders { (result.layers.border_color.items ≡ style.look.border_color)
+            × (result.layers.border_width.items ≡ style.look.border_width)
+            × (result.layers.border_insets.items ≡ style.look.border_insets) }
+    {
         let NodeStyle { look, paints } = style;
         Room {
             layers: LayersRoom::of(look),
@@ -49,7 +59,13 @@ impl Room {
 }
 
 impl LayersRoom {
-    fn of(look: Look) -> LayersRoom {
+    fn of(look: Look) -> LayersRoom
+        ensures backgrounds { (result.background_color.items ≡ look.background_color)
+            × (result.background_insets.items ≡ look.background_insets) }
+        ensures borders { (result.border_color.items ≡ look.border_color)
+            × (result.border_width.items ≡ look.border_width)
+            × (result.border_insets.items ≡ look.border_insets) }
+    {
         let Look {
             background_color,
             background_insets,

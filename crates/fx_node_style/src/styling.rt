@@ -33,23 +33,7 @@ pub struct Ground<'a> {
     pub above: &'a [&'a [NamedPaint]],
 }
 
-/// The style of a node. Counts one styled node.
-pub fn style_by<L: Ledgers>(
-    alloc: Global,
-    ground: Ground<'_>,
-    work: &mut Work<L>,
-) -> Result<NodeStyle, AllocError>
-    requires rows { AreRows ground.codes.now }
-    requires sheets { AreWithinLimits ground.sheets.now }
-    ensures style { IfOk result (λ style. style
-        ≡ style_under ground.entry.sheets.now ground.entry.matched.now ground.entry.codes.now ground.entry.alignment
-        (option_copied ground.entry.parent) (map (λ n. n.now) ground.entry.above.now)) }
-    ensures cost { work.new ≡ record work.old { styled = work.old.styled + 1 } }
-{
-    style_in(alloc, Room::new(alloc), ground, work)
-}
-
-/// The style of a node, in the room of another. Counts one styled node.
+/// The style of a node, in the room of one that is gone, or in new room. Counts one styled node.
 pub fn style_in<L: Ledgers>(
     alloc: Global,
     room: Room,

@@ -1,12 +1,16 @@
--- The styles of a node's ancestors, gathered from the nearest up.
-use Rattle.std.proofs.Common.{◌≡◌, ◌++◌, ◌∷◌, ◌<◌, ℕ, suc, List, Option, Some, None, length, refl, sym, ◌∙◌, ap, subst, arith, append_assoc}
+-- What is taken of the styles of a node's ancestors, gathered from the nearest up.
+use Rattle.std.proofs.Common.{◌≡◌, ◌++◌, ◌∷◌, [], ◌<◌, ℕ, suc, List, Option, Some, None, length, refl, sym, ◌∙◌, ap, subst, arith, append_assoc}
 use Rattle.std.specs.Prelude.{option_to_list}
 use Rattle.std.specs.List.{cons_option, filter_map}
 use Rattle.std.specs.Option.{option_map_or}
 use Rattle.std.proofs.lemmas.List.{append-nil}
 use Rattle.fx_kinds.specs.declared.facts.StyleFacts.{StyleFacts}
 use Rattle.fx_select.specs.Chains.{ParentsStandBefore}
+use Rattle.fx_look.specs.declared.looks.Look.{Look}
+use Rattle.fx_lookup.specs.declared.named.NamedPaint.{NamedPaint}
 use Rattle.fx_node_style.specs.declared.node_styles.NodeStyle.{NodeStyle}
+use Rattle.fx_node_style.specs.Styling.{look_above}
+use Rattle.fx_style.specs.Above.{if_some, some_paints}
 use Rattle.fx_style.specs.Places.{parent_at, places_up}
 use Rattle.fx_style.proofs.PlaceLemmas.{parent_before, places-none, places-some}
 
@@ -19,30 +23,61 @@ pub made_first : {X Y : Type 0} (f : X → Option Y) (x : X) (y : Y) (xs : List 
     → filter_map f (x ∷ xs) ≡ y ∷ filter_map f xs
 made_first {X} {Y} f x y xs e = ap (λ (o : Option Y). cons_option o (filter_map f xs)) e
 
-cons_as : {X : Type 0} (o : Option X) (xs : List X) → cons_option o xs ≡ option_to_list o ++ xs
-cons_as None xs = refl
-cons_as (Some x) xs = refl
+-- a place's styles are its own and those from its parent up
+up_from : (now : Now) (facts : List StyleFacts) → ParentsStandBefore facts → (at : ℕ) (place : Option ℕ)
+    (o : Option NodeStyle) → at < length facts → place ≡ Some at → now at ≡ o
+    → cons_option o (filter_map now (places_up facts (parent_at facts at))) ≡ filter_map now (places_up facts place)
+up_from now facts before at place o within is made =
+    ap (λ (s : Option NodeStyle). cons_option s (filter_map now (places_up facts (parent_at facts at)))) (sym made)
+    ∙ ap (filter_map now) (sym (places-some facts before at within))
+    ∙ ap (λ (p : Option ℕ). filter_map now (places_up facts p)) (sym is)
+
+up_none : (now : Now) (facts : List StyleFacts) (place : Option ℕ) → place ≡ None
+    → [] ≡ filter_map now (places_up facts place)
+up_none now facts place none = ap (filter_map now) (sym (ap (places_up facts) none ∙ places-none facts))
+
+cons_some : (o : Option NodeStyle) (xs : List NodeStyle)
+    → some_paints (cons_option o xs) ≡ some_paints (option_to_list o) ++ some_paints xs
+cons_some None xs = refl
+cons_some (Some s) xs = ap (λ (l : List (List NamedPaint)). l ++ some_paints xs) (sym (append-nil (if_some s.paints)))
 
 -- one place further up
 pub climbs : (now : Now) (facts : List StyleFacts) → ParentsStandBefore facts → (at : ℕ) (place : Option ℕ)
-    (old new all : List NodeStyle) → at < length facts → place ≡ Some at → new ≡ old ++ option_to_list (now at)
-    → old ++ filter_map now (places_up facts place) ≡ all
-    → new ++ filter_map now (places_up facts (parent_at facts at)) ≡ all
+    (old new all : List (List NamedPaint)) → at < length facts → place ≡ Some at
+    → new ≡ old ++ some_paints (option_to_list (now at))
+    → old ++ some_paints (filter_map now (places_up facts place)) ≡ all
+    → new ++ some_paints (filter_map now (places_up facts (parent_at facts at))) ≡ all
 climbs now facts before at place old new all within is made so_far =
-    let up = places_up facts (parent_at facts at) in
-    ap (λ (l : List NodeStyle). l ++ filter_map now up) made
-    ∙ append_assoc old (option_to_list (now at)) (filter_map now up)
-    ∙ ap (λ (l : List NodeStyle). old ++ l) (sym (cons_as (now at) (filter_map now up)))
-    ∙ ap (λ (l : List ℕ). old ++ filter_map now l) (sym (places-some facts before at within))
-    ∙ ap (λ (p : Option ℕ). old ++ filter_map now (places_up facts p)) (sym is)
+    let up = filter_map now (places_up facts (parent_at facts at)) in
+    ap (λ (l : List (List NamedPaint)). l ++ some_paints up) made
+    ∙ append_assoc old (some_paints (option_to_list (now at))) (some_paints up)
+    ∙ ap (λ (l : List (List NamedPaint)). old ++ l) (sym (cons_some (now at) up))
+    ∙ ap (λ (l : List NodeStyle). old ++ some_paints l) (up_from now facts before at place (now at) within is refl)
     ∙ so_far
 
-pub climbed : (now : Now) (facts : List StyleFacts) (place : Option ℕ) (old all : List NodeStyle) → place ≡ None
-    → old ++ filter_map now (places_up facts place) ≡ all → old ≡ all
+pub climbed : (now : Now) (facts : List StyleFacts) (place : Option ℕ) (old all : List (List NamedPaint))
+    → place ≡ None → old ++ some_paints (filter_map now (places_up facts place)) ≡ all → old ≡ all
 climbed now facts place old all none so_far =
     sym (append-nil old)
-    ∙ ap (λ (l : List ℕ). old ++ filter_map now l) (sym (ap (places_up facts) none ∙ places-none facts))
+    ∙ ap (λ (l : List NodeStyle). old ++ some_paints l) (up_none now facts place none)
     ∙ so_far
+
+pub look_climbs : (now : Now) (facts : List StyleFacts) → ParentsStandBefore facts → (at : ℕ) (place : Option ℕ)
+    (all : Option Look) → at < length facts → place ≡ Some at → now at ≡ None
+    → look_above (filter_map now (places_up facts place)) ≡ all
+    → look_above (filter_map now (places_up facts (parent_at facts at))) ≡ all
+look_climbs now facts before at place all within is none so_far =
+    ap look_above (up_from now facts before at place None within is none) ∙ so_far
+
+pub look_found : (now : Now) (facts : List StyleFacts) → ParentsStandBefore facts → (at : ℕ) (place : Option ℕ)
+    (all : Option Look) (style : NodeStyle) → at < length facts → place ≡ Some at → now at ≡ Some style
+    → look_above (filter_map now (places_up facts place)) ≡ all → Some style.look ≡ all
+look_found now facts before at place all style within is found so_far =
+    ap look_above (up_from now facts before at place (Some style) within is found) ∙ so_far
+
+pub look_none : (now : Now) (facts : List StyleFacts) (place : Option ℕ) (all : Option Look) → place ≡ None
+    → look_above (filter_map now (places_up facts place)) ≡ all → None ≡ all
+look_none now facts place all none so_far = ap look_above (up_none now facts place none) ∙ so_far
 
 pub smaller : (facts : List StyleFacts) → ParentsStandBefore facts → (place next : Option ℕ) (at : ℕ)
     → place ≡ Some at → next ≡ parent_at facts at → option_map_or suc next 0 < option_map_or suc place 0

@@ -1,5 +1,6 @@
 pub mod PlaceLemmas
 pub mod AboveLemmas
+pub mod BareLemmas
 pub mod KeyLemmas
 pub mod FreshLemmas
 pub mod PutLemmas

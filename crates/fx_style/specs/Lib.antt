@@ -1,3 +1,4 @@
+pub mod Above
 pub mod Changes
 pub mod Kept
 pub mod Places

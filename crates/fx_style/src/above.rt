@@ -3,7 +3,8 @@ ghost use Rattle.std.specs.Prelude.{◌≡◌, ◌++◌, ◌<◌, ◌≤◌, ℕ
 ghost use Rattle.std.specs.List.{filter_map};
 ghost use Rattle.std.specs.Option.{ForSome, option_copied, option_map};
 ghost use Rattle.fx_select.specs.Chains.{ParentsStandBefore};
-ghost use Rattle.fx_node_style.specs.Styling.{look_above, paints_above};
+ghost use Rattle.fx_node_style.specs.Styling.{look_above};
+ghost use Rattle.fx_style.specs.Above.{if_some, some_paints};
 ghost use Rattle.fx_style.specs.Kept.{entry_in, fresh_at, planned_at, style_of_entry};
 ghost use Rattle.fx_style.specs.Places.{parent_at, places_up};
 ghost use Rattle.fx_style.specs.Plans.{AreSteps, plan_style, seen_style};
@@ -70,64 +71,79 @@ fn fresh_entry<'a>(plan: Plan<'a>, at: usize) -> Option<&'a Entry>
     Some(&fresh.entry)
 }
 
-/// The styles from this place up, the nearest first.
-pub(crate) fn styles_up<'a>(
-    alloc: Global,
+/// The look of the nearest from this place up.
+pub(crate) fn look_up<'a>(
     facts: &[StyleFacts],
     plan: Plan<'a>,
     parent: Option<usize>,
-) -> Result<Vec<Seen<'a>>, AllocError>
+) -> Option<&'a Look>
     requires before { ParentsStandBefore facts.now }
     requires plan { AreSteps plan.fresh.now plan.steps.now }
     requires few { length plan.steps.now ≤ length facts.now }
     requires there { ForSome parent (λ p. p < length plan.steps.now) }
-    ensures { IfOk result (λ styles. map seen_style styles.items
-        ≡ filter_map (plan_style plan.entry) (places_up facts.now parent)) }
+    ensures { option_copied result
+        ≡ look_above (filter_map (plan_style plan.entry) (places_up facts.now parent)) }
 {
-    let mut styles = Vec::new(alloc);
     let mut place = parent;
     while let Some(at) = place {
-        push_seen(&mut styles, planned(plan, at))?;
+        if let Some(seen) = planned(plan, at) {
+            return Some(seen.look);
+        }
         place = parent_at(facts, at);
     }
-    Ok(styles)
+    None
 }
 
-fn push_seen<'a>(styles: &mut Vec<Seen<'a>>, seen: Option<Seen<'a>>) -> Result<(), AllocError>
-    ensures { OnOk result (map seen_style styles.new.items
-        ≡ map seen_style styles.old.items ++ option_to_list (option_map seen_style seen.entry)) }
+/// The paints of those from this place up that have some, the nearest first. Takes no memory where none has any.
+pub(crate) fn paints_up<'a>(
+    alloc: Global,
+    facts: &[StyleFacts],
+    plan: Plan<'a>,
+    parent: Option<usize>,
+) -> Result<Vec<&'a [NamedPaint]>, AllocError>
+    requires before { ParentsStandBefore facts.now }
+    requires plan { AreSteps plan.fresh.now plan.steps.now }
+    requires few { length plan.steps.now ≤ length facts.now }
+    requires there { ForSome parent (λ p. p < length plan.steps.now) }
+    ensures { IfOk result (λ paints. map (λ n. n.now) paints.items
+        ≡ some_paints (filter_map (plan_style plan.entry) (places_up facts.now parent))) }
+{
+    let mut paints = Vec::new(alloc);
+    let mut place = parent;
+    while let Some(at) = place {
+        push_seen(&mut paints, planned(plan, at))?;
+        place = parent_at(facts, at);
+    }
+    Ok(paints)
+}
+
+fn push_seen<'a>(
+    paints: &mut Vec<&'a [NamedPaint]>,
+    seen: Option<Seen<'a>>,
+) -> Result<(), AllocError>
+    ensures { OnOk result (map (λ n. n.now) paints.new.items ≡ map (λ n. n.now) paints.old.items
+        ++ some_paints (option_to_list (option_map seen_style seen.entry))) }
 {
     match seen {
-        Some(seen) => {
-            styles.push(seen)?;
-            Ok(())
-        }
+        Some(seen) => push_paints(paints, seen.paints),
         None => Ok(()),
     }
 }
 
-/// The look of the nearest.
-pub(crate) fn look_above<'a>(above: &[Seen<'a>]) -> Option<&'a Look>
-    ensures { option_copied result ≡ look_above (map seen_style above.now) }
+fn push_paints<'a>(
+    paints: &mut Vec<&'a [NamedPaint]>,
+    own: &'a [NamedPaint],
+) -> Result<(), AllocError>
+    ensures { OnOk result (map (λ n. n.now) paints.new.items
+        ≡ map (λ n. n.now) paints.old.items ++ if_some own.now) }
 {
-    match above {
-        [parent, ..] => Some(parent.look),
-        [] => None,
+    match own {
+        [] => Ok(()),
+        [_, ..] => {
+            paints.push(own)?;
+            Ok(())
+        }
     }
-}
-
-/// The paints of each.
-pub(crate) fn paints_above<'a>(
-    alloc: Global,
-    above: &[Seen<'a>],
-) -> Result<Vec<&'a [NamedPaint]>, AllocError>
-    ensures { IfOk result (λ paints. map (λ n. n.now) paints.items ≡ paints_above (map seen_style above.now)) }
-{
-    let mut paints = Vec::with_capacity(alloc, above.len())?;
-    for seen in above {
-        paints.push(seen.paints)?;
-    }
-    Ok(paints)
 }
 
 pub(crate) fn parent_at(facts: &[StyleFacts], at: usize) -> Option<usize>

@@ -8,6 +8,7 @@ mod kept;
 mod laws;
 mod making;
 mod marks;
+mod memory;
 mod putting;
 mod same;
 mod styles;

@@ -1,26 +1,28 @@
 //! The entries that an update makes anew, before anything that is kept is changed.
 ghost use Rattle.std.specs.Prelude.{◌≡◌, ◌++◌, ◌∷◌, ◌+◌, ◌<◌, ◌≤◌, [], ℕ, Option as Maybe, Some, None, true, false, IfOk, IsTrue, OnOk, is_some, length, map, slice_get, slice_index_or};
 ghost use Rattle.std.specs.List.{filter_map};
-ghost use Rattle.std.specs.Option.{option_map};
+ghost use Rattle.std.specs.Option.{option_copied, option_map};
 ghost use Rattle.fx_kinds.specs.declared.facts.StyleFacts.{StyleFacts as Facts};
 ghost use Rattle.fx_css_types.specs.Limits.{AreShort, AreWithinLimits};
 ghost use Rattle.fx_select.specs.Chains.{ParentsStandBefore, chain};
-ghost use Rattle.fx_node_style.specs.Styling.{paints_above as paints_up, look_above as look_up, style_under};
+ghost use Rattle.fx_style.specs.Above.{node_under};
 ghost use Rattle.fx_base.specs.Answers.{or_else};
 ghost use Rattle.fx_style.specs.Kept.{HaveDifferentKeys, entry, entry_in, fresh_at, is_among, kept_at, kept_under, place_of_key, style_of_entry};
 ghost use Rattle.fx_style.specs.Turns.{AreRightBelow, IsLeft};
 ghost use Rattle.fx_style.specs.Places.{parent_at, places_up};
-ghost use Rattle.fx_style.specs.Plans.{AreSteps, made_fresh, plan_style, put_step, seen_style};
+ghost use Rattle.fx_style.specs.Plans.{AreSteps, made_fresh, plan_style, put_step};
 ghost use Rattle.fx_style.specs.Rules as spec;
 
-use crate::above::{Plan, Seen, look_above, paints_above, parent_at, styles_up};
+use crate::above::{Plan, look_up, paints_up, parent_at};
 use crate::kept::{Entry, Fresh, Rest, place_of_key, stands_at};
 use crate::marks::marked;
+use crate::memory::{Memory, taken_room};
 use fx_base::{Ledgers, NodeKey, Work};
 use fx_css_types::{Candidate, SheetAt, sheets_within_limits_are_short};
 use fx_kinds::{StyleFacts, initial_alignment};
 use fx_look::Look;
-use fx_node_style::{Ground, NodeStyle, style_by};
+use fx_lookup::NamedPaint;
+use fx_node_style::{Ground, NodeStyle, style_in};
 use fx_select::RuleIndex;
 use std::alloc::{AllocError, Global};
 
@@ -32,16 +34,23 @@ pub struct Scene<'a> {
     pub facts: &'a [StyleFacts],
 }
 
-/// The rules that match a node.
-fn matched_rules(alloc: Global, scene: Scene<'_>, at: usize) -> Result<Vec<Candidate>, AllocError>
+/// Finds the rules that match a node, in the place of those that were found before.
+fn find_rules(
+    alloc: Global,
+    scene: Scene<'_>,
+    at: usize,
+    found: &mut Vec<Candidate>,
+) -> Result<(), AllocError>
     requires before { ParentsStandBefore scene.facts.now }
     requires there { at < length scene.facts.now }
     requires sheets { spec.AreIndexed scene.index.now scene.sheets.now }
-    ensures { IfOk result (λ found. found.items
+    ensures { OnOk result (found.new.items
         ≡ spec.matching_nodes scene.entry.sheets.now (chain scene.entry.facts.now at)) }
 {
     sheets_within_limits_are_short();
-    scene.index.matched(alloc, scene.sheets, scene.facts, at)
+    scene
+        .index
+        .find_matched(alloc, scene.sheets, scene.facts, at, found)
 }
 
 fn node_at(facts: &[StyleFacts], at: usize) -> &StyleFacts
@@ -51,34 +60,36 @@ fn node_at(facts: &[StyleFacts], at: usize) -> &StyleFacts
     &facts[at]
 }
 
-/// The style of a node from nothing, by the rules that match it and the styles of its ancestors.
+/// The style of a node from nothing, by the rules that match it, its parent's look and the paints of its ancestors.
 fn node_style<L: Ledgers>(
     alloc: Global,
     scene: Scene<'_>,
     at: usize,
-    above: &[Seen<'_>],
+    parent: Option<&Look>,
+    above: &[&[NamedPaint]],
+    memory: &mut Memory,
     work: &mut Work<L>,
 ) -> Result<NodeStyle, AllocError>
     requires before { ParentsStandBefore scene.facts.now }
     requires there { at < length scene.facts.now }
     requires sheets { spec.AreIndexed scene.index.now scene.sheets.now }
     requires codes { spec.HaveRows scene.facts.now }
-    ensures style { IfOk result (λ made. made
-        ≡ spec.chain_style scene.entry.sheets.now (chain scene.entry.facts.now at) (map seen_style above.now)) }
+    ensures style { IfOk result (λ made. made ≡ node_under scene.entry.sheets.now (chain scene.entry.facts.now at)
+        (option_copied parent.entry) (map (λ n. n.now) above.now)) }
     ensures cost { OnOk result (work.new ≡ record work.old { styled = work.old.styled + 1 }) }
 {
-    let matched = matched_rules(alloc, scene, at)?;
+    find_rules(alloc, scene, at, &mut memory.found)?;
+    let room = taken_room(&mut memory.rooms, alloc);
     let node = node_at(scene.facts, at);
-    let paints = paints_above(alloc, above)?;
     let ground = Ground {
         sheets: scene.sheets,
-        matched: matched.as_slice(),
+        matched: memory.found.as_slice(),
         codes: node.codes.as_slice(),
         alignment: initial_alignment(node.class),
-        parent: look_above(above),
-        above: paints.as_slice(),
+        parent,
+        above,
     };
-    style_by(alloc, ground, work)
+    style_in(alloc, room, ground, work)
 }
 
 /// The style of a node from nothing, by what its ancestors have by now.
@@ -87,6 +98,7 @@ fn style_anew<L: Ledgers>(
     scene: Scene<'_>,
     plan: Plan<'_>,
     at: usize,
+    memory: &mut Memory,
     work: &mut Work<L>,
 ) -> Result<NodeStyle, AllocError>
     requires before { ParentsStandBefore scene.facts.now }
@@ -99,8 +111,10 @@ fn style_anew<L: Ledgers>(
         (filter_map (plan_style plan.entry) (places_up scene.entry.facts.now (parent_at scene.entry.facts.now at)))) }
     ensures cost { OnOk result (work.new ≡ record work.old { styled = work.old.styled + 1 }) }
 {
-    let above = styles_up(alloc, scene.facts, plan, parent_at(scene.facts, at))?;
-    node_style(alloc, scene, at, above.as_slice(), work)
+    let parent = parent_at(scene.facts, at);
+    let look = look_up(scene.facts, plan, parent);
+    let paints = paints_up(alloc, scene.facts, plan, parent)?;
+    node_style(alloc, scene, at, look, paints.as_slice(), memory, work)
 }
 
 /// A copy of the style that is kept at a place.
@@ -169,6 +183,7 @@ fn remade<L: Ledgers>(
     scene: Scene<'_>,
     plan: Plan<'_>,
     turn: Turn,
+    memory: &mut Memory,
     work: &mut Work<L>,
 ) -> Result<Option<NodeStyle>, AllocError>
     requires before { ParentsStandBefore scene.facts.now }
@@ -195,7 +210,7 @@ fn remade<L: Ledgers>(
     match left_of(alloc, plan.looks, plan.rest, turn)? {
         Left::Stays => Ok(None),
         Left::Copied(style) => Ok(Some(style)),
-        Left::Nothing => Ok(Some(style_anew(alloc, scene, plan, turn.at, work)?)),
+        Left::Nothing => Ok(Some(style_anew(alloc, scene, plan, turn.at, memory, work)?)),
     }
 }
 
@@ -272,6 +287,7 @@ pub(crate) fn made<L: Ledgers>(
     scene: Scene<'_>,
     old: Old<'_>,
     restyle: &[usize],
+    memory: &mut Memory,
     work: &mut Work<L>,
 ) -> Result<Vec<Fresh>, AllocError>
     requires before { ParentsStandBefore scene.facts.now }
@@ -302,6 +318,7 @@ pub(crate) fn made<L: Ledgers>(
     for (at, node) in facts.iter().enumerate() {
         let listed = marks[at];
         if is_idle(old, listed, node.key, at) {
+            guess = at.wrapping_add(1);
             continue;
         }
         let place = place_of_key(old.rest, node.key, guess);
@@ -319,7 +336,7 @@ pub(crate) fn made<L: Ledgers>(
             fresh: fresh.as_slice(),
             steps: steps.as_slice(),
         };
-        let style = remade(alloc, scene, plan, turn, work)?;
+        let style = remade(alloc, scene, plan, turn, memory, work)?;
         push_made(&mut fresh, &mut steps, at, node.key, style)?;
     }
     Ok(fresh)

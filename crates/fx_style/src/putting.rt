@@ -1,39 +1,66 @@
-//! Fresh entries put in their places, which takes no memory.
+//! Fresh entries put in their places, which can't fail: only noting the memory that serves again may take some.
 ghost use Rattle.std.specs.Prelude.{◌≡◌, IfOk, IsTrue, OnOk, Some, length, map, slice_get, slice_set};
 ghost use Rattle.std.specs.Option.{option_copied};
 ghost use Rattle.fx_style.specs.Kept.{put_looks, put_rest, rest_of};
 ghost use Rattle.fx_style.specs.Changes.{IsNoted, NamesChanges};
 
 use crate::kept::{Entry, Fresh, Rest};
+use crate::memory::keep_room;
 use crate::same::is_same_look;
 use fx_base::{Color, List, NodeKey, Sides};
 use fx_look::Look;
-use fx_node_style::NodeStyle;
+use fx_lookup::NamedPaint;
+use fx_node_style::{NodeStyle, Room};
 use std::alloc::{AllocError, Global};
+use std::mem;
 
-/// Puts each entry in its place.
-pub(crate) fn put_all(looks: &mut [Look], rest: &mut [Rest], fresh: Vec<Fresh>)
+/// Puts each entry in its place, and keeps the memory of what stood there.
+pub(crate) fn put_all(
+    looks: &mut [Look],
+    rest: &mut [Rest],
+    fresh: Vec<Fresh>,
+    rooms: &mut Vec<Room>,
+)
     ensures looks { looks.new ≡ put_looks looks.old fresh.items }
     ensures rest { rest.new ≡ put_rest rest.old fresh.items }
 {
     for one in fresh {
-        put_one(looks, rest, one);
+        put_one(looks, rest, one, rooms);
     }
 }
 
-fn put_one(looks: &mut [Look], rest: &mut [Rest], one: Fresh)
+fn put_one(looks: &mut [Look], rest: &mut [Rest], one: Fresh, rooms: &mut Vec<Room>)
     ensures looks { looks.new ≡ slice_set looks.old one.at one.entry.style.look }
     ensures rest { rest.new ≡ slice_set rest.old one.at (rest_of one.entry) }
 {
     let Fresh { at, entry } = one;
     let Entry { key, style } = entry;
     let NodeStyle { look, paints } = style;
+    let look = put_look(looks, at, look);
+    let paints = put_paints(rest, at, Rest { key, paints });
+    keep_room(rooms, looks.len(), NodeStyle { look, paints });
+}
+
+/// Puts the look in its place, and gives what stood there, or the look where there is no such place.
+fn put_look(looks: &mut [Look], at: usize, look: Look) -> Look
+    ensures { looks.new ≡ slice_set looks.old at look }
+{
     if at < looks.len() {
-        looks[at] = look;
+        return mem::replace(&mut looks[at], look);
     }
+    look
+}
+
+/// Puts the rest in its place, and gives the paints that stood there, or its own where there is no such place.
+fn put_paints(rest: &mut [Rest], at: usize, one: Rest) -> List<NamedPaint>
+    ensures { rest.new ≡ slice_set rest.old at one }
+{
     if at < rest.len() {
-        rest[at] = Rest { key, paints };
+        let Rest { paints, .. } = mem::replace(&mut rest[at], one);
+        return paints;
     }
+    let Rest { paints, .. } = one;
+    paints
 }
 
 /// The places of the entries.

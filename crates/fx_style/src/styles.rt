@@ -8,6 +8,7 @@ ghost use Rattle.fx_style.specs.Turns.{ArePut, AreRightBelow, HaveKeysOf};
 
 use crate::kept::{Fresh, Rest};
 use crate::making::{Old, Scene, made};
+use crate::memory::Memory;
 use crate::putting::{blank_looks, blank_rest, changed_places, places_of, put_all};
 use fx_base::{Ledgers, Work};
 use fx_kinds::StyleFacts;
@@ -17,12 +18,13 @@ use std::marker::Model;
 use std::mem;
 
 /// The look of each node of the last update in their order, and what updates need of them: their keys and the paints
-/// that are looked up on them.
+/// that are looked up on them. Contracts don't see the memory that serves again.
 #[derive(Drop)]
 pub struct Styles {
     looks: Vec<Look>,
     rest: Vec<Rest>,
     changed: Vec<usize>,
+    memory: Memory,
 }
 
 impl Model for Styles {
@@ -44,6 +46,7 @@ impl Styles {
             looks: Vec::new(alloc),
             rest: Vec::new(alloc),
             changed: Vec::new(alloc),
+            memory: Memory::new(alloc),
         }
     }
 
@@ -84,10 +87,43 @@ impl Styles {
               + worked (needs restyle.now (kept_of self.old scene.entry.facts.now)) (length scene.entry.facts.now);
         }) }
     {
+        let memory = self.take_memory(alloc);
+        self.update_in(alloc, scene, restyle, memory, work)
+    }
+
+    /// Takes the memory that serves again.
+    fn take_memory(&mut self, alloc: Global) -> Memory
+        ensures { self.new ≡ self.old }
+    {
+        mem::replace(&mut self.memory, Memory::new(alloc))
+    }
+
+    /// Updates what is kept, in this memory.
+    fn update_in<L: Ledgers>(
+        &mut self,
+        alloc: Global,
+        scene: Scene<'_>,
+        restyle: &[usize],
+        mut memory: Memory,
+        work: &mut Work<L>,
+    ) -> Result<(), AllocError>
+        requires before { ParentsStandBefore scene.facts.now }
+        requires keys { AreDifferent scene.facts.now }
+        requires sheets { AreIndexed scene.index.now scene.sheets.now }
+        requires codes { HaveRows scene.facts.now }
+        ensures styles { OnOk result
+            (IsUpdate scene.entry.sheets.now scene.entry.facts.now restyle.now self.old self.new) }
+        ensures changed { OnOk result (KeepsOthers self.old self.new) }
+        ensures err { OnErr result (self.new ≡ self.old) }
+        ensures cost { OnOk result (work.new ≡ record work.old {
+          styled = work.old.styled
+              + worked (needs restyle.now (kept_of self.old scene.entry.facts.now)) (length scene.entry.facts.now);
+        }) }
+    {
         let stay = self.stays(scene.facts.len());
-        let fresh = self.fresh(alloc, scene, stay, restyle, work)?;
+        let fresh = self.fresh(alloc, scene, stay, restyle, &mut memory, work)?;
         let changed = self.changes(alloc, stay, fresh.as_slice())?;
-        self.put(alloc, scene.facts, stay, fresh, changed)
+        self.put(alloc, scene.facts, stay, fresh, changed, memory)
     }
 
     /// Are there as many entries as nodes now, so that what is kept may stay in its places?
@@ -103,6 +139,7 @@ impl Styles {
         scene: Scene<'_>,
         stay: bool,
         restyle: &[usize],
+        memory: &mut Memory,
         work: &mut Work<L>,
     ) -> Result<Vec<Fresh>, AllocError>
         requires before { ParentsStandBefore scene.facts.now }
@@ -125,7 +162,7 @@ impl Styles {
             rest: self.rest.as_slice(),
             stay,
         };
-        made(alloc, scene, old, restyle, work)
+        made(alloc, scene, old, restyle, memory, work)
     }
 
     /// The places whose looks may be others once the fresh entries stand there.
@@ -148,6 +185,7 @@ impl Styles {
         stay: bool,
         fresh: Vec<Fresh>,
         changed: Vec<usize>,
+        memory: Memory,
     ) -> Result<(), AllocError>
         requires stay { stay ≡ true → (length self.old.looks ≡ length facts.now)
             × (length self.old.rest ≡ length facts.now) }
@@ -162,12 +200,12 @@ impl Styles {
         if stay {
             let old = mem::replace(self, Styles::new(alloc));
             let Styles { looks, rest, .. } = old;
-            *self = put_in(looks, rest, fresh, changed);
+            *self = put_in(looks, rest, fresh, changed, memory);
             return Ok(());
         }
         let looks = blank_looks(alloc, facts.len())?;
         let rest = blank_rest(alloc, facts.len())?;
-        *self = put_in(looks, rest, fresh, changed);
+        *self = put_in(looks, rest, fresh, changed, memory);
         Ok(())
     }
 }
@@ -178,6 +216,7 @@ fn put_in(
     mut rest: Vec<Rest>,
     fresh: Vec<Fresh>,
     changed: Vec<usize>,
+    mut memory: Memory,
 ) -> Styles
     requires keys { HaveDifferentKeys (put_rest rest.items fresh.items) }
     ensures { result ≡ record {
@@ -186,10 +225,16 @@ fn put_in(
       changed = changed.items;
     } }
 {
-    put_all(looks.as_mut_slice(), rest.as_mut_slice(), fresh);
+    put_all(
+        looks.as_mut_slice(),
+        rest.as_mut_slice(),
+        fresh,
+        &mut memory.rooms,
+    );
     Styles {
         looks,
         rest,
         changed,
+        memory,
     }
 }

@@ -8,7 +8,7 @@ use fx_base::{Ledgers, Text, Work};
 use fx_cascade::{Source, Winner, best, declarations_at, is_below};
 use fx_css_types::{Candidate, SheetAt, SheetOrigin};
 use fx_lookup::{NamedPaint, nearest, resolve};
-use fx_node_style::{Ground, NodeStyle, style_by};
+use fx_node_style::{Ground, NodeStyle, Room, style_in};
 use std::alloc::{AllocError, Global};
 use std::marker::Brand;
 use std::process::Abort;
@@ -57,7 +57,7 @@ fn button<L: Ledgers>(
         parent: None,
         above: &[],
     };
-    style_by(alloc, ground, work)
+    style_in(alloc, Room::new(alloc), ground, work)
 }
 
 /// Is the second of the colours found, by the name of its name?

@@ -1,6 +1,6 @@
 //! Styles the nodes of a scene, each by ten rules, so many times, or updates their looks where nothing is to be styled
-//! anew, or only searches the rules, and prints a checksum. A script counts its instructions; no other crate stands on
-//! this one.
+//! anew, or only searches the rules, or styles labels by one rule and a width that changes, and prints a checksum. A
+//! script counts its instructions; no other crate stands on this one.
 #![tactic(auto)]
 
 ghost use Rattle.std.specs.Prelude.{◌≡◌};
@@ -11,8 +11,8 @@ mod sheets;
 
 use anyhow::bail;
 use fx_base::{Ledgers, Work};
-use nodes::nodes;
-use rounds::{Rounds, Task, play};
+use nodes::{buttons, labels};
+use rounds::{Rounds, Task, play, play_labels};
 use sheets::sheets;
 use std::alloc::Global;
 use std::env;
@@ -23,7 +23,7 @@ fn main(rt: HostRuntime) -> anyhow::Result<()> {
     let mut words = env::args(&rt)?;
     let _program = words.next();
     let (Some(task), Some(count), Some(rounds)) = (words.next(), words.next(), words.next()) else {
-        bail!("usage: style_bench search|style|keep NODES ROUNDS");
+        bail!("usage: style_bench search|style|keep|labels NODES ROUNDS");
     };
     let rounds = Rounds {
         task: task_of(task.as_str()),
@@ -46,6 +46,7 @@ fn task_of(word: &str) -> Task {
     match word {
         "search" => Task::Search,
         "style" => Task::Style,
+        "labels" => Task::Labels,
         _ => Task::Keep,
     }
 }
@@ -65,12 +66,19 @@ fn start<L: Ledgers>(
 {
     let mut work: Work<L> = Work::new(evaluated, styled, laid, painted);
     let sheets = sheets(alloc)?;
-    let facts = nodes(alloc, rounds.nodes)?;
-    play(
-        alloc,
-        sheets.as_slice(),
-        facts.as_slice(),
-        rounds,
-        &mut work,
-    )
+    let sheets = sheets.as_slice();
+    if let Task::Labels = rounds.task {
+        let narrow = labels(alloc, rounds.nodes, 20)?;
+        let wide = labels(alloc, rounds.nodes, 40)?;
+        return play_labels(
+            alloc,
+            sheets,
+            narrow.as_slice(),
+            wide.as_slice(),
+            rounds.count,
+            &mut work,
+        );
+    }
+    let facts = buttons(alloc, rounds.nodes)?;
+    play(alloc, sheets, facts.as_slice(), rounds, &mut work)
 }

@@ -13,12 +13,14 @@ use fx_select::RuleIndex;
 use fx_style::{Scene, Styles, can_be_styled};
 use std::alloc::{AllocError, Global};
 
-/// What is done with each node: its rules are searched, it is styled anew, or its look is kept.
+/// What is done with each node: its rules are searched, it is styled anew, its look is kept, or it is a label whose
+/// width changes.
 #[derive(Clone, Copy)]
 pub enum Task {
     Search,
     Style,
     Keep,
+    Labels,
 }
 
 /// What is done, with how many nodes, and how often.
@@ -51,8 +53,75 @@ pub fn play<L: Ledgers>(
     match rounds.task {
         Task::Search => Ok(search(alloc, scene, rounds.count)?),
         Task::Style => Ok(style(alloc, scene, rounds.count, work)?),
-        Task::Keep => Ok(keep(alloc, scene, rounds.count, work)?),
+        _ => Ok(keep(alloc, scene, rounds.count, work)?),
     }
+}
+
+/// Styles all nodes that have code values by one list of facts and then by the other, so many times, and gives a
+/// checksum.
+pub fn play_labels<L: Ledgers>(
+    alloc: Global,
+    sheets: &[SheetAt],
+    narrow: &[StyleFacts],
+    wide: &[StyleFacts],
+    count: u64,
+    work: &mut Work<L>,
+) -> anyhow::Result<usize>
+    requires { AreWithinLimits sheets.now }
+{
+    if !can_be_styled(narrow) {
+        bail!("the narrow labels aren't those of a scene");
+    }
+    if !can_be_styled(wide) {
+        bail!("the wide labels aren't those of a scene");
+    }
+    let index = RuleIndex::build(alloc, sheets)?;
+    let scene = Scene {
+        index: &index,
+        sheets,
+        facts: narrow,
+    };
+    Ok(alternate(alloc, scene, wide, count, work)?)
+}
+
+fn alternate<L: Ledgers>(
+    alloc: Global,
+    scene: Scene<'_>,
+    wide: &[StyleFacts],
+    count: u64,
+    work: &mut Work<L>,
+) -> Result<usize, AllocError>
+    requires before { ParentsStandBefore scene.facts.now }
+    requires keys { AreDifferent scene.facts.now }
+    requires sheets { AreIndexed scene.index.now scene.sheets.now }
+    requires codes { HaveRows scene.facts.now }
+    requires wide_before { ParentsStandBefore wide.now }
+    requires wide_keys { AreDifferent wide.now }
+    requires wide_codes { HaveRows wide.now }
+{
+    let other = Scene {
+        index: scene.index,
+        sheets: scene.sheets,
+        facts: wide,
+    };
+    let places = coded(alloc, wide)?;
+    let mut styles = Styles::new(alloc);
+    for _ in 0..count {
+        styles.update(alloc, scene, places.as_slice(), work)?;
+        styles.update(alloc, other, places.as_slice(), work)?;
+    }
+    Ok(checksum(&styles))
+}
+
+/// The places of the nodes that have code values.
+fn coded(alloc: Global, facts: &[StyleFacts]) -> Result<Vec<usize>, AllocError> {
+    let mut places = Vec::new(alloc);
+    for (at, node) in facts.iter().enumerate() {
+        if !node.codes.as_slice().is_empty() {
+            places.push(at)?;
+        }
+    }
+    Ok(places)
 }
 
 /// How many rules match the nodes, in all rounds.

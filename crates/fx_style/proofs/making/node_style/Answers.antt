@@ -10,21 +10,19 @@ use Rattle.fx_kinds.specs.Properties.{initial_alignment}
 use Rattle.fx_kinds.specs.declared.facts.StyleFacts.{StyleFacts}
 use Rattle.fx_select.specs.Chains.{chain, upward}
 use Rattle.fx_select.proofs.ChainLemmas.{upward-some}
-use Rattle.fx_node_style.specs.declared.node_styles.NodeStyle.{NodeStyle}
-use Rattle.fx_node_style.specs.Styling.{look_above, style_by, style_under}
-use Rattle.fx_style.specs.Plans.{seen_style}
-use Rattle.fx_style.specs.Rules.{chain_style, matching_nodes}
+use Rattle.fx_node_style.specs.Styling.{style_under}
+use Rattle.fx_style.specs.Above.{node_under}
+use Rattle.fx_style.specs.Rules.{matching_nodes}
 use Rattle.fx_style.proofs.making.node_style.Goals as goal
 
 by_nodes : (sheets : List SheetAt) (nodes : List StyleFacts) (node : StyleFacts) (up : List StyleFacts)
-    (above : List NodeStyle) → nodes ≡ node ∷ up
-    → style_by sheets (matching_nodes sheets nodes) node.codes (initial_alignment node.class) above
-    ≡ chain_style sheets nodes above
-unfolding chain_style
-by_nodes sheets nodes node up above is =
+    (look : Option Look) (paints : List (List NamedPaint)) → nodes ≡ node ∷ up
+    → style_under sheets (matching_nodes sheets nodes) node.codes (initial_alignment node.class) look paints
+    ≡ node_under sheets nodes look paints
+by_nodes sheets nodes node up look paints is =
     ap (λ (ns : List StyleFacts).
-    style_by sheets (matching_nodes sheets ns) node.codes (initial_alignment node.class) above) is
-    ∙ sym (ap (λ (ns : List StyleFacts). chain_style sheets ns above) is)
+    style_under sheets (matching_nodes sheets ns) node.codes (initial_alignment node.class) look paints) is
+    ∙ sym (ap (λ (ns : List StyleFacts). node_under sheets ns look paints) is)
 
 pub returns-clause-style : goal.returns-clause-style
 returns-clause-style g c =
@@ -32,26 +30,20 @@ returns-clause-style g c =
     let sheets = c.args.scene.sheets.now in
     let nodes = chain facts c.args.at in
     let node = c.node_at-node.result.now in
-    let above : List NodeStyle = map seen_style c.args.above.now in
-    let look : Option Look = option_copied c.look_above.result in
-    let paints : List (List NamedPaint) = map (λ (n : Bor (List NamedPaint)). n.now) c.as_slice-3.result.now in
-    IfOk-weaker c.style_by.result
+    let look : Option Look = option_copied c.args.parent in
+    let paints : List (List NamedPaint) = map (λ (n : Bor (List NamedPaint)). n.now) c.args.above.now in
+    IfOk-weaker c.style_in.result
     (λ made. made
     ≡ style_under sheets c.as_slice.result.now c.as_slice-2.result.now c.initial_alignment.result look paints)
-    (λ made. made ≡ chain_style sheets nodes above)
+    (λ made. made ≡ node_under sheets nodes look paints)
     (λ made is.
     is
     ∙ ap (λ (m : List Candidate). style_under sheets m c.as_slice-2.result.now c.initial_alignment.result look paints)
-    (c.as_slice.ensures.value ∙ c.in_ok-matched.ensures)
+    (c.as_slice.ensures.value ∙ c.in_ok-find_rules.ensures)
     ∙ ap (λ (v : List CodeValue). style_under sheets (matching_nodes sheets nodes) v c.initial_alignment.result look
     paints) c.as_slice-2.ensures
     ∙ ap (λ (n : ℕ). style_under sheets (matching_nodes sheets nodes) node.codes n look paints)
     c.initial_alignment.ensures
-    ∙ ap (λ (l : Option Look). style_under sheets (matching_nodes sheets nodes) node.codes
-    (initial_alignment node.class) l paints) c.look_above.ensures
-    ∙ ap (λ (ps : List (List NamedPaint)). style_under sheets (matching_nodes sheets nodes) node.codes
-    (initial_alignment node.class) (look_above above) ps)
-    (ap (map (λ (n : Bor (List NamedPaint)). n.now)) c.as_slice-3.ensures.value ∙ c.in_ok-paints.ensures)
-    ∙ by_nodes sheets nodes node (upward facts node.parent) above
+    ∙ by_nodes sheets nodes node (upward facts node.parent) look paints
     (upward-some facts c.requires.before c.args.at node c.node_at-node.ensures))
-    c.style_by.ensures.style
+    c.style_in.ensures.style

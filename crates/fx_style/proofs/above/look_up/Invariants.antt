@@ -1,15 +1,16 @@
-use Rattle.std.proofs.Common.{◌≡◌, ◌++◌, ◌<◌, ℕ, suc, map, length}
+use Rattle.std.proofs.Common.{◌≡◌, ◌<◌, ℕ, suc, length}
 use Rattle.std.specs.Option.{option_map_or, ForSome}
 use Rattle.std.specs.List.{filter_map}
+use Rattle.fx_node_style.specs.Styling.{look_above}
 use Rattle.fx_style.specs.Places.{places_up}
-use Rattle.fx_style.specs.Plans.{plan_style, seen_style}
-use Rattle.fx_style.proofs.above.styles_up.Given as goal
+use Rattle.fx_style.specs.Plans.{plan_style}
+use Rattle.fx_style.proofs.above.look_up.Given as goal
 
 abbrev pub invariant-loop-place : goal.invariant-loop-place
 invariant-loop-place l = record {
   there : ForSome l.place (λ (p : ℕ). p < length l.plan.steps.now);
-  so_far : map seen_style l.styles.items ++ filter_map (plan_style l.plan) (places_up l.facts l.place)
-      ≡ filter_map (plan_style l.plan) (places_up l.facts l.fn.parent);
+  so_far : look_above (filter_map (plan_style l.plan) (places_up l.facts l.place))
+      ≡ look_above (filter_map (plan_style l.plan) (places_up l.facts l.fn.parent));
 }
 
 abbrev pub decreases-loop-place : goal.decreases-loop-place

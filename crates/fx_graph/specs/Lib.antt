@@ -1,5 +1,4 @@
 pub mod Asked
 pub mod Forgotten
 pub mod Given
-pub mod Known
 pub mod Store

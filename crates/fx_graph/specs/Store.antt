@@ -1,11 +1,10 @@
 -- What the graph keeps, and what of it contracts see.
-use Rattle.std.specs.Prelude.{ℕ, ◌≡◌, ◌≤◌, Bool, true, false, List, length, replicate, take, Option, None, Some}
+use Rattle.std.specs.Prelude.{ℕ, ◌≡◌, ◌≤◌, Bool, false, List, length, replicate, take}
 use Rattle.fx_base.specs.declared.keys.Name.{Name}
 use Rattle.fx_base.specs.declared.values.Value.{Value}
 use Rattle.fx_graph_model.specs.declared.entries.Entry.{Entry}
-use Rattle.fx_graph_model.specs.declared.entries.Origin.{Origin}
 use Rattle.fx_base.specs.Names.{numbers}
-use Rattle.fx_graph_model.specs.Uses.{Ranked, entry_of, unknown_in}
+use Rattle.fx_graph_model.specs.Uses.{Ranked}
 use Rattle.fx_graph_model.specs.Sound.{AreSound, IsSettled}
 use Rattle.fx_graph_model.specs.Users.{Row, Mirrors}
 use Rattle.fx_graph_model.specs.Refusals.{operand_count}
@@ -15,14 +14,6 @@ use Rattle.fx_graph.specs.declared.lists.Lists.{Lists}
 
 abbrev pub state_of : List Entry → List Bool → List Name → ℕ → State
 state_of entries unread newly count = record { entries = entries; unread = unread; newly = numbers (take count newly) }
-
--- of a known name where its definition came from
-abbrev pub origin_if : Bool → Origin → Option Origin
-origin_if true origin = None
-origin_if false origin = Some origin
-
-abbrev pub origin_in : List Entry → ℕ → Option Origin
-origin_in entries name = origin_if (unknown_in entries name) (entry_of entries name).origin
 
 -- The entries rank along uses and are sound, each has its flag, its kept value and a row of just those that use it, and
 -- the other lists have a place for each.

@@ -12,14 +12,14 @@ ghost use Rattle.fx_graph_model.specs.Refusals.{kind_at, fits, operand_count, fi
 ghost use Rattle.fx_graph_model.specs.Users.{Mirrors};
 ghost use Rattle.fx_graph.specs.Store.{Holds, IsMarked, IsRoomy, shown};
 
-use crate::asking::{is_marked, is_read_only, is_unknown, unknown_among};
 use crate::lists::Lists;
 use crate::marking::finish;
-use crate::refusals::{is_same_kind, kind_of};
 use fx_base::{Kind, Name};
 use fx_expr::{KindError, type_of};
 use fx_graph_edges::{mark_one, operands_at, relink, spread, take_back};
 use fx_graph_model::{Definition, Entry, Formula, GraphError, Operands, Origin};
+use fx_graph_refusals::asking::{is_marked, is_read_only, is_unknown, unknown_among};
+use fx_graph_refusals::refusals::{is_same_kind, kind_of};
 use std::alloc::{AllocError, Global};
 
 /// The most operands of all bindings together.

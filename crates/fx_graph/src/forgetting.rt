@@ -11,11 +11,11 @@ ghost use Rattle.fx_graph_model.specs.Changes.{after_forget, forgotten};
 ghost use Rattle.fx_graph.specs.Forgotten.{AreFlagged, IsOutside, IsSomeOutside, Keeps};
 ghost use Rattle.fx_graph.specs.Store.{Holds, shown};
 
-use crate::asking::unknown_among;
 use crate::lists::Lists;
 use fx_base::{Name, Value};
 use fx_graph_edges::{Users, mark_one, operands_at, release_at, take_back};
 use fx_graph_model::{Definition, Entry, GraphError};
+use fx_graph_refusals::asking::unknown_among;
 
 /// Marks these names in flags of which none is set, and lists them in the front of the work list: how many there are.
 fn mark_names(names: &[Name], flags: &mut [bool], work: &mut [usize]) -> usize

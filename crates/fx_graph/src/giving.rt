@@ -1,6 +1,6 @@
 //! Values given to names, set by code or published by the player: all are copied before the first is given, so that
 //! wanting memory changes nothing. The names whose value is another one are marked, and all that reads them.
-ghost use Rattle.std.specs.Prelude.{ℕ, List, ◌≡◌, ◌≤◌, ◌<◌, ◌+◌, cond, true, false, All, AllPairs, ◌≢◌, [], ◌∷◌, length, take, slice_set, slice_index_or, IfOk, OnOk, OnErr, IsOk};
+ghost use Rattle.std.specs.Prelude.{ℕ, List, ◌≡◌, ◌≤◌, ◌<◌, ◌+◌, if◌then◌else◌, true, false, All, AllPairs, ◌≢◌, [], ◌∷◌, length, take, slice_set, slice_index_or, IfOk, OnOk, OnErr, IsOk};
 ghost use Rattle.fx_base.specs.declared.keys.Name.{Name as Named};
 ghost use Rattle.fx_base.specs.declared.values.Value.{Value as Content};
 ghost use Rattle.fx_expr.specs.Meaning.{no_value};
@@ -48,7 +48,7 @@ fn prepare(alloc: Global, fresh: &mut [Value], pairs: &[(Name, Value)]) -> Resul
 }
 
 fn origin_after(sets: bool, origin: Origin) -> Origin
-    ensures { result ≡ cond sets source.Code origin }
+    ensures { result ≡ if sets then source.Code else origin }
 {
     if sets { Origin::Code } else { origin }
 }

@@ -1,9 +1,8 @@
 //! The lazy graph of properties and bindings (JavaFX `javafx.beans.property` and `javafx.beans.binding`): a change
-//! marks at
-//! once all that reads what changed, and nothing is evaluated before it is read. The store of listeners stands on it.
+//! marks at once all that reads what changed, and nothing is evaluated before it is read. The store of listeners stands
+//! on it.
 #![tactic(auto)]
 
-mod asking;
 mod binding;
 mod forgetting;
 mod giving;
@@ -11,7 +10,6 @@ mod lists;
 mod looking;
 mod marking;
 mod reading;
-mod refusals;
 mod room;
 mod unbinding;
 
@@ -30,13 +28,14 @@ ghost use Rattle.fx_graph_model.specs.Changes as changes;
 ghost use Rattle.fx_base.specs.Answers.{IsAnswer, IsFirmAnswer};
 ghost use Rattle.fx_graph_model.specs.Refusals as refusals;
 ghost use Rattle.fx_graph.specs.Given.{ArePlain, AreReadOnly};
-ghost use Rattle.fx_graph.specs.Known.{known_kind, known_value};
-ghost use Rattle.fx_graph.specs.Store.{origin_in};
+ghost use Rattle.fx_graph_refusals.specs.Known.{known_kind, known_value};
+ghost use Rattle.fx_graph_refusals.specs.Known.{origin_in};
 
 use crate::lists::Lists;
 use fx_base::{Kind, Ledgers, Name, Value, Work};
 use fx_graph_edges::Users;
 use fx_graph_model::{Definition, Entry, Formula, GraphError, Origin};
+use fx_graph_refusals::{asking, refusals};
 use std::alloc::{AllocError, Global};
 use std::marker::Model;
 
@@ -45,8 +44,7 @@ pub const MOST_NAMES: usize = 4_000_000;
 
 /// Properties under names that are given once, each with its definition, a flag that says whether it is unread, and the
 /// value that it had when it was read. Contracts see the entries, the flags, and the names that became unread in the
-/// last
-/// change.
+/// last change.
 #[derive(Drop)]
 pub struct Graph {
     lists: Lists,
@@ -131,8 +129,7 @@ impl Graph {
     }
 
     /// Sets properties by code, all or none, so that those that are joined never differ. Values other than texts take
-    /// no
-    /// memory.
+    /// no memory.
     pub fn set_group(&mut self, alloc: Global, pairs: &[(Name, Value)]) -> Result<(), GraphError>
         requires { AllPairs (λ (one other : Named × Content). one.0 ≢ other.0) pairs.now }
         ensures answer { IsAnswer GraphError.Memory (refusals.set_refusal pairs.now self.old.entries) result }
@@ -246,8 +243,7 @@ impl Graph {
     }
 
     /// The value of the property. A bound one is evaluated where it may have changed, after what it reads, each name
-    /// once.
-    /// Where memory is wanting, some names may have been read.
+    /// once. Where memory is wanting, some names may have been read.
     pub fn read<L: Ledgers>(
         &mut self,
         alloc: Global,

@@ -5,13 +5,13 @@ ghost use Rattle.fx_base.specs.Names.{numbers};
 ghost use Rattle.fx_graph_model.specs.Eager.{eager};
 ghost use Rattle.fx_graph_model.specs.Unread.{marked, evaluations_of};
 ghost use Rattle.fx_graph_model.specs.Changes.{after_read_all, IsSomeRead};
-ghost use Rattle.fx_graph.specs.Known.{known_value};
+ghost use Rattle.fx_graph_refusals.specs.Known.{known_value};
 ghost use Rattle.fx_graph.specs.Store.{Holds, shown};
 
-use crate::asking::{is_marked, is_unknown};
 use crate::lists::Lists;
 use crate::reading::{settle, value_of};
 use fx_base::{Ledgers, Name, Value, Work};
+use fx_graph_refusals::asking::{is_marked, is_unknown};
 use std::alloc::{AllocError, Global};
 
 /// The value that is kept of a known name, unless it is unread.
@@ -79,8 +79,7 @@ pub fn settle_each<L: Ledgers>(
 }
 
 /// Reads known names, of which some are unread, and gives their values. The flags stay as they were; the spare ones
-/// keep
-/// them meanwhile.
+/// keep them meanwhile.
 fn look_at_unread<L: Ledgers>(
     alloc: Global,
     lists: &mut Lists,

@@ -11,8 +11,7 @@ use crate::lists::Lists;
 use fx_graph_edges::{list_newly, spread};
 
 /// Marks who reads one of the first `count` of the work list, and who reads those, to the end, and lists all that
-/// became
-/// unread. The names that were marked before it, and in which flags, are whatever they were.
+/// became unread. The names that were marked before it, and in which flags, are whatever they were.
 pub fn finish(lists: &mut Lists, count: usize)
     requires ranks { (rank : ℕ → ℕ) × Ranked lists.old.entries.items rank }
     requires mirrors { Mirrors lists.old.entries.items lists.old.users.items }

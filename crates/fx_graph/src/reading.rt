@@ -1,6 +1,6 @@
 //! Reading: a walk downwards over what is unread, with a stack of its own, so that a long chain of bindings takes no
 //! deep recursion. Each value is kept, and counted once.
-ghost use Rattle.std.specs.Prelude.{ℕ, ◌≡◌, ◌≤◌, ◌<◌, ◌+◌, cond, Contains, length, map, slice_set, IfOk, OnOk, true, false};
+ghost use Rattle.std.specs.Prelude.{ℕ, ◌≡◌, ◌≤◌, ◌<◌, ◌+◌, if◌then◌else◌, Contains, length, map, slice_set, IfOk, OnOk, true, false};
 ghost use Rattle.fx_base.specs.Names.{numbers};
 ghost use Rattle.fx_graph_model.specs.Uses.{entry_of, uses, bound_in, operands_in, is_binding};
 ghost use Rattle.fx_graph_model.specs.Eager.{value_of_definition, eager};
@@ -9,11 +9,11 @@ ghost use Rattle.fx_graph_model.specs.Changes.{after_read, IsReadInPart};
 ghost use Rattle.fx_graph.specs.Asked.{IsUnreadAmong, IsEvaluable, kept_value};
 ghost use Rattle.fx_graph.specs.Store.{Holds, shown};
 
-use crate::asking::is_marked;
 use crate::lists::Lists;
 use fx_base::{Ledgers, Name, Value, Work};
 use fx_expr::eval;
 use fx_graph_model::{Definition, Entry};
+use fx_graph_refusals::asking::is_marked;
 use std::alloc::{AllocError, Global};
 
 fn first_unread(operands: &[Name], unread: &[bool]) -> Option<usize>
@@ -59,8 +59,9 @@ fn evaluate<L: Ledgers>(
 ) -> Result<Value, AllocError>
     requires { IsEvaluable (length cache.now) definition.now }
     ensures value { IfOk result (λ value. value ≡ value_of_definition (kept_value cache.now) definition.now) }
-    ensures steps { OnOk result (work.new.evaluated ≡ work.old.evaluated + cond (is_binding definition.now) 1 0) }
-    ensures most { work.new.evaluated ≤ work.old.evaluated + cond (is_binding definition.now) 1 0 }
+    ensures steps { OnOk result
+        (work.new.evaluated ≡ work.old.evaluated + (if is_binding definition.now then 1 else 0)) }
+    ensures most { work.new.evaluated ≤ work.old.evaluated + (if is_binding definition.now then 1 else 0) }
     ensures others { work.new ≡ record work.old { evaluated = work.new.evaluated } }
 {
     match definition {
@@ -93,8 +94,9 @@ fn evaluate_at<L: Ledgers>(
     requires evaluable { IsEvaluable (length cache.now) (entry_of entries.now place).definition }
     ensures value { IfOk result (λ value. value
         ≡ value_of_definition (kept_value cache.now) (entry_of entries.now place).definition) }
-    ensures steps { OnOk result (work.new.evaluated ≡ work.old.evaluated + cond (bound_in entries.now place) 1 0) }
-    ensures most { work.new.evaluated ≤ work.old.evaluated + cond (bound_in entries.now place) 1 0 }
+    ensures steps { OnOk result
+        (work.new.evaluated ≡ work.old.evaluated + (if bound_in entries.now place then 1 else 0)) }
+    ensures most { work.new.evaluated ≤ work.old.evaluated + (if bound_in entries.now place then 1 else 0) }
     ensures others { work.new ≡ record work.old { evaluated = work.new.evaluated } }
 {
     evaluate(alloc, &entries[place].definition, cache, work)

@@ -17,7 +17,7 @@ use Rattle.fx_base.specs.declared.keys.NodeKey.{NodeKey}
 use Rattle.fx_base.specs.declared.kinds.Kind.{Kind}
 use Rattle.fx_base.specs.declared.kinds.Kind.TheVariants as kind
 use Rattle.fx_base.specs.declared.values.Value.{Value}
-use Rattle.fx_graph.specs.Known.{known_kind}
+use Rattle.fx_graph_refusals.specs.Known.{known_kind}
 use Rattle.fx_graph_model.specs.declared.entries.Entry.{Entry}
 use Rattle.fx_graph_model.specs.declared.errors.GraphError.{GraphError}
 use Rattle.fx_graph_model.specs.declared.errors.GraphError.TheVariants.{Unknown, WrongKind}

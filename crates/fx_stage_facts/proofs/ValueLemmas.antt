@@ -6,7 +6,7 @@ use Rattle.std.specs.Str.{bytes_eq}
 use Rattle.std.proofs.lemmas.List.{length-map}
 use Rattle.std.proofs.lemmas.List.Quantifiers.{position-Some}
 use Rattle.fx_base.specs.declared.kinds.Kind.TheVariants as kind
-use Rattle.fx_graph.specs.Known.{known_value}
+use Rattle.fx_graph_refusals.specs.Known.{known_value}
 use Rattle.fx_graph_model.specs.declared.entries.Entry.{Entry}
 use Rattle.fx_graph_model.specs.Eager.{eager}
 use Rattle.fx_graph_model.specs.Unread.{marked}

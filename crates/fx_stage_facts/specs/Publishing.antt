@@ -9,7 +9,7 @@ use Rattle.fx_base.specs.declared.kinds.Kind.{Kind}
 use Rattle.fx_base.specs.declared.kinds.Kind.TheVariants as kind
 use Rattle.fx_base.specs.declared.values.Value.{Value}
 use Rattle.fx_base.specs.declared.values.Value.TheVariants as value
-use Rattle.fx_graph.specs.Known.{known_kind}
+use Rattle.fx_graph_refusals.specs.Known.{known_kind}
 use Rattle.fx_graph_model.specs.declared.entries.Entry.{Entry}
 use Rattle.fx_graph_model.specs.Refusals.{read_only_in}
 use Rattle.fx_store_model.specs.declared.changes.Change.{Change}

@@ -7,7 +7,6 @@ use Rattle.fx_store_model.specs.Stored.{Stored}
 use Rattle.fx_stage_types.specs.declared.node_data.NodeData.{NodeData}
 use Rattle.fx_stage_types.specs.Tables.{data_of}
 use Rattle.fx_stage_model.specs.World.{World}
-use Rattle.fx_stage_facts.specs.declared.stands.Stand.{Stand}
 use Rattle.fx_stage_facts.specs.Attached.{displayed_in}
 
 -- what a frame reads of a node is known and isn't unread, and its numbers are small
@@ -21,6 +20,3 @@ IsReadAt world key = (node : NodeData) → data_of world.graph.table key ≡ Som
 
 abbrev pub AreRead : World → List NodeKey → Type 0
 AreRead world keys = All (IsReadAt world) keys
-
-abbrev pub AreReadStands : World → List Stand → Type 0
-AreReadStands world stands = All (λ (stand : Stand). IsReadAt world stand.key) stands

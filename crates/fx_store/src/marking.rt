@@ -1,7 +1,6 @@
 //! Changes that make properties unread. Each looks at what it may tell of, makes the change in one call of the graph,
-//! and
-//! tells.
-ghost use Rattle.std.specs.Prelude.{ℕ, List, ◌≡◌, ◌≢◌, ◌≤◌, ◌+◌, ◌++◌, ◌∷◌, ◌==◌, [], false, true, not, cond, filter, AllPairs, IfErr, IfOk, None, OnErr, OnOk, Some, length, map};
+//! and tells.
+ghost use Rattle.std.specs.Prelude.{ℕ, List, ◌≡◌, ◌≢◌, ◌≤◌, ◌+◌, ◌++◌, ◌∷◌, ◌==◌, [], false, true, not, if◌then◌else◌, filter, AllPairs, IfErr, IfOk, None, OnErr, OnOk, Some, length, map};
 ghost use Rattle.fx_base.specs.declared.keys.Name.{Name as Named};
 ghost use Rattle.fx_base.specs.declared.values.Value.{Value as Content};
 ghost use Rattle.fx_expr.specs.Tree.{is_within};
@@ -62,7 +61,7 @@ fn push_unless(
     value: &Value,
 ) -> Result<(), AllocError>
     ensures { OnOk result (pairs.new.items
-        ≡ cond (name.0 == other.0) pairs.old.items (pairs.old.items ++ (name, value.now) ∷ [])) }
+        ≡ (if name.0 == other.0 then pairs.old.items else pairs.old.items ++ (name, value.now) ∷ [])) }
 {
     if name.0 == other.0 {
         return Ok(());

@@ -1,5 +1,5 @@
 //! What a change tells, after it was made.
-ghost use Rattle.std.specs.Prelude.{ℕ, List, ◌≡◌, ◌++◌, ◌∷◌, ◌≤◌, ◌+◌, [], None, cond, length, map, take, IfOk, OnOk};
+ghost use Rattle.std.specs.Prelude.{ℕ, List, ◌≡◌, ◌++◌, ◌∷◌, ◌≤◌, ◌+◌, [], None, if◌then◌else◌, length, map, take, IfOk, OnOk};
 ghost use Rattle.std.specs.List.{flat_map};
 ghost use Rattle.fx_store_model.specs.Step.{changed_notice, changed_notices, invalid_notices};
 ghost use Rattle.fx_listen.specs.Listening.{living_in};
@@ -60,8 +60,9 @@ fn push_changed(
     after: &Value,
 ) -> Result<(), AllocError>
     ensures { OnOk result (notices.new.items
-        ≡ cond (same_value before.now after.now) notices.old.items
-        (notices.old.items ++ (listener.name, listener.number, before.now, after.now) ∷ [])) }
+        ≡ (if same_value before.now after.now
+        then notices.old.items
+        else notices.old.items ++ (listener.name, listener.number, before.now, after.now) ∷ [])) }
 {
     if are_same(before, after) {
         return Ok(());
@@ -100,8 +101,7 @@ fn tell_changed(
 }
 
 /// Tells the invalidation listeners of what became unread, then reads every watched name, and tells the change
-/// listeners
-/// of what has another value.
+/// listeners of what has another value.
 pub fn tell<L: Ledgers>(
     alloc: Global,
     graph: &mut Graph,

@@ -1,7 +1,7 @@
 use Rattle.std.proofs.Common.{◌≡◌, ◌∙◌, Option, Some, ap, subst, sym}
 use Rattle.std.specs.Option.{option_copied, option_map}
 use Rattle.fx_base.specs.declared.keys.Name.{Name}
-use Rattle.fx_graph.specs.Known.{known_value}
+use Rattle.fx_graph_refusals.specs.Known.{known_value}
 use Rattle.fx_store_model.specs.Stored.{Stored}
 use Rattle.fx_stage_model.specs.Looking.{property_in}
 use Rattle.fx_stage_facts.specs.Places.{name_of}

@@ -4,7 +4,7 @@ use Rattle.fx_graph_model.specs.declared.errors.GraphError.TheVariants.{Bound}
 use Rattle.fx_graph_model.specs.Uses.{bound_in}
 use Rattle.fx_base.specs.Answers.{refused_first}
 use Rattle.fx_graph_model.specs.Refusals.{pair_names}
-use Rattle.fx_graph.proofs.refusals.bound_pair.Given as goal
+use Rattle.fx_graph_refusals.proofs.refusals.bound_pair.Given as goal
 
 abbrev pub invariant-loop-pair : goal.invariant-loop-pair
 invariant-loop-pair l =

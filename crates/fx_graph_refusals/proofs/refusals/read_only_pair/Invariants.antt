@@ -3,7 +3,7 @@ use Rattle.fx_base.specs.declared.keys.Name.{Name}
 use Rattle.fx_graph_model.specs.declared.errors.GraphError.TheVariants.{ReadOnly}
 use Rattle.fx_base.specs.Answers.{refused_first}
 use Rattle.fx_graph_model.specs.Refusals.{pair_names, read_only_in}
-use Rattle.fx_graph.proofs.refusals.read_only_pair.Given as goal
+use Rattle.fx_graph_refusals.proofs.refusals.read_only_pair.Given as goal
 
 abbrev pub invariant-loop-pair : goal.invariant-loop-pair
 invariant-loop-pair l =

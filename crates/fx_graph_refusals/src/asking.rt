@@ -6,7 +6,7 @@ ghost use Rattle.fx_graph_model.specs.Uses.{is_binding, is_gone, bound_in, entry
 ghost use Rattle.fx_graph_model.specs.Eager.{eager};
 ghost use Rattle.fx_graph_model.specs.Unread.{marked};
 ghost use Rattle.fx_graph_model.specs.Refusals.{read_only_in, unknown_name};
-ghost use Rattle.fx_graph.specs.Store.{origin_in, origin_if};
+ghost use Rattle.fx_graph_refusals.specs.Known.{origin_in, origin_if};
 
 use fx_base::{Name, Value};
 use fx_graph_model::{Definition, Entry, GraphError, Origin};

@@ -1,7 +1,7 @@
 use Rattle.std.proofs.Common.{sym}
 use Rattle.fx_graph_model.proofs.Changed.{known_within}
 use Rattle.fx_graph_model.proofs.Kept.{eager-own}
-use Rattle.fx_graph.proofs.asking.own_value.Goals as goal
+use Rattle.fx_graph_refusals.proofs.asking.own_value.Goals as goal
 
 pub returns : goal.returns
 returns c =

@@ -7,7 +7,7 @@ ghost use Rattle.fx_graph_model.specs.Uses.{bound_in};
 ghost use Rattle.fx_graph_model.specs.Equality.{same_family, same_kind};
 ghost use Rattle.fx_base.specs.Answers.{refused_first};
 ghost use Rattle.fx_graph_model.specs.Refusals.{unknown_name, pair_names, wrong_kind, read_only_in, kind_at, set_refusal, publish_refusal};
-ghost use Rattle.fx_graph.specs.Known.{known_kind};
+ghost use Rattle.fx_graph_refusals.specs.Known.{known_kind};
 
 use crate::asking::{is_bound, is_read_only, is_unknown};
 use fx_base::{Family, Kind, Name, Value};

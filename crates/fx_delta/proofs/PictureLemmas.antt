@@ -5,7 +5,7 @@ use Rattle.std.proofs.lemmas.List.{take-append-drop, drop-drop}
 use Rattle.std.proofs.lemmas.Grind.{flat_map-append}
 use Rattle.std.proofs.lemmas.Slice.Eq.{bytes_eq-Decides}
 use Rattle.fx_delta.specs.Pictures.{Picture, row_of, shows, start_of, with_pixels}
-use Rattle.fx_delta.specs.Rows.{row_text}
+use Rattle.fx_row_text.specs.Rows.{row_text}
 
 -- what stands there already is put there
 same_put : (start : ℕ) (all part : List ℕ) → take (length part) (drop start all) ≡ part

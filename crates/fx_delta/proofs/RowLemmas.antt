@@ -1,23 +1,6 @@
--- Bytes behind others, and the text of a row.
-use Rattle.std.proofs.Common.{◌≡◌, ◌≤◌, ◌-◌, suc, ℕ, List, [], ◌∷◌, ◌++◌, length, get_or, take, drop, map, Result, Ok, Err, IsErrAnd, sym, ◌∙◌, ap, append_assoc, append-nil, arith}
-use Rattle.std.specs.List.{flat_map, join_with_byte}
-use Rattle.std.proofs.Math.Seq.{take_all}
-use Rattle.fx_delta.specs.Reading.{Appends}
-use Rattle.fx_delta.specs.Rows.{pixel_text, pixels_text}
-
--- bytes, and then what a call appends
-pub Appends-behind : {T E : Type 0} {old mid new : List ℕ} (result : Result T E) (front back all : List ℕ)
-    → mid ≡ old ++ front → front ++ back ≡ all → Appends mid new result back → Appends old new result all
-Appends-behind {old = old} (Ok x) front back all e joins a =
-    record {
-      ok = a.ok ∙ ap (λ (l : List ℕ). l ++ back) e ∙ append_assoc old front back ∙ ap (λ (l : List ℕ). old ++ l) joins;
-      err = tt;
-    }
-Appends-behind {old = old} (Err x) front back all e joins a =
-    record {
-      ok = tt;
-      err = (front ++ a.err.0, a.err.1 ∙ ap (λ (l : List ℕ). l ++ a.err.0) e ∙ append_assoc old front a.err.0);
-    }
+-- Bytes behind others at an error, and the line of an item.
+use Rattle.std.proofs.Common.{◌≡◌, ℕ, List, [], ◌∷◌, ◌++◌, Result, Ok, Err, IsErrAnd, ◌∙◌, ap, append_assoc}
+use Rattle.fx_row_text.specs.Appending.{Appends}
 
 -- the way out at an error of a call
 pub Appends-at_err : {T E : Type 0} {old mid new : List ℕ} (Q : E → Type 0) (front bytes : List ℕ) (result : Result T E)
@@ -28,20 +11,6 @@ Appends-at_err {old = old} Q front bytes (Err x) at e more =
       ok = tt;
       err = (front ++ more.0, more.1 ∙ ap (λ (l : List ℕ). l ++ more.0) e ∙ append_assoc old front more.0);
     }
-
--- pieces joined by a byte: the first, and each other one behind the byte
-pub join-cons : (byte : ℕ) (text : ℕ → List ℕ) (x : ℕ) (xs : List ℕ)
-    → join_with_byte byte (map text (x ∷ xs)) ≡ text x ++ flat_map (λ p. byte ∷ text p) xs
-join-cons byte text x [] = sym (append-nil (text x))
-join-cons byte text x (y ∷ xs) = ap (λ l. text x ++ (byte ∷ l)) (join-cons byte text y xs)
-
--- the pixels of a row by its first and the others
-pub pixels_by_first : (row : List ℕ) → 1 ≤ length row
-    → pixel_text (get_or row 0 0) ++ flat_map (λ p. 32 ∷ pixel_text p) (take (length row - 1) (drop 1 row)) ≡ pixels_text row
-pixels_by_first [] h = absurd (omega arith)
-pixels_by_first (x ∷ xs) h =
-    let all : take (suc (length xs) - 1) xs ≡ xs = take_all (suc (length xs) - 1) xs (omega arith) in
-    ap (λ l. pixel_text x ++ flat_map (λ p. 32 ∷ pixel_text p) l) all ∙ sym (join-cons 32 pixel_text x xs)
 
 -- the head of an item, its pixels and the line feed
 pub item_joins : (word x y pixels : List ℕ)

@@ -10,7 +10,7 @@ use Rattle.fx_text.specs.Classes.{hex_value, is_space}
 use Rattle.fx_text.specs.Digits.{number_of_digits}
 use Rattle.fx_delta.specs.declared.lines.Frame.{Frame}
 use Rattle.fx_delta.specs.Pictures.{is_size}
-use Rattle.fx_delta.specs.Rows.{pixels_text}
+use Rattle.fx_row_text.specs.Rows.{pixels_text}
 
 -- what a row item says: pixels, and where the first of them goes
 pub record Item : Type 0 where

@@ -3,7 +3,7 @@ use Rattle.std.specs.Prelude.{ℕ, Bool, ◌≡◌, ◌≤◌, ◌<◌, ◌+◌,
 use Rattle.std.specs.List.{flat_map, range_with_len}
 use Rattle.std.specs.Str.{bytes_eq as same_numbers}
 use Rattle.fx_base.specs.Pixel.{white}
-use Rattle.fx_delta.specs.Rows.{row_text}
+use Rattle.fx_row_text.specs.Rows.{row_text}
 
 pub record Picture : Type 0 where
   pub width : ℕ

@@ -17,11 +17,6 @@ IsFound (Some found) None = ⊥
 IsFound (Some found) (Some item) =
     (found.x ≡ capped item.x) × (found.y ≡ capped item.y) × (found.pixels.items ≡ item.pixels)
 
--- bytes behind others: all of these at Ok, and some at an error
-pub record Appends {T E : Type 0} (old new : List ℕ) (result : Result T E) (bytes : List ℕ) : Type 0 where
-  pub ok : OnOk result (new ≡ old ++ bytes)
-  pub err : OnErr result ((more : List ℕ) × (new ≡ old ++ more))
-
 -- a call that does what the step says, and answers `bad` only where there is none; at an error the screen stays
 pub record Takes {T E : Type 0} (bad : E) (step : Result Step Flaw) (old new : Screen) (was now : List ℕ)
     (result : Result T E) : Type 0 where

@@ -4,7 +4,8 @@ ghost use Rattle.std.specs.Prelude.{ℕ, List, Option, ◌≡◌, ◌↔◌, ◌
 ghost use Rattle.std.specs.Str.{bytes_eq};
 ghost use Rattle.fx_text.specs.Characters.{line_feed};
 ghost use Rattle.fx_delta.specs.Lines.{Item, frame_in, words};
-ghost use Rattle.fx_delta.specs.Reading.{Appends, IsFound, Takes};
+ghost use Rattle.fx_row_text.specs.Appending.{Appends};
+ghost use Rattle.fx_delta.specs.Reading.{IsFound, Takes};
 ghost use Rattle.fx_delta.specs.declared.viewers.StreamError.TheVariants.{Bad, Memory};
 
 use crate::lines::{FoundItem, Frame, is_rectangle, read_frame, read_item};

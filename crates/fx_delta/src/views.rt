@@ -5,11 +5,12 @@ ghost use Rattle.fx_base.specs.Pixel.{white};
 ghost use Rattle.fx_text.specs.Characters.{line_feed};
 ghost use Rattle.fx_delta.specs.Lines.{item_line};
 ghost use Rattle.fx_delta.specs.Pictures.{is_size};
-ghost use Rattle.fx_delta.specs.Reading.{Appends};
+ghost use Rattle.fx_row_text.specs.Appending.{Appends};
 ghost use Rattle.fx_delta.specs.declared.views.ViewError.TheVariants.{Memory};
 
-use crate::rows::{item_text, print_row};
+use crate::rows::item_text;
 use fx_lanes::equal;
+use fx_row_text::append_row;
 use std::alloc::{AllocError, Global};
 use std::marker::Model;
 use thiserror::Error;
@@ -161,7 +162,7 @@ impl View {
         ensures { Appends out.old.items out.new.items result (image self.now) }
     {
         for y in 0..self.height {
-            print_row(out, self.row(y))?;
+            append_row(out, self.row(y))?;
         }
         Ok(())
     }

@@ -9,7 +9,7 @@ use Rattle.fx_text.specs.Classes.{is_space}
 use Rattle.fx_delta.specs.declared.lines.Frame.{Frame as FrameSaid}
 use Rattle.fx_delta.specs.Lines.{Item, frame_in, frame_of, is_number, is_rectangle, item_in, item_line, item_of, number_of, pixels_of, words}
 use Rattle.fx_delta.specs.Pictures.{Picture, begun, image, is_size, lies, with_pixels}
-use Rattle.fx_delta.specs.Rows.{pixel_text, pixels_text}
+use Rattle.fx_row_text.specs.Rows.{pixel_text, pixels_text}
 use Rattle.fx_delta.specs.Stream.{Flaw, Screen, Step, after_frame, after_item, after_line, begins, copied, is_line_feed, no_rectangle, outside, stray}
 use Rattle.fx_delta.specs.Items.{ended}
 use Rattle.fx_delta_laws.specs.Streams.{Area, Frame, IsArea, IsBetween, IsFrame, IsItem, area_line, frame_line}

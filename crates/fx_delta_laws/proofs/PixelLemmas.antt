@@ -9,7 +9,7 @@ use Rattle.fx_text.specs.Classes.{hex_value, is_space}
 use Rattle.fx_base.specs.Pixel.{blue_of, green_of, red_of}
 use Rattle.fx_base.specs.Printing.{two_digits}
 use Rattle.fx_delta.specs.Lines.{byte_of, pixel_of, pixels_of, words}
-use Rattle.fx_delta.specs.Rows.{pixel_text, pixels_text}
+use Rattle.fx_row_text.specs.Rows.{pixel_text, pixels_text}
 use Rattle.fx_delta_laws.proofs.NumberLemmas.{above-append, are_above, none_at}
 
 below_16 : (P : ℕ → Type 0) → P 0 → P 1 → P 2 → P 3 → P 4 → P 5 → P 6 → P 7 → P 8 → P 9 → P 10 → P 11 → P 12 → P 13

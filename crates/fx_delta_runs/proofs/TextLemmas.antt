@@ -11,7 +11,6 @@ use Rattle.fx_base.specs.declared.geometry.Rect.{Rect}
 use Rattle.fx_delta.specs.Items.{ended}
 use Rattle.fx_delta.specs.Lines.{Item}
 use Rattle.fx_delta.specs.Pictures.{image, row_of}
-use Rattle.fx_delta.specs.Rows as delta
 use Rattle.fx_delta_laws.specs.Streams.{Area, area_line, frame_line, head}
 use Rattle.fx_picture.specs.Shapes.{whole}
 use Rattle.fx_row_text.specs.Rows as rows
@@ -67,10 +66,6 @@ head_text number width height damage items lie =
     (rects_text width height damage lie)
 
 -- ---- the rows of an image
-row_text : (pixels : List ℕ) → rows.row_text pixels ≡ delta.row_text pixels
-unfolding rows.row_text delta.row_text rows.pixel_text delta.pixel_text
-row_text pixels = refl
-
 row_in : (row : ℕ → List ℕ) (width from n y : ℕ) → ((y : ℕ) → length (row y) ≡ width) → y < n
     → take width (drop (y * width) (flat_map row (range_with_len from n))) ≡ row (from + y)
 row_in row width from zero y long h = absurd (omega (arith, h))
@@ -104,7 +99,7 @@ pub image_text : (pixel : ℕ → ℕ → ℕ) (width height : ℕ)
     → rows_in Text (image_of width height pixel) ≡ image (picture_of (image_of width height pixel))
 image_text pixel width height =
     let of : Image = image_of width height pixel in
-    rows_from (λ y. rows.row_text (of.row y)) (λ y. delta.row_text (row_of (picture_of of) y)) 0 height height
+    rows_from (λ y. rows.row_text (of.row y)) (λ y. rows.row_text (row_of (picture_of of) y)) 0 height height
     (omega arith)
-    (λ y h. row_text (of.row y) ∙ ap delta.row_text (sym (row_in of.row width 0 height y
+    (λ y h. ap rows.row_text (sym (row_in of.row width 0 height y
     (λ y. length-map-range_with_len (λ x. pixel x y) 0 width) h ∙ ap of.row (omega arith))))

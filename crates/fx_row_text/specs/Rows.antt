@@ -9,6 +9,10 @@ use Rattle.fx_base.specs.Printing.{two_digits}
 unfoldable pub pixel_text : ℕ → List ℕ
 pixel_text pixel = two_digits (red_of pixel) ++ (two_digits (green_of pixel) ++ two_digits (blue_of pixel))
 
--- the pixels behind one another, with a space between two, and a line feed
+-- pixels behind one another, with a space between two
+abbrev pub pixels_text : List ℕ → List ℕ
+pixels_text pixels = join_with_byte space (map pixel_text pixels)
+
+-- a row of a picture
 unfoldable pub row_text : List ℕ → List ℕ
-row_text pixels = join_with_byte space (map pixel_text pixels) ++ (line_feed ∷ [])
+row_text pixels = pixels_text pixels ++ (line_feed ∷ [])

@@ -4,4 +4,4 @@
 
 mod printing;
 
-pub use printing::print_row;
+pub use printing::{append_row, print_row};

@@ -1,8 +1,9 @@
 //! Printing a row. Equal pixels one after another are printed from one text.
-ghost use Rattle.std.specs.Prelude.{◌≡◌, ◌++◌, ◌∷◌, OnOk, map};
-ghost use Rattle.std.specs.List.{flat_map, join_with_byte};
+ghost use Rattle.std.specs.Prelude.{◌≡◌, ◌∷◌, OnOk};
+ghost use Rattle.std.specs.List.{flat_map};
 ghost use Rattle.fx_text.specs.Characters.{space};
-ghost use Rattle.fx_row_text.specs.Rows.{pixel_text, row_text};
+ghost use Rattle.fx_row_text.specs.Appending.{Appends};
+ghost use Rattle.fx_row_text.specs.Rows.{pixel_text, pixels_text, row_text};
 ghost use Rattle.fx_row_text.specs.Runs.{IsRun};
 
 use fx_text::hex_digit;
@@ -10,18 +11,25 @@ use std::alloc::AllocError;
 
 /// Makes the text that of a row of pixels, each 0x00RRGGBB, with a line feed. It keeps its room, so a text that was
 /// as long takes no memory.
-#[tactic(auto, unfolding(crate::specs::Rows::row_text))]
 pub fn print_row(text: &mut Vec<u8>, row: &[u32]) -> Result<(), AllocError>
     ensures { OnOk result (text.new.items ≡ row_text row.now) }
 {
     text.clear();
+    append_row(text, row)
+}
+
+/// Appends a row of pixels, each 0x00RRGGBB, and a line feed. Where memory is wanting, a part of it stands there.
+#[tactic(auto, unfolding(crate::specs::Rows::row_text))]
+pub fn append_row(text: &mut Vec<u8>, row: &[u32]) -> Result<(), AllocError>
+    ensures { Appends text.old.items text.new.items result (row_text row.now) }
+{
     print_pixels(text, row)?;
     text.push(b'\n')?;
     Ok(())
 }
 
 fn print_pixels(text: &mut Vec<u8>, row: &[u32]) -> Result<(), AllocError>
-    ensures { OnOk result (text.new.items ≡ text.old.items ++ join_with_byte space (map pixel_text row.now)) }
+    ensures { Appends text.old.items text.new.items result (pixels_text row.now) }
 {
     match row {
         [first, rest @ ..] => {
@@ -33,7 +41,7 @@ fn print_pixels(text: &mut Vec<u8>, row: &[u32]) -> Result<(), AllocError>
 }
 
 fn print_behind(text: &mut Vec<u8>, row: &[u32]) -> Result<(), AllocError>
-    ensures { OnOk result (text.new.items ≡ text.old.items ++ flat_map (λ p. space ∷ pixel_text p) row.now) }
+    ensures { Appends text.old.items text.new.items result (flat_map (λ p. space ∷ pixel_text p) row.now) }
 {
     let mut run = Run::of(0);
     for pixel in row {

@@ -3,10 +3,10 @@ use Rattle.std.proofs.Common.{◌≡◌, ◌≢◌, ◌⊎◌, ◌<◌, ◌≤�
 use Rattle.std.specs.FinMap as map_of
 use Rattle.std.specs.Cmp.{eq_by_cmp_equiv}
 use Rattle.std.specs.FinMap.{get-remove}
-use Rattle.std.specs.List.{flat_map, list_any, range_with_len}
+use Rattle.std.specs.List.{flat_map, list_any}
 use Rattle.std.specs.Ordering.{eq_by_cmp}
 use Rattle.std.specs.Result.{is_ok}
-use Rattle.std.proofs.lemmas.List.{append-nil, append_assoc, map-append}
+use Rattle.std.proofs.lemmas.List.{append-nil, map-append}
 use Rattle.std.proofs.lemmas.Grind.{flat_map-append}
 use Rattle.std.proofs.Math.Seq.{take-suc}
 use Rattle.std.proofs.lemmas.List.Folds.{list_any-append}
@@ -22,7 +22,6 @@ use Rattle.fx_graph_model.specs.Refusals.{IsForgetRefusal, unknown_name}
 use Rattle.fx_graph_model.specs.Unread.{after_marking}
 use Rattle.fx_graph_model.specs.Uses.{is_gone, unknown_in}
 use Rattle.fx_graph_model.proofs.Marks.{marking_none}
-use Rattle.fx_handles.proofs.Given.{range_with_len-suc}
 use Rattle.fx_listen.specs.declared.entries.Listener.{Listener}
 use Rattle.fx_store_model.specs.Applied.{Applied}
 use Rattle.fx_store_model.specs.Causes.{of_graph}
@@ -55,7 +54,7 @@ use Rattle.fx_stage_model.specs.Nodes.{forgotten, names_of_all, properties_of_al
 use Rattle.fx_stage_model.specs.Sound.{IsSound}
 use Rattle.fx_stage_model.specs.Taking.{IsTaken, IsUnfinished}
 use Rattle.fx_stage_model.specs.World.{World, still_written, with_graph, with_store}
-use Rattle.fx_stage.specs.Dropping.{are_gone, dropped_if}
+use Rattle.fx_stage_parts.specs.Dropping.{are_gone, dropped_if}
 use Rattle.fx_stage_words.specs.Told.{told_as}
 use Rattle.fx_stage.proofs.TakingLemmas.{IsSettled, IsTidy}
 
@@ -482,19 +481,6 @@ found_gone ns names before now result looked counted first done gone are is_firs
     )
 
 -- properties that are put into a list
-
-pub range_pushed : (first place : ℕ) (old before now : List Name) → now ≡ before ++ name_of (first + place) ∷ []
-    → before ≡ old ++ map name_of (range_with_len first place) → now ≡ old ++ map name_of (range_with_len first (place + 1))
-range_pushed first place old before now pushed before_is =
-    let next : place + 1 ≡ suc place = omega arith in
-    pushed
-    ∙ ap (λ (names : List Name). names ++ name_of (first + place) ∷ []) before_is
-    ∙ append_assoc old (map name_of (range_with_len first place)) (name_of (first + place) ∷ [])
-    ∙ ap (λ (names : List Name). old ++ names)
-    (sym
-    (ap (λ (n : ℕ). map name_of (range_with_len first n)) next
-    ∙ ap (λ (ns : List ℕ). map name_of ns) (range_with_len-suc first place)
-    ∙ map-append name_of (range_with_len first place) ((first + place) ∷ [])))
 
 pub keys_pushed : (table : NodeTable) (keys : List NodeKey) (place : ℕ) (other : NodeKey) (before now : List Name)
     → place < length keys → now ≡ before ++ map name_of (properties_in (data_of table (get_or keys place other)))

@@ -18,7 +18,7 @@ use Rattle.fx_stage_model.specs.Answers.{and_then, or_word}
 use Rattle.fx_stage_model.specs.Looking.{find, find_node, find_of_node, front, last, place_of, properties_in, property_in}
 use Rattle.fx_stage_model.specs.Sound.{IsSound}
 use Rattle.fx_stage_model.specs.World.{World}
-use Rattle.fx_stage.proofs.Small.{some_property}
+use Rattle.fx_stage_parts.proofs.Small.{some_property}
 
 -- a place of a class's list is one of the node's properties
 owned_place : (node : NodeData) (property : List ℕ) (place : ℕ) → place_of node.class property ≡ Some place

@@ -1,4 +1,3 @@
-pub mod Small
 pub mod SoundLemmas
 pub mod WrittenLemmas
 pub mod TakingLemmas

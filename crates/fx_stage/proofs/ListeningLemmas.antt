@@ -1,6 +1,5 @@
 -- Owners and listeners that come and go.
-use Rattle.std.proofs.Common.{◌≡◌, ◌≤◌, ◌<◌, ◌+◌, ℕ, Bool, true, false, cond, eqb, ◌||◌, ◌&&◌, ◌==◌, nat_le, nat_lt, List, [], ◌∷◌, ◌++◌, length, All, Option, Some, None, Vec, ℤ, option_to_list, Result, Ok, Err, is_some, arith, refl, sym, ◌∙◌, ap, subst, inl, inr, true≢false}
-use Rattle.std.specs.Map.{lookup}
+use Rattle.std.proofs.Common.{◌≡◌, ◌≤◌, ◌+◌, ℕ, Bool, true, false, cond, eqb, ◌||◌, ◌&&◌, ◌==◌, nat_le, nat_lt, List, [], ◌∷◌, ◌++◌, length, All, Option, Some, None, Vec, ℤ, option_to_list, Result, Ok, Err, is_some, arith, refl, sym, ◌∙◌, ap, subst, inl, inr, true≢false}
 use Rattle.std.proofs.lemmas.Bool.{cases_lt, eq-eqb, eqb-true, le-leb, lt-ltb}
 use Rattle.std.proofs.lemmas.List.Elements.{All-append, All-cons, All-head, All-nil, All-tail, filter-append}
 use Rattle.std.specs.Global.{Global}
@@ -33,7 +32,8 @@ use Rattle.fx_stage_model.specs.Taking.{IsPassedOver, IsReadSome, IsTaken, IsUnf
 use Rattle.fx_stage_model.specs.World.{World, is_listening, still_written, with_store}
 use Rattle.fx_script_commands.specs.Requests.{Numbered}
 use Rattle.fx_stage.specs.Kept.{seen}
-use Rattle.fx_stage.specs.Noting.{IsListen, added, all_noted, has_listener_behind, noted, run_if, written_if}
+use Rattle.fx_stage.specs.Noting.{IsListen, added, all_noted, noted}
+use Rattle.fx_stage_parts.specs.Noting.{has_listener_behind, run_if, written_if}
 use Rattle.fx_stage_words.specs.Told.{silence, told_as}
 use Rattle.fx_stage.proofs.DeclaringLemmas.{memory_first}
 use Rattle.fx_stage.proofs.TakingLemmas.{IsSettled, all_below}
@@ -231,28 +231,6 @@ pub owner_made : (full : Bool) (owner : Owner) (before made now : World)
     → IsTaken (owned full made) before now (Ok silence)
 owner_made true owner before made now answer same = absurd answer
 owner_made false owner before made now answer same = (same, refl)
-
--- no number that was given is that of a new listener
-pub none_less : (number : ℕ) (ws : List (ℕ × List (List ℕ))) → All (λ (e : ℕ × List (List ℕ)). e.0 < number) ws
-    → lookup (eqb number) ws ≡ None
-none_less number [] all = refl
-none_less number (e ∷ ws) all =
-    let less : e.0 < number = All-head (λ (e : ℕ × List (List ℕ)). e.0 < number) e ws all in
-    ap (λ (b : Bool). cond b (Some e.1) (lookup (eqb number) ws)) (apart (eqb number e.0) refl less)
-    ∙ none_less number ws (All-tail (λ (e : ℕ × List (List ℕ)). e.0 < number) e ws all)
-  where
-    apart : (b : Bool) → eqb number e.0 ≡ b → e.0 < number → b ≡ false
-    apart true is less = absurd (let same : number ≡ e.0 = eqb-true number e.0 is in omega (arith, same, less))
-    apart false is less = refl
-
--- what was given before is less than the next number
-pub all_next : (given : ℕ) (ws : List (ℕ × List (List ℕ))) → All (λ (e : ℕ × List (List ℕ)). e.0 ≤ given) ws
-    → All (λ (e : ℕ × List (List ℕ)). e.0 < given + 1) ws
-all_next given [] all = All-nil (λ (e : ℕ × List (List ℕ)). e.0 < given + 1)
-all_next given (e ∷ ws) all =
-    let first : e.0 ≤ given = All-head (λ (e : ℕ × List (List ℕ)). e.0 ≤ given) e ws all in
-    All-cons (λ (e : ℕ × List (List ℕ)). e.0 < given + 1) e ws (omega (arith, first))
-    (all_next given ws (All-tail (λ (e : ℕ × List (List ℕ)). e.0 ≤ given) e ws all))
 
 -- the new listener stands behind what was written
 pub noted_view : (before now : List Listener) (given : ℕ) (ws : List (ℕ × List (List ℕ))) (asked : List (List ℕ))

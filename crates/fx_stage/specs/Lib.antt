@@ -1,4 +1,3 @@
-pub mod Dropping
 pub mod Finding
 pub mod Kept
 pub mod Noting

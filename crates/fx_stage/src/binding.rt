@@ -8,11 +8,11 @@ ghost use Rattle.fx_stage_model.specs.Properties as spec;
 ghost use Rattle.fx_stage_model.specs.Taking.{IsTaken};
 ghost use Rattle.fx_stage.specs.Finding.{found_last_first, names_found};
 
-use crate::finding::{both, earlier};
 use crate::stage::Stage;
 use fx_base::{Ledgers, List, Name, Text, Work};
 use fx_expr::Parsed;
 use fx_graph_model::Formula;
+use fx_stage_parts::{both, earlier};
 use fx_stage_types::{Outcome, Refusal, StageError};
 use fx_stage_words::has_operands;
 use fx_store_model::Change;

@@ -4,14 +4,13 @@ ghost use Rattle.fx_stage_model.specs.Answers.{cost_of, silently};
 ghost use Rattle.fx_stage_model.specs.Building as spec;
 ghost use Rattle.fx_stage_model.specs.Nodes.{has_no_room, next_key, with_node};
 ghost use Rattle.fx_stage_model.specs.Taking.{IsBuilt, IsTaken};
-ghost use Rattle.fx_stage_words.specs.Told.{no_node_as};
-ghost use Rattle.fx_tree.specs.Scene.{is_alive};
 
 use crate::stage::Stage;
 use fx_base::{Ledgers, List, NodeKey, Text, Track, Value, Work};
 use fx_css_types::Sheet;
 use fx_events::{EventKind, Phase};
 use fx_kinds::{Class, Constraint, constraint_of, is_node};
+use fx_stage_parts::{has_no_room_for, is_full_of_classes, is_living, no_node};
 use fx_stage_rows::declare_rows;
 use fx_stage_types::{BuildStep, NodeEdit, Outcome, Refusal, StageError};
 use fx_stage_words::{one_node, plain};
@@ -66,13 +65,6 @@ impl Stage {
         }
     }
 
-    /// Whether the node is alive.
-    fn is_living(&self, key: NodeKey) -> bool
-        ensures { result ≡ is_alive self.now.graph.tree.nodes key }
-    {
-        self.graph.tree().children(key).is_some()
-    }
-
     /// A further node.
     #[tactic(auto, unfolding(fx_stage_model::specs::Building::make))]
     fn make(&mut self, alloc: Global, class: Class) -> Result<Option<NodeKey>, StageError>
@@ -82,7 +74,7 @@ impl Stage {
         if !is_node(class) {
             return Err(StageError::Refused(Refusal::Value));
         }
-        if self.has_no_room_for(class) {
+        if has_no_room_for(&self.graph, &self.store, class) {
             return Err(StageError::Refused(Refusal::Full));
         }
         self.make_nameless(alloc, class)
@@ -105,7 +97,7 @@ impl Stage {
     fn name(&mut self, alloc: Global, key: NodeKey, path: List<Text>) -> Result<Outcome, StageError>
         ensures { IsTaken (spec.name key path self.old) self.old self.new result }
     {
-        if !self.is_living(key) {
+        if !is_living(&self.graph, key) {
             return Err(StageError::Refused(Refusal::Unknown));
         }
         if self.graph.find(path.as_slice()).is_some() {
@@ -125,7 +117,7 @@ impl Stage {
     ) -> Result<Outcome, StageError>
         ensures { IsTaken (spec.constrain key name value self.old) self.old self.new result }
     {
-        if !self.is_living(key) {
+        if !is_living(&self.graph, key) {
             return Err(StageError::Refused(Refusal::Unknown));
         }
         let Some(row) = constraint_of(name.as_str()) else {
@@ -146,10 +138,10 @@ impl Stage {
     fn put_class(&mut self, alloc: Global, key: NodeKey, name: Text) -> Result<Outcome, StageError>
         ensures { IsTaken (spec.class key name self.old) self.old self.new result }
     {
-        if !self.is_living(key) {
+        if !is_living(&self.graph, key) {
             return Err(StageError::Refused(Refusal::Unknown));
         }
-        if self.is_full_of_classes(key) {
+        if is_full_of_classes(&self.graph, key) {
             return Err(StageError::Refused(Refusal::Full));
         }
         self.edit(alloc, key, NodeEdit::AddClass(name))
@@ -165,7 +157,7 @@ impl Stage {
     ) -> Result<Outcome, StageError>
         ensures { IsTaken (spec.inline key sheet self.old) self.old self.new result }
     {
-        if !self.is_living(key) {
+        if !is_living(&self.graph, key) {
             return Err(StageError::Refused(Refusal::Unknown));
         }
         self.edit(alloc, key, NodeEdit::SetInline(sheet))
@@ -184,7 +176,7 @@ impl Stage {
         match key {
             None => self.add_sheet(alloc, sheet),
             Some(key) => {
-                if !self.is_living(key) {
+                if !is_living(&self.graph, key) {
                     return Err(StageError::Refused(Refusal::Unknown));
                 }
                 self.edit(alloc, key, NodeEdit::AddSheet(sheet))
@@ -203,7 +195,7 @@ impl Stage {
     ) -> Result<Outcome, StageError>
         ensures { IsTaken (spec.convenience key on action self.old) self.old self.new result }
     {
-        if !self.is_living(key) {
+        if !is_living(&self.graph, key) {
             return Err(StageError::Refused(Refusal::Unknown));
         }
         self.register(alloc, key, on, Phase::Convenience, action)
@@ -220,22 +212,12 @@ impl Stage {
     ) -> Result<Outcome, StageError>
         ensures { IsTaken (spec.tracks key columns rows self.old) self.old self.new result }
     {
-        if !self.is_living(key) {
+        if !is_living(&self.graph, key) {
             return Err(StageError::Refused(Refusal::Unknown));
         }
         if columns.as_slice().len() > MOST_TRACKS || rows.as_slice().len() > MOST_TRACKS {
             return Err(StageError::Refused(Refusal::Full));
         }
         self.edit(alloc, key, NodeEdit::SetTracks(columns, rows))
-    }
-}
-
-/// The answer of a step that makes no node.
-fn no_node(answer: Result<Outcome, StageError>) -> Result<Option<NodeKey>, StageError>
-    ensures { result ≡ no_node_as answer }
-{
-    match answer {
-        Ok(_) => Ok(None),
-        Err(error) => Err(error),
     }
 }

@@ -1,5 +1,5 @@
 //! `prop`: free properties.
-ghost use Rattle.std.specs.Prelude.{◌≡◌, None, IfOk, IsTrue, false, is_some};
+ghost use Rattle.std.specs.Prelude.{◌≡◌, None, IfOk, IsTrue, false};
 ghost use Rattle.std.specs.Map.{lookup};
 ghost use Rattle.std.specs.Str.{bytes_eq};
 ghost use Rattle.fx_base.specs.Printing.{kind_of};
@@ -8,16 +8,11 @@ ghost use Rattle.fx_stage_model.specs.Properties as spec;
 ghost use Rattle.fx_stage_model.specs.Taking.{IsTaken};
 
 use crate::stage::Stage;
-use fx_base::{Kind, Text, Value};
+use fx_base::{Text, Value};
+use fx_stage_parts::{has_free, has_no_room, kind_named};
 use fx_stage_types::{Outcome, Refusal, StageError};
 use fx_stage_words::{nothing, read};
 use std::alloc::{AllocError, Global};
-
-/// The most free properties of a script.
-const MOST_FREE: usize = 10_000;
-
-/// The most names that are ever declared.
-const MOST_NAMES: usize = 4_000_000;
 
 impl Stage {
     /// `prop NAME KIND REST`: a free property of this kind has the value that the text spells.
@@ -36,10 +31,10 @@ impl Stage {
             Ok(None) => return Err(StageError::Refused(Refusal::Value)),
             Err(_) => return Err(StageError::Memory),
         };
-        if self.has_free(name) {
+        if has_free(&self.free, name) {
             return Err(StageError::Refused(Refusal::Exists));
         }
-        if self.has_no_room() {
+        if has_no_room(&self.free, &self.store) {
             return Err(StageError::Refused(Refusal::Full));
         }
         let Ok(name) = name.copy(alloc) else {
@@ -61,32 +56,5 @@ impl Stage {
             return Err(StageError::Memory);
         };
         Ok(nothing(alloc))
-    }
-
-    /// Whether there is a free property of this name.
-    fn has_free(&self, name: &Text) -> bool
-        ensures { result ≡ is_some (lookup (bytes_eq name.now) self.now.names.free) }
-    {
-        self.free.get(name).is_some()
-    }
-
-    /// Whether no further free property can be declared.
-    fn has_no_room(&self) -> bool
-        ensures { result ≡ spec.has_no_room self.now }
-    {
-        self.free.len() >= MOST_FREE || self.store.count() >= MOST_NAMES
-    }
-}
-
-/// The kind that a word of `prop` names.
-fn kind_named(name: &Text) -> Kind
-    ensures { result ≡ spec.kind_named name.now }
-{
-    if name.as_str() == "int" {
-        Kind::Int
-    } else if name.as_str() == "bool" {
-        Kind::Bool
-    } else {
-        Kind::Text
     }
 }

@@ -1,5 +1,4 @@
 //! Lines on what a node has of its own.
-ghost use Rattle.std.specs.Prelude.{◌≡◌};
 ghost use Rattle.fx_stage_types.specs.declared.edits.NodeEdit.TheVariants.{AddPseudo};
 ghost use Rattle.fx_stage_types.specs.declared.refusals.Refusal.TheVariants.{Full};
 ghost use Rattle.fx_stage_model.specs.Answers.{silently, unless};
@@ -10,12 +9,10 @@ use crate::stage::Stage;
 use fx_base::{NodeKey, Text};
 use fx_events::Phase;
 use fx_kinds::constraint_of;
+use fx_stage_parts::{is_full_of_classes, is_full_of_pseudos};
 use fx_stage_types::{NodeEdit, Outcome, Refusal, StageError};
-use fx_stage_words::{constraint_edit, event_named, has_name, is_own_pseudo};
+use fx_stage_words::{constraint_edit, event_named, is_own_pseudo};
 use std::alloc::Global;
-
-/// The most style classes of a node, and the most pseudo-classes that a script sets at one.
-const MOST_WORDS: usize = 64;
 
 impl Stage {
     /// `class ID WORD`: the node has one more style class, behind the others.
@@ -32,22 +29,13 @@ impl Stage {
             Ok(key) => key,
             Err(word) => return Err(StageError::Refused(word)),
         };
-        if self.is_full_of_classes(key) {
+        if is_full_of_classes(&self.graph, key) {
             return Err(StageError::Refused(Refusal::Full));
         }
         let Ok(name) = name.copy(alloc) else {
             return Err(StageError::Memory);
         };
         self.edit(alloc, key, NodeEdit::AddClass(name))
-    }
-
-    pub(crate) fn is_full_of_classes(&self, key: NodeKey) -> bool
-        ensures { result ≡ spec.is_full_of_classes self.now.graph.table key }
-    {
-        match self.graph.node(key) {
-            None => false,
-            Some(node) => node.classes.as_slice().len() >= MOST_WORDS,
-        }
     }
 
     /// `unclass ID WORD`: the first style class that is this word goes.
@@ -107,25 +95,13 @@ impl Stage {
         ensures { IsTaken (unless (spec.is_full_of_pseudos self.old.graph.table key name.now) Full
             (silently (spec.edited_in key (AddPseudo name.now) self.old))) self.old self.new result }
     {
-        if self.is_full_of_pseudos(key, name) {
+        if is_full_of_pseudos(&self.graph, key, name) {
             return Err(StageError::Refused(Refusal::Full));
         }
         let Ok(name) = name.copy(alloc) else {
             return Err(StageError::Memory);
         };
         self.edit(alloc, key, NodeEdit::AddPseudo(name))
-    }
-
-    fn is_full_of_pseudos(&self, key: NodeKey, name: &Text) -> bool
-        ensures { result ≡ spec.is_full_of_pseudos self.now.graph.table key name.now }
-    {
-        match self.graph.node(key) {
-            None => false,
-            Some(node) => {
-                !has_name(node.pseudos.as_slice(), name.as_str())
-                    && node.pseudos.as_slice().len() >= MOST_WORDS
-            }
-        }
     }
 
     /// `constrain ID CLASS.PROPERTY REST`: the node has the constraint with the value that the text spells, or without

@@ -1,8 +1,6 @@
 //! `drop`: the end of nodes, with all that they have.
-ghost use Rattle.std.specs.Prelude.{◌≡◌, ◌≤◌, ◌<◌, ◌++◌, IfOk, None, OnOk, map, ◌+◌};
-ghost use Rattle.std.specs.List.{range_with_len};
+ghost use Rattle.std.specs.Prelude.{◌≡◌, ◌≤◌, ◌++◌, IfOk, None, OnOk, map, ◌+◌};
 ghost use Rattle.fx_base.specs.Names.{name_of};
-ghost use Rattle.fx_stage.specs.Dropping.{are_gone, dropped_if};
 ghost use Rattle.fx_stage_model.specs.Answers.{cost_of};
 ghost use Rattle.fx_stage_model.specs.Looking.{properties_in};
 ghost use Rattle.fx_stage_model.specs.Nodes as spec;
@@ -13,11 +11,10 @@ ghost use Rattle.fx_tree.specs.Scene.{subtree};
 
 use crate::stage::Stage;
 use fx_base::{Ledgers, List, Name, NodeKey, Text, Work};
-use fx_stage_graph::Graph;
+use fx_stage_parts::{are_gone, drop_if, push_range};
 use fx_stage_rows::row_count;
 use fx_stage_types::{Outcome, StageError};
 use fx_stage_words::told;
-use fx_store::Store;
 use fx_store_model::Change;
 use std::alloc::{AllocError, Global};
 
@@ -95,42 +92,5 @@ impl Stage {
             None => Ok(()),
             Some(node) => push_range(names, node.first, row_count(node.class) as u32),
         }
-    }
-}
-
-/// Puts so many numbers from this one on behind the others.
-fn push_range(names: &mut Vec<Name>, first: u32, count: u32) -> Result<(), AllocError>
-    requires low { first ≤ 4000000 }
-    requires few { count < 100 }
-    ensures { OnOk result (names.new.items ≡ names.old.items ++ map name_of (range_with_len first count)) }
-{
-    for place in 0..count {
-        names.push(Name(first + place))?;
-    }
-    Ok(())
-}
-
-/// Whether properties are forgotten, of which this is the first: it is unknown, or there is none and forgetting ended
-/// well.
-fn are_gone(store: &Store, first: Option<Name>, done: bool) -> bool
-    ensures { result ≡ are_gone first done store.now.entries }
-{
-    match first {
-        None => done,
-        Some(name) => store.kind(name).is_none(),
-    }
-}
-
-/// Ends the nodes, if it is so.
-fn drop_if(graph: &mut Graph, so: bool, key: NodeKey, keys: &[NodeKey])
-    requires allowed { drop_refusal graph.old.tree key ≡ None }
-    ensures { graph.new ≡ dropped_if so key keys.now graph.old }
-{
-    if !so {
-        return;
-    }
-    match graph.drop_nodes(key, keys) {
-        Ok(()) => {}
-        Err(_) => unreachable!(),
     }
 }

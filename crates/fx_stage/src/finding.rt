@@ -1,37 +1,14 @@
 //! Nodes by their paths, and properties by their names.
-ghost use Rattle.std.specs.Prelude.{◌≡◌, ◌<◌, ◌≤◌, IfSome, Some};
-ghost use Rattle.fx_base.specs.Names.{name_of as name_numbered};
-ghost use Rattle.fx_stage_model.specs.Answers.{both, or_word, earlier};
-ghost use Rattle.fx_stage_types.specs.declared.refusals.Refusal.TheVariants as word;
-ghost use Rattle.std.specs.Option.{option_copied, option_map};
+ghost use Rattle.std.specs.Prelude.{◌≡◌};
+ghost use Rattle.fx_stage_model.specs.Answers.{both};
+ghost use Rattle.std.specs.Option.{option_map};
 ghost use Rattle.fx_stage_types.specs.Tables.{data_of, node_at};
 ghost use Rattle.fx_stage_model.specs.Looking as spec;
 
 use crate::stage::Stage;
 use fx_base::{Name, NodeKey, Text};
-use fx_kinds::{Class, property_named};
-use fx_stage_types::{NodeData, Refusal};
-
-/// The place of the property in the class's list.
-#[tactic(auto, unfolding(fx_stage_model::specs::Looking::place_of))]
-fn place_of(class: Class, property: &Text) -> Option<usize>
-    ensures place { result ≡ spec.place_of class property.now }
-    ensures small { IfSome result (λ place. place < 100) }
-{
-    property_named(class, property.as_str())
-}
-
-/// The number of the property of this name among those of a node.
-#[tactic(auto, unfolding(fx_stage_model::specs::Looking::property_in))]
-fn name_in(node: &NodeData, property: &Text) -> Option<Name>
-    requires low { node.now.first ≤ 4000000 }
-    ensures { option_map (λ name. name.0) result ≡ spec.property_in (Some node.now) property.now }
-{
-    match place_of(node.class, property) {
-        None => None,
-        Some(place) => Some(Name(node.first + place as u32)),
-    }
-}
+use fx_stage_parts::{both, name_in, or_property, or_unknown};
+use fx_stage_types::Refusal;
 
 impl Stage {
     /// The node of this path.
@@ -95,53 +72,5 @@ impl Stage {
         ensures { result ≡ both (spec.find self.now one.now) (spec.find self.now other.now) }
     {
         both(self.find_property(one), self.find_property(other))
-    }
-}
-
-fn or_property(name: Option<Name>) -> Result<Name, Refusal>
-    ensures { result ≡ or_word word.Property (option_map name_numbered (option_map (λ n. n.0) name)) }
-{
-    match name {
-        Some(name) => Ok(name),
-        None => Err(Refusal::Property),
-    }
-}
-
-fn or_unknown(name: Option<Name>) -> Result<Name, Refusal>
-    ensures { result ≡ or_word word.Unknown name }
-{
-    match name {
-        Some(name) => Ok(name),
-        None => Err(Refusal::Unknown),
-    }
-}
-
-/// Both, or the word that comes first.
-pub(crate) fn both<T: Drop, U: Drop>(
-    one: Result<T, Refusal>,
-    other: Result<U, Refusal>,
-) -> Result<(T, U), Refusal>
-    ensures { result ≡ both one other }
-{
-    match one {
-        Ok(one) => match other {
-            Ok(other) => Ok((one, other)),
-            Err(word) => Err(word),
-        },
-        Err(word) => match other {
-            Ok(_) => Err(word),
-            Err(other) => Err(earlier(word, other)),
-        },
-    }
-}
-
-/// The word that comes first in the order of words.
-pub(crate) fn earlier(one: Refusal, other: Refusal) -> Refusal
-    ensures { result ≡ earlier one other }
-{
-    if one.rank() <= other.rank() {
-        one
-    } else {
-        other
     }
 }

@@ -2,7 +2,6 @@
 //! of it what the definition of its line says.
 #![tactic(auto)]
 
-mod actions;
 mod binding;
 mod building;
 mod declaring;
@@ -21,5 +20,5 @@ mod running;
 mod stage;
 mod styling;
 
-pub use actions::Action;
+pub use fx_stage_parts::Action;
 pub use stage::Stage;

@@ -1,5 +1,5 @@
 //! `new`: further nodes with their properties.
-ghost use Rattle.std.specs.Prelude.{◌≡◌, ◌∷◌, [], ℕ, IfOk, None, false};
+ghost use Rattle.std.specs.Prelude.{◌≡◌, ℕ, None, false};
 ghost use Rattle.fx_stage_model.specs.Answers.{silently};
 ghost use Rattle.fx_stage_model.specs.Nodes as spec;
 ghost use Rattle.fx_stage_model.specs.Taking.{IsTaken};
@@ -8,13 +8,11 @@ ghost use Rattle.fx_stage_types.specs.Tables.{node_at};
 use crate::stage::Stage;
 use fx_base::Text;
 use fx_kinds::Class;
-use fx_stage_rows::{declare_rows, row_count};
+use fx_stage_parts::{has_no_room_for, path_of};
+use fx_stage_rows::declare_rows;
 use fx_stage_types::{Outcome, Refusal, StageError};
 use fx_stage_words::{made, node_class};
-use std::alloc::{AllocError, Global};
-
-/// The most names that are ever declared.
-const MOST_NAMES: usize = 4_000_000;
+use std::alloc::Global;
 
 impl Stage {
     /// `new CLASS ID`: a further node, which has no parent, known by this name.
@@ -36,18 +34,10 @@ impl Stage {
         if self.graph.find(path.as_slice()).is_some() {
             return Err(StageError::Refused(Refusal::Exists));
         }
-        if self.has_no_room_for(class) {
+        if has_no_room_for(&self.graph, &self.store, class) {
             return Err(StageError::Refused(Refusal::Full));
         }
         self.make_named(alloc, class, path)
-    }
-
-    /// Whether no further node of the class can be made.
-    pub(crate) fn has_no_room_for(&self, class: Class) -> bool
-        ensures { result ≡ spec.has_no_room class self.now }
-    {
-        self.store.laws();
-        self.graph.is_full() || self.store.count() + row_count(class) > MOST_NAMES
     }
 
     /// Makes the node, for which there is room.
@@ -67,12 +57,4 @@ impl Stage {
         };
         made(alloc, self.graph.make_named(alloc, class, first, path))
     }
-}
-
-fn path_of(alloc: Global, id: &Text) -> Result<Vec<Text>, AllocError>
-    ensures { IfOk result (λ path. path.items ≡ id.now ∷ []) }
-{
-    let mut path = Vec::with_capacity(alloc, 1)?;
-    path.push(id.copy(alloc)?)?;
-    Ok(path)
 }

@@ -4,10 +4,10 @@ ghost use Rattle.fx_script_commands.specs.Requests.{line_view, requests_of};
 ghost use Rattle.fx_stage_model.specs.Lines as spec;
 ghost use Rattle.fx_stage_model.specs.Taking.{IsTaken};
 
-use crate::actions::Action;
 use crate::stage::Stage;
 use fx_base::Text;
 use fx_script_commands::Line;
+use fx_stage_parts::action_of;
 use fx_stage_types::{Outcome, Refusal, StageError};
 use fx_stage_words::{nothing, plain, side_of};
 use std::alloc::Global;
@@ -27,7 +27,7 @@ impl Stage {
         if self.actions.get(&name).is_some() {
             return Err(StageError::Refused(Refusal::Exists));
         }
-        let Ok(action) = Action::of(alloc, lines) else {
+        let Ok(action) = action_of(alloc, lines) else {
             return Err(StageError::Memory);
         };
         plain(alloc, self.actions.add(name, action))

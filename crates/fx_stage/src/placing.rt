@@ -5,9 +5,9 @@ ghost use Rattle.fx_stage_model.specs.Looking.{find_node};
 ghost use Rattle.fx_stage_model.specs.Nodes as spec;
 ghost use Rattle.fx_stage_model.specs.Taking.{IsTaken};
 
-use crate::finding::both;
 use crate::stage::Stage;
 use fx_base::{NodeKey, Text};
+use fx_stage_parts::both;
 use fx_stage_types::{Outcome, Refusal, StageError};
 use fx_stage_words::spot_of;
 use std::alloc::Global;

@@ -4,10 +4,10 @@ ghost use Rattle.std.specs.Option.{option_copied};
 ghost use Rattle.fx_stage_graph.specs.Pointing.{pointed};
 ghost use Rattle.fx_stage_model.specs.Running as spec;
 
-use crate::actions::Action;
 use crate::stage::Stage;
 use fx_base::{Name, Text};
 use fx_stage_graph::Pointing;
+use fx_stage_parts::{Action, run_tagged};
 
 impl Stage {
     /// The lines of the action of this name, if it is defined.
@@ -62,16 +62,5 @@ impl Stage {
         self.pointer = pointer;
         self.button = button;
         self.graph.point(pointing);
-    }
-}
-
-/// The name of the action that a listener with this tag runs, if it runs one.
-fn run_tagged(run: &[Text], tag: u32) -> Option<&Text>
-    ensures { option_copied result ≡ spec.run_tagged run.now tag }
-{
-    if tag == 0 {
-        None
-    } else {
-        run.get(tag as usize - 1)
     }
 }

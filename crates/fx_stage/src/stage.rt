@@ -2,10 +2,10 @@
 ghost use Rattle.std.specs.Prelude.{◌≡◌};
 ghost use Rattle.fx_stage_model.specs.World.{nowhere};
 
-use crate::actions::Action;
 use fx_base::{List, Name, NodeKey, Text};
 use fx_handles::Owner;
 use fx_stage_graph::Graph;
+use fx_stage_parts::Action;
 use fx_stage_tables::NameMap;
 use fx_store::Store;
 use indexmap::IndexMap;

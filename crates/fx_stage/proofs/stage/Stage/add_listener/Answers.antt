@@ -7,7 +7,8 @@ use Rattle.fx_stage_model.specs.Answers.{cost_of}
 use Rattle.fx_stage_model.specs.Taking.{IsTaken}
 use Rattle.fx_stage_model.specs.World.{World, is_listening, with_store}
 use Rattle.fx_stage.specs.Kept.{seen}
-use Rattle.fx_stage.specs.Noting.{added, has_listener_behind, run_if, written_if}
+use Rattle.fx_stage.specs.Noting.{added}
+use Rattle.fx_stage_parts.specs.Noting.{has_listener_behind, run_if, written_if}
 use Rattle.fx_stage_words.specs.Told.{told_as}
 use Rattle.fx_stage.proofs.CostLemmas.{added_few, changed_few}
 use Rattle.fx_stage.proofs.ListeningLemmas.{added_taken, first_true, has_new, listen_keeps, new_given, not_there, numbered_if, perhaps_noted, view_noted}
@@ -25,9 +26,9 @@ note_if-requires-clause-number g c =
 
 pub note_if-requires-clause-new : goal.note_if-requires-clause-new
 note_if-requires-clause-new g c =
-    subst (λ (n : ℕ). All (λ (e : ℕ × List (List ℕ)). e.0 ≤ n) c.reserve.new.written.entries) (sym c.given-given.ensures)
+    subst (λ (n : ℕ). All (λ (e : ℕ × List (List ℕ)). e.0 ≤ n) c.reserve_note.new.written.entries) (sym c.given-given.ensures)
     (subst (λ (ws : List (ℕ × List (List ℕ))). All (λ (e : ℕ × List (List ℕ)). e.0 ≤ c.self.inside.store.given) ws)
-    (sym c.reserve.ensures.written) c.self.invariant.numbered)
+    (sym c.reserve_note.ensures.written) c.self.invariant.numbered)
 
 pub invariant_of-self-2 : goal.invariant_of-self-2
 invariant_of-self-2 g c =
@@ -46,8 +47,8 @@ invariant_of-self-2 g c =
       numbered = subst (λ (ws : List (ℕ × List (List ℕ))). All (λ (e : ℕ × List (List ℕ)). e.0 ≤ now.given) ws)
           (sym
           (c.note_if.ensures.written
-          ∙ ap (λ (n : ℕ). written_if there n c.args.asked c.reserve.new.written.entries) c.given-given.ensures
-          ∙ ap (written_if there s.store.given c.args.asked) c.reserve.ensures.written))
+          ∙ ap (λ (n : ℕ). written_if there n c.args.asked c.reserve_note.new.written.entries) c.given-given.ensures
+          ∙ ap (written_if there s.store.given c.args.asked) c.reserve_note.ensures.written))
           (numbered_if there s.store.given now.given c.args.asked s.written.entries (given_settled change s.store now is)
           (λ yes. new_given change s.store now listens is c.laws.ensures.listeners.given (sym there_is ∙ yes))
           c.self.invariant.numbered);
@@ -78,11 +79,11 @@ returns-clause-taken g c =
     let there = c.has_new-there.result in
     let there_is : there ≡ has_new s.store now =
     c.has_new-there.ensures ∙ ap (λ (n : ℕ). has_listener_behind n now.listeners) c.given-given.ensures in
-    let run_is = c.note_if.ensures.run ∙ ap (run_if there runs) c.reserve.ensures.run in
+    let run_is = c.note_if.ensures.run ∙ ap (run_if there runs) c.reserve_note.ensures.run in
     let written_is =
     c.note_if.ensures.written
-    ∙ ap (λ (n : ℕ). written_if there n asked c.reserve.new.written.entries) c.given-given.ensures
-    ∙ ap (written_if there s.store.given asked) c.reserve.ensures.written in
+    ∙ ap (λ (n : ℕ). written_if there n asked c.reserve_note.new.written.entries) c.given-given.ensures
+    ∙ ap (written_if there s.store.given asked) c.reserve_note.ensures.written in
     let seen_is : v ≡ perhaps_noted (has_new s.store now) (s.store.given + 1) asked runs (with_store now w) =
     ap (λ (run : List (List ℕ)). view now run c.note_if.new.written.entries) run_is
     ∙ ap (view now (run_if there runs s.run.items)) written_is

@@ -10,7 +10,7 @@ use Rattle.fx_stage_model.specs.Nodes.{forgotten, names_of_all, properties_of_al
 use Rattle.fx_stage_model.specs.Sound.{IsSound}
 use Rattle.fx_stage_model.specs.Taking.{IsTaken}
 use Rattle.fx_stage_model.specs.World.{World, with_graph, with_store}
-use Rattle.fx_stage.specs.Dropping.{dropped_if}
+use Rattle.fx_stage_parts.specs.Dropping.{dropped_if}
 use Rattle.fx_stage.specs.Kept.{seen}
 use Rattle.fx_stage_words.specs.Told.{told_as}
 use Rattle.fx_stage.proofs.DroppingLemmas.{all_known, forgotten_few, forgotten_taken, found_gone, settled_by, sound_by}

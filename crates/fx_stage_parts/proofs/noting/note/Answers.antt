@@ -1,7 +1,7 @@
 use Rattle.std.proofs.Common.{◌∙◌}
 use Rattle.indexmap.proofs.CallerLemmas.{insert_entry-new}
-use Rattle.fx_stage.proofs.ListeningLemmas.{none_less}
-use Rattle.fx_stage.proofs.listening.note.Goals as goal
+use Rattle.fx_stage_parts.proofs.NotingLemmas.{none_less}
+use Rattle.fx_stage_parts.proofs.noting.note.Goals as goal
 
 pub returns-clause-written : goal.returns-clause-written
 returns-clause-written c =

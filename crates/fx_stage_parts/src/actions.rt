@@ -27,14 +27,6 @@ impl Model for Action {
 }
 
 impl Action {
-    /// The action with these lines.
-    pub(crate) fn of(alloc: Global, lines: Vec<Line>) -> Result<Action, AllocError>
-        ensures { IfOk result (λ action. action ≡ map line_view lines.items) }
-    {
-        let shared = Rc::new(alloc, lines)?;
-        Ok(Action { shared })
-    }
-
     /// The same action, for one who runs it.
     pub fn share(&self) -> Result<Action, AllocError>
         ensures { IfOk result (λ action. action ≡ self.now) }
@@ -49,4 +41,12 @@ impl Action {
     {
         self.shared.as_slice()
     }
+}
+
+/// The action with these lines.
+pub fn action_of(alloc: Global, lines: Vec<Line>) -> Result<Action, AllocError>
+    ensures { IfOk result (λ action. action ≡ map line_view lines.items) }
+{
+    let shared = Rc::new(alloc, lines)?;
+    Ok(Action { shared })
 }

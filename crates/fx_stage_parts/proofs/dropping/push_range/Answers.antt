@@ -1,5 +1,5 @@
-use Rattle.fx_stage.proofs.DroppingLemmas.{range_pushed}
-use Rattle.fx_stage.proofs.dropping.push_range.Goals as goal
+use Rattle.fx_stage_parts.proofs.PushingLemmas.{range_pushed}
+use Rattle.fx_stage_parts.proofs.dropping.push_range.Goals as goal
 
 pub loop-place-preserved : goal.loop-place-preserved
 loop-place-preserved c =

@@ -1,7 +1,7 @@
 use Rattle.std.specs.Str.{bytes_eq}
 use Rattle.fx_kinds.specs.Properties.{ListedProperty}
-use Rattle.fx_stage.proofs.Small.{small_place}
-use Rattle.fx_stage.proofs.finding.place_of.Goals as goal
+use Rattle.fx_stage_parts.proofs.Small.{small_place}
+use Rattle.fx_stage_parts.proofs.finding.place_of.Goals as goal
 
 pub returns-clause-small : goal.returns-clause-small
 returns-clause-small c =

@@ -1,0 +1,3 @@
+pub mod Dropping
+pub mod Noting
+pub mod Owners

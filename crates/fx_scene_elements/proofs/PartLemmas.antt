@@ -16,7 +16,7 @@ use Rattle.fx_scene_elements.specs.Lists.{list_asked, next_asked, with_item}
 use Rattle.fx_scene_elements.specs.Targets.{Target}
 use Rattle.fx_scene_elements.specs.Tracks.{Told, next_told, tracks_told, with_part}
 use Rattle.fx_scene_elements.specs.declared.entries.Entry.{Entry}
-use Rattle.fx_scene_literals.specs.declared.instances.Want.{Want}
+use Rattle.fx_scene_instances.specs.declared.instances.Want.{Want}
 use Rattle.fx_scene_literals.proofs.PartLemmas.{read_more}
 use Rattle.fx_scene_things.specs.Names.{Names}
 use Rattle.fx_scene_values.specs.Scopes.{Scope}

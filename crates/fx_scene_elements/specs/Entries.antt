@@ -10,10 +10,10 @@ use Rattle.fx_scene_acts.specs.declared.acts.Deed.TheVariants as deed
 use Rattle.fx_scene_elements.specs.Added.{deed_at, flaw_at, node_at}
 use Rattle.fx_scene_elements.specs.declared.entries.Entry.{Entry}
 use Rattle.fx_scene_elements.specs.declared.entries.Entry.TheVariants as entry
-use Rattle.fx_scene_literals.specs.declared.made.Found.{Found}
-use Rattle.fx_scene_literals.specs.declared.made.Found.TheVariants.{Whole, Flaw, Node}
-use Rattle.fx_scene_literals.specs.declared.made.Made.{Made}
-use Rattle.fx_scene_literals.specs.declared.made.Made.TheVariants.{Location, Plain, Track}
+use Rattle.fx_scene_instances.specs.declared.made.Found.{Found}
+use Rattle.fx_scene_instances.specs.declared.made.Found.TheVariants.{Whole, Flaw, Node}
+use Rattle.fx_scene_instances.specs.declared.made.Made.{Made}
+use Rattle.fx_scene_instances.specs.declared.made.Made.TheVariants.{Location, Plain, Track}
 use Rattle.fx_scene_plan.specs.declared.steps.PlannedStep.TheVariants as planned
 use Rattle.fx_script_commands.specs.Braces.{behind_sign}
 use Rattle.fx_text.specs.Characters.{commercial_at}

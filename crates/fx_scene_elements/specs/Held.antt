@@ -6,14 +6,14 @@ use Rattle.fx_doc_grammar.specs.Machine.{is_nothing}
 use Rattle.fx_scene_acts.specs.declared.acts.Act.{Act}
 use Rattle.fx_scene_elements.specs.Added.{Asked, asked, asked_then, deed_at, flaw_at, flaw_in, node_at}
 use Rattle.fx_scene_elements.specs.Targets.{Target, target_kind, value_deed}
-use Rattle.fx_scene_literals.specs.Instances.{is_reference}
+use Rattle.fx_scene_instances.specs.Instances.{is_reference}
+use Rattle.fx_scene_instances.specs.References.{referred}
+use Rattle.fx_scene_instances.specs.declared.made.Found.{Found}
+use Rattle.fx_scene_instances.specs.declared.made.Found.TheVariants.{Whole, Flaw, Node as Unread}
+use Rattle.fx_scene_instances.specs.declared.made.Made.TheVariants.{Location, Plain, Track}
 use Rattle.fx_scene_literals.specs.Literals.{Told, closed, no_value, want_of}
-use Rattle.fx_scene_literals.specs.References.{referred}
 use Rattle.fx_scene_literals.specs.Views.{item_told}
-use Rattle.fx_scene_literals.specs.declared.made.Found.{Found}
-use Rattle.fx_scene_literals.specs.declared.made.Found.TheVariants.{Whole, Flaw, Node as Unread}
-use Rattle.fx_scene_literals.specs.declared.made.Made.TheVariants.{Location, Plain, Track}
-use Rattle.fx_scene_literals.specs.declared.made.Part.TheVariants.{One}
+use Rattle.fx_scene_literals.specs.declared.parts.Part.TheVariants.{One}
 use Rattle.fx_scene_things.specs.Names.{Names}
 use Rattle.fx_scene_values.specs.Scopes.{Scope}
 

@@ -8,10 +8,10 @@ use Rattle.fx_scene_elements.specs.Held.{closed_asked}
 use Rattle.fx_scene_elements.specs.declared.entries.Entry.{Entry}
 use Rattle.fx_scene_flaws.specs.declared.flaws.Flaw.{Flaw as Mistake}
 use Rattle.fx_scene_flaws.specs.declared.flaws.Flaw.TheVariants as flaw
-use Rattle.fx_scene_literals.specs.Instances.{entered, is_reference}
+use Rattle.fx_scene_instances.specs.Instances.{entered, is_reference}
+use Rattle.fx_scene_instances.specs.References.{referred}
+use Rattle.fx_scene_instances.specs.declared.instances.Want.TheVariants as want
 use Rattle.fx_scene_literals.specs.Literals.{Told, closed, whole}
-use Rattle.fx_scene_literals.specs.References.{referred}
-use Rattle.fx_scene_literals.specs.declared.instances.Want.TheVariants as want
 use Rattle.fx_scene_things.specs.Names.{Names}
 use Rattle.fx_scene_values.specs.Scopes.{Scope}
 

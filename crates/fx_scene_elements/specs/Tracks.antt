@@ -11,15 +11,15 @@ use Rattle.fx_scene_elements.specs.Added.{deed_at, flaw_at, flaw_in, stops}
 use Rattle.fx_scene_elements.specs.declared.lanes.Lane.{Lane}
 use Rattle.fx_scene_flaws.specs.declared.flaws.Flaw.{Flaw as Mistake}
 use Rattle.fx_scene_flaws.specs.declared.flaws.Flaw.TheVariants as flaw
-use Rattle.fx_scene_literals.specs.Instances.{entered, is_reference}
+use Rattle.fx_scene_instances.specs.Instances.{entered, is_reference}
+use Rattle.fx_scene_instances.specs.References.{referred}
+use Rattle.fx_scene_instances.specs.declared.instances.Want.{Want}
+use Rattle.fx_scene_instances.specs.declared.instances.Want.TheVariants as want
+use Rattle.fx_scene_instances.specs.declared.made.Found.{Found}
+use Rattle.fx_scene_instances.specs.declared.made.Found.TheVariants.{Whole, Flaw, Node as Unread}
+use Rattle.fx_scene_instances.specs.declared.made.Made.TheVariants.{Location, Plain, Track}
 use Rattle.fx_scene_literals.specs.Literals as literal
 use Rattle.fx_scene_literals.specs.Literals.{closed, whole}
-use Rattle.fx_scene_literals.specs.References.{referred}
-use Rattle.fx_scene_literals.specs.declared.instances.Want.{Want}
-use Rattle.fx_scene_literals.specs.declared.instances.Want.TheVariants as want
-use Rattle.fx_scene_literals.specs.declared.made.Found.{Found}
-use Rattle.fx_scene_literals.specs.declared.made.Found.TheVariants.{Whole, Flaw, Node as Unread}
-use Rattle.fx_scene_literals.specs.declared.made.Made.TheVariants.{Location, Plain, Track}
 use Rattle.fx_scene_plan.specs.declared.steps.PlannedStep.TheVariants as planned
 use Rattle.fx_scene_things.specs.Names.{Names}
 use Rattle.fx_scene_values.specs.Scopes.{Scope}

@@ -8,7 +8,7 @@ use crate::pushing::{push, push_flaw, push_node};
 use fx_base::{Position, Text, Value};
 use fx_doc::{Attribute, Element};
 use fx_scene_acts::{Act, Deed};
-use fx_scene_literals::{Found, Made};
+use fx_scene_instances::{Found, Made};
 use fx_scene_plan::PlannedStep;
 use fx_script_commands::behind_sign;
 use std::alloc::{AllocError, Global};

@@ -5,7 +5,7 @@ ghost use Rattle.fx_scene_elements.specs.Added as spec;
 use fx_base::Position;
 use fx_scene_acts::{Act, Deed, is_node_act};
 use fx_scene_flaws::Flaw;
-use fx_scene_literals::Found;
+use fx_scene_instances::Found;
 use std::alloc::AllocError;
 
 /// Adds an act.

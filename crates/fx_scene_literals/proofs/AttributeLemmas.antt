@@ -4,10 +4,10 @@ use Rattle.std.proofs.lemmas.List.{drop_more}
 use Rattle.fx_doc.specs.Views.{attr_view}
 use Rattle.fx_doc_runs.specs.declared.document.Attribute.{Attribute}
 use Rattle.fx_kinds.specs.declared.classes.Class.{Class}
+use Rattle.fx_scene_instances.specs.declared.made.Found.{Found}
+use Rattle.fx_scene_instances.specs.declared.made.Found.TheVariants.{Whole, Flaw, Node}
+use Rattle.fx_scene_instances.specs.declared.made.Made.{Made}
 use Rattle.fx_scene_literals.specs.Literals.{Told, attribute_told, found_then, made_from, told}
-use Rattle.fx_scene_literals.specs.declared.made.Found.{Found}
-use Rattle.fx_scene_literals.specs.declared.made.Found.TheVariants.{Whole, Flaw, Node}
-use Rattle.fx_scene_literals.specs.declared.made.Made.{Made}
 use Rattle.fx_scene_things.specs.Names.{Names}
 use Rattle.fx_scene_values.specs.Scopes.{Scope}
 

@@ -11,11 +11,11 @@ use Rattle.fx_doc_runs.specs.declared.document.Content.TheFolds as f
 use Rattle.fx_doc_runs.specs.declared.document.Content.TheViews as w
 use Rattle.fx_doc_runs.specs.declared.document.Element.{Element}
 use Rattle.fx_doc_runs.proofs.Trees.{element_head, element_node, nodes_of_push, onto_something}
+use Rattle.fx_scene_instances.specs.declared.made.Found.{Found}
+use Rattle.fx_scene_instances.specs.declared.made.Made.{Made}
 use Rattle.fx_scene_literals.specs.Literals.{Told, read_in, told}
 use Rattle.fx_scene_literals.specs.Views.{part_told}
-use Rattle.fx_scene_literals.specs.declared.made.Found.{Found}
-use Rattle.fx_scene_literals.specs.declared.made.Made.{Made}
-use Rattle.fx_scene_literals.specs.declared.made.Part.{Part}
+use Rattle.fx_scene_literals.specs.declared.parts.Part.{Part}
 use Rattle.fx_scene_things.specs.Names.{Names}
 use Rattle.fx_scene_values.specs.Scopes.{Scope}
 

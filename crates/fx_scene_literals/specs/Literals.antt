@@ -16,19 +16,19 @@ use Rattle.fx_scene_bindings.specs.Names.{value_at}
 use Rattle.fx_scene_flaws.specs.declared.flaws.Fault.{Fault}
 use Rattle.fx_scene_flaws.specs.declared.flaws.Flaw.{Flaw as Mistake}
 use Rattle.fx_scene_flaws.specs.declared.flaws.Flaw.TheVariants as flaw
-use Rattle.fx_scene_literals.specs.Fields.{constant_named, field_kind, field_named, first_made, with_value}
-use Rattle.fx_scene_literals.specs.Instances.{entered, is_define, is_include, is_reference}
-use Rattle.fx_scene_literals.specs.Needs.{is_location}
-use Rattle.fx_scene_literals.specs.References.{referred}
-use Rattle.fx_scene_literals.specs.declared.fields.Field.{Field}
-use Rattle.fx_scene_literals.specs.declared.instances.Want.{Want}
-use Rattle.fx_scene_literals.specs.declared.instances.Want.TheVariants as want
-use Rattle.fx_scene_literals.specs.declared.made.Found.{Found}
-use Rattle.fx_scene_literals.specs.declared.made.Found.TheVariants.{Whole, Flaw, Node}
-use Rattle.fx_scene_literals.specs.declared.made.Made.{Made}
-use Rattle.fx_scene_literals.specs.declared.made.Made.TheVariants.{Location, Plain, Track}
-use Rattle.fx_scene_literals.specs.declared.made.Part.{Part}
-use Rattle.fx_scene_literals.specs.declared.made.Part.TheVariants.{Closed, Defined, Fields, One}
+use Rattle.fx_scene_instances.specs.Fields.{constant_named, field_kind, field_named, first_made, with_value}
+use Rattle.fx_scene_instances.specs.Instances.{entered, is_define, is_include, is_reference}
+use Rattle.fx_scene_instances.specs.Needs.{is_location}
+use Rattle.fx_scene_instances.specs.References.{referred}
+use Rattle.fx_scene_instances.specs.declared.fields.Field.{Field}
+use Rattle.fx_scene_instances.specs.declared.instances.Want.{Want}
+use Rattle.fx_scene_instances.specs.declared.instances.Want.TheVariants as want
+use Rattle.fx_scene_instances.specs.declared.made.Found.{Found}
+use Rattle.fx_scene_instances.specs.declared.made.Found.TheVariants.{Whole, Flaw, Node}
+use Rattle.fx_scene_instances.specs.declared.made.Made.{Made}
+use Rattle.fx_scene_instances.specs.declared.made.Made.TheVariants.{Location, Plain, Track}
+use Rattle.fx_scene_literals.specs.declared.parts.Part.{Part}
+use Rattle.fx_scene_literals.specs.declared.parts.Part.TheVariants.{Closed, Defined, Fields, One}
 use Rattle.fx_scene_names.specs.Names.{is_instance, is_static, lacks_owner}
 use Rattle.fx_scene_outline.specs.Nodes.{is_defined_node}
 use Rattle.fx_scene_things.specs.Names.{Names, has_name, with_name}

@@ -2,10 +2,10 @@
 use Rattle.std.specs.Prelude.{Bool}
 use Rattle.fx_doc_grammar.specs.Grammar.{Nodes, Nothing, Letters, Node}
 use Rattle.fx_doc_grammar.specs.Machine.{is_nothing}
+use Rattle.fx_scene_instances.specs.declared.made.Found.TheVariants.{Whole}
+use Rattle.fx_scene_instances.specs.declared.made.Made.{Made}
 use Rattle.fx_scene_literals.specs.Literals.{Told, child_told, letters_told, read_in, told, told_then}
-use Rattle.fx_scene_literals.specs.declared.made.Found.TheVariants.{Whole}
-use Rattle.fx_scene_literals.specs.declared.made.Made.{Made}
-use Rattle.fx_scene_literals.specs.declared.made.Part.{Part}
+use Rattle.fx_scene_literals.specs.declared.parts.Part.{Part}
 use Rattle.fx_scene_things.specs.Names.{Names}
 use Rattle.fx_scene_values.specs.Scopes.{Scope}
 

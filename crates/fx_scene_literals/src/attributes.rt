@@ -1,18 +1,19 @@
 //! What instances of values are by their attributes.
 ghost use Rattle.std.specs.Prelude.{◌≡◌, IfOk, OnOk, map};
 ghost use Rattle.fx_doc.specs.Views.{attr_view};
-ghost use Rattle.fx_scene_literals.specs.Fields.{first_made};
+ghost use Rattle.fx_scene_instances.specs.Fields.{first_made};
 ghost use Rattle.fx_scene_literals.specs.Literals as spec;
 ghost use Rattle.fx_scene_things.specs.Known.{known};
 ghost use Rattle.fx_scene_values.specs.Views.{scope_view};
 
-use crate::fields::{Field, constant_named, field_kind, field_named, first_made, with_value};
-use crate::made::{Found, Made};
-use crate::needs::is_location;
 use fx_base::{Kind, Position, Value};
 use fx_doc::Attribute;
 use fx_kinds::{Class, value_kind};
 use fx_scene_flaws::Flaw;
+use fx_scene_instances::{
+    Field, Found, Made, constant_named, field_kind, field_named, first_made, is_location,
+    with_value,
+};
 use fx_scene_things::{Names, Thing};
 use fx_scene_values::{Given, Scope, form_of, literal, path_in, value_in};
 use fx_text::is_identifier;

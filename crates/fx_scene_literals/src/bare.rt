@@ -5,11 +5,10 @@ ghost use Rattle.fx_scene_literals.specs.Literals as spec;
 ghost use Rattle.fx_scene_outline.specs.Views.{content_of, head_of};
 ghost use Rattle.fx_scene_values.specs.Views.{scope_view};
 
-use crate::fields::{Field, field_named};
-use crate::instances::{Want, entered};
 use fx_doc::Element;
 use fx_kinds::Class;
 use fx_scene_flaws::{Fault, Flaw};
+use fx_scene_instances::{Field, Want, entered, field_named};
 use fx_scene_names::{is_instance, is_static, lacks_owner};
 use fx_scene_outline::{is_include, is_reference};
 use fx_scene_values::Scope;

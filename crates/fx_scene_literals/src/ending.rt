@@ -5,12 +5,11 @@ ghost use Rattle.fx_doc.specs.Views.{attr_view};
 ghost use Rattle.fx_scene_literals.specs.Literals as spec;
 ghost use Rattle.fx_scene_things.specs.Known.{known};
 
-use crate::fields::{Field, with_value};
-use crate::made::{Found, Made};
 use fx_base::{Text, Track, Value};
 use fx_doc::Attribute;
 use fx_kinds::Class;
 use fx_scene_bindings::value_at;
+use fx_scene_instances::{Field, Found, Made, with_value};
 use fx_scene_things::{Names, Thing};
 use std::alloc::{AllocError, Global};
 

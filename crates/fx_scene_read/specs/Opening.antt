@@ -4,7 +4,7 @@ use Rattle.fx_doc_grammar.specs.Grammar.{Attr, Head}
 use Rattle.fx_kinds.specs.declared.classes.Class.{Class}
 use Rattle.fx_scene_flaws.specs.declared.flaws.Flaw.{Flaw}
 use Rattle.fx_scene_flaws.specs.declared.flaws.Flaw.TheVariants as flaw
-use Rattle.fx_scene_literals.specs.Needs.{is_scene_node, lacks_value}
+use Rattle.fx_scene_instances.specs.Needs.{is_scene_node, lacks_value}
 use Rattle.fx_scene_names.specs.Names.{lacks_import}
 use Rattle.fx_scene_outline.specs.Pieces.{Piece, Include, Instance, Reference}
 use Rattle.fx_scene_outline.specs.declared.pieces.Seat.{Seat}

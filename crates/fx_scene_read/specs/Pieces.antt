@@ -13,12 +13,12 @@ use Rattle.fx_scene_elements.specs.Elements.{Told, element_told, told}
 use Rattle.fx_scene_elements.specs.declared.lanes.Lane.{Lane}
 use Rattle.fx_scene_flaws.specs.declared.flaws.Flaw.{Flaw as Mistake}
 use Rattle.fx_scene_flaws.specs.declared.flaws.Flaw.TheVariants as flaw
-use Rattle.fx_scene_literals.specs.Instances.{entered}
+use Rattle.fx_scene_instances.specs.Instances.{entered}
+use Rattle.fx_scene_instances.specs.Needs.{has_attribute}
+use Rattle.fx_scene_instances.specs.declared.instances.Want.TheVariants as want
+use Rattle.fx_scene_instances.specs.declared.made.Found.TheVariants as found
 use Rattle.fx_scene_literals.specs.Literals as literal
 use Rattle.fx_scene_literals.specs.Literals.{whole}
-use Rattle.fx_scene_literals.specs.Needs.{has_attribute}
-use Rattle.fx_scene_literals.specs.declared.instances.Want.TheVariants as want
-use Rattle.fx_scene_literals.specs.declared.made.Found.TheVariants as found
 use Rattle.fx_scene_names.specs.Names.{class_named}
 use Rattle.fx_scene_outline.specs.Pieces.{Piece, Include, Instance, Property, Reference, Value, Wrong}
 use Rattle.fx_scene_outline.specs.declared.pieces.Seat.{Seat}

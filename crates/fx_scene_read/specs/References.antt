@@ -9,7 +9,7 @@ use Rattle.fx_scene_bindings.specs.Names.{value_at}
 use Rattle.fx_scene_elements.specs.Added.{deed_at, flaw_at}
 use Rattle.fx_scene_flaws.specs.declared.flaws.Flaw.{Flaw as Mistake}
 use Rattle.fx_scene_flaws.specs.declared.flaws.Flaw.TheVariants as flaw
-use Rattle.fx_scene_literals.specs.References.{attribute_flaw}
+use Rattle.fx_scene_instances.specs.References.{attribute_flaw}
 use Rattle.fx_scene_outline.specs.Pieces.{Piece}
 use Rattle.fx_scene_outline.specs.declared.pieces.Seat.{Seat}
 use Rattle.fx_scene_outline.specs.declared.pieces.Seat.TheVariants as seat

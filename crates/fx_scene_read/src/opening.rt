@@ -9,9 +9,9 @@ use fx_base::Text;
 use fx_doc::{Attribute, Element};
 use fx_kinds::Class;
 use fx_scene_flaws::Flaw;
-use fx_scene_literals::{is_scene_node, lacks_value};
+use fx_scene_instances::lacks_value;
 use fx_scene_names::lacks_import;
-use fx_scene_outline::{Piece, Seat};
+use fx_scene_outline::{Piece, Seat, is_scene_node};
 use fx_scene_plan::PlannedStep;
 use fx_stage_types::Spot;
 

@@ -15,15 +15,17 @@ use fx_kinds::Class;
 use fx_scene_acts::Act;
 use fx_scene_bindings::add_name;
 use fx_scene_elements::{Lane, add_element, push_flaw, push_flaw_in};
-use fx_scene_literals::{Want, entered, whole};
+use fx_scene_instances::{Want, entered};
+use fx_scene_literals::whole;
 use fx_scene_outline::Piece;
 use fx_scene_things::Names;
 use fx_scene_values::Scope;
 use std::alloc::{AllocError, Global};
 
 /// Adds what a piece asks for behind these pieces, with the ordinals that they have: an element with its own name
-/// first, then its attributes from left to right. An instance is the node of this ordinal, and the child at this place if
-/// it is one (`rank_of`). Of an include nothing is added, since what it asks for is told where its document is read.
+/// first, then its attributes from left to right. An instance is the node of this ordinal, and the child at this place
+/// if it is one (`rank_of`). Of an include nothing is added, since what it asks for is told where its document is
+/// read.
 #[tactic(auto, unfolding(crate::specs::Pieces::piece_told))]
 pub fn add_piece(
     alloc: Global,

@@ -14,7 +14,7 @@ use fx_scene_acts::{Act, Deed};
 use fx_scene_bindings::value_at;
 use fx_scene_elements::{push, push_flaw};
 use fx_scene_flaws::Flaw;
-use fx_scene_literals::attribute_flaw;
+use fx_scene_instances::attribute_flaw;
 use fx_scene_outline::{Piece, Seat};
 use fx_scene_plan::PlannedStep;
 use fx_scene_things::{Named, Names};

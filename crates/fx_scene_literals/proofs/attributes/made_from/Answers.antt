@@ -1,9 +1,9 @@
 -- an attribute stops the reading, or it goes on behind it
 use Rattle.std.proofs.Common.{ap, map}
 use Rattle.fx_doc.specs.Views.{attr_view}
-use Rattle.fx_scene_literals.specs.Fields.{first_made}
+use Rattle.fx_scene_instances.specs.Fields.{first_made}
+use Rattle.fx_scene_instances.specs.declared.made.Found.TheVariants.{Flaw, Node}
 use Rattle.fx_scene_literals.specs.Literals.{Told, made_from}
-use Rattle.fx_scene_literals.specs.declared.made.Found.TheVariants.{Flaw, Node}
 use Rattle.fx_scene_literals.proofs.AttributeLemmas.{attribute_goes, attribute_stops}
 use Rattle.fx_scene_things.specs.Known.{known}
 use Rattle.fx_scene_values.specs.Views.{scope_view}

@@ -1,7 +1,7 @@
 -- what is made so far, and what is left
 use Rattle.std.proofs.Common.{◌≡◌, drop, map}
 use Rattle.fx_doc.specs.Views.{attr_view}
-use Rattle.fx_scene_literals.specs.Fields.{first_made}
+use Rattle.fx_scene_instances.specs.Fields.{first_made}
 use Rattle.fx_scene_literals.specs.Literals.{made_from}
 use Rattle.fx_scene_things.specs.Known.{known}
 use Rattle.fx_scene_values.specs.Views.{scope_view}

@@ -7,13 +7,13 @@ use Rattle.fx_doc_runs.specs.declared.document.Attribute.{Attribute}
 use Rattle.fx_doc_runs.specs.declared.document.Content.{Content}
 use Rattle.fx_doc_grammar.specs.Grammar.{Attr}
 use Rattle.fx_scene_flaws.specs.declared.flaws.Fault.{Fault}
-use Rattle.fx_scene_literals.specs.declared.instances.Want.{Want}
-use Rattle.fx_scene_literals.specs.declared.made.Found.{Found}
+use Rattle.fx_scene_instances.specs.declared.instances.Want.{Want}
+use Rattle.fx_scene_instances.specs.declared.made.Found.{Found}
 use Rattle.fx_scene_outline.specs.Views.{content_of, head_of}
-use Rattle.fx_scene_literals.specs.Fields.{field_kind, first_made}
+use Rattle.fx_scene_instances.specs.Fields.{field_kind, first_made}
+use Rattle.fx_scene_instances.specs.declared.made.Made.{Made}
 use Rattle.fx_scene_literals.specs.Literals.{Inner, Told, closed_then, held_if, inside_then, made_from, no_value, one_told, read_in, told, whole_then, with_found}
-use Rattle.fx_scene_literals.specs.declared.made.Made.{Made}
-use Rattle.fx_scene_literals.specs.declared.made.Part.TheVariants.{One}
+use Rattle.fx_scene_literals.specs.declared.parts.Part.TheVariants.{One}
 use Rattle.fx_scene_literals.proofs.PartLemmas.{found_more, names_more, no_first}
 use Rattle.fx_scene_things.specs.Known.{known}
 use Rattle.fx_scene_values.specs.Views.{scope_view}

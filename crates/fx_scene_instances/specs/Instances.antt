@@ -10,9 +10,9 @@ use Rattle.fx_kinds.specs.declared.classes.Class.{Class}
 use Rattle.fx_kinds.specs.declared.classes.Class.TheVariants as class
 use Rattle.fx_scene_flaws.specs.declared.flaws.Flaw.{Flaw}
 use Rattle.fx_scene_flaws.specs.declared.flaws.Flaw.TheVariants as flaw
-use Rattle.fx_scene_literals.specs.Needs.{has_attribute, is_location, is_scene_node, lacks_value}
-use Rattle.fx_scene_literals.specs.declared.instances.Want.{Want}
-use Rattle.fx_scene_literals.specs.declared.instances.Want.TheVariants as want
+use Rattle.fx_scene_instances.specs.Needs.{has_attribute, is_location, is_scene_node, lacks_value}
+use Rattle.fx_scene_instances.specs.declared.instances.Want.{Want}
+use Rattle.fx_scene_instances.specs.declared.instances.Want.TheVariants as want
 use Rattle.fx_scene_names.specs.Names.{class_named, is_instance, lacks_import}
 use Rattle.fx_scene_values.specs.Scopes.{Scope}
 

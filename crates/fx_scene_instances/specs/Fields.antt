@@ -13,10 +13,10 @@ use Rattle.fx_kinds.specs.declared.classes.Class.{Class}
 use Rattle.fx_kinds.specs.declared.classes.Class.TheVariants as class
 use Rattle.fx_look.specs.Insets.{sides}
 use Rattle.fx_scene_flaws.specs.declared.flaws.Flaw.TheVariants as flaw
-use Rattle.fx_scene_literals.specs.declared.fields.Field.{Field}
-use Rattle.fx_scene_literals.specs.declared.fields.Field.TheVariants as field
-use Rattle.fx_scene_literals.specs.declared.made.Made.{Made}
-use Rattle.fx_scene_literals.specs.declared.made.Made.TheVariants.{Location, Plain, Track}
+use Rattle.fx_scene_instances.specs.declared.fields.Field.{Field}
+use Rattle.fx_scene_instances.specs.declared.fields.Field.TheVariants as field
+use Rattle.fx_scene_instances.specs.declared.made.Made.{Made}
+use Rattle.fx_scene_instances.specs.declared.made.Made.TheVariants.{Location, Plain, Track}
 use Rattle.fx_scene_values.specs.Values.{literal}
 use Rattle.fx_scene_values.specs.declared.values.Given.{Given}
 use Rattle.fx_scene_values.specs.declared.values.Given.TheVariants as given

@@ -1,7 +1,7 @@
 //! What classes are, and what instances of them need.
 ghost use Rattle.std.specs.Prelude.{◌≡◌, map};
 ghost use Rattle.fx_doc.specs.Views.{attr_view};
-ghost use Rattle.fx_scene_literals.specs.Needs as spec;
+ghost use Rattle.fx_scene_instances.specs.Needs as spec;
 
 use fx_doc::Attribute;
 use fx_kinds::Class;
@@ -29,7 +29,8 @@ fn has_constant(class: Class, attributes: &[Attribute]) -> bool
     has_constants(class) && has_attribute(attributes, "fx:constant")
 }
 
-pub(crate) fn is_location(class: Class) -> bool
+/// Are instances of the class locations?
+pub fn is_location(class: Class) -> bool
     ensures { result ≡ spec.is_location class }
 {
     matches!(class, Class::Url)

@@ -9,11 +9,11 @@ use Rattle.fx_scene_bindings.specs.Names.{value_at}
 use Rattle.fx_scene_flaws.specs.declared.flaws.Fault.{Fault}
 use Rattle.fx_scene_flaws.specs.declared.flaws.Flaw.{Flaw as Mistake}
 use Rattle.fx_scene_flaws.specs.declared.flaws.Flaw.TheVariants as flaw
-use Rattle.fx_scene_literals.specs.declared.instances.Want.{Want}
-use Rattle.fx_scene_literals.specs.declared.instances.Want.TheVariants as want
-use Rattle.fx_scene_literals.specs.declared.made.Found.{Found}
-use Rattle.fx_scene_literals.specs.declared.made.Found.TheVariants.{Whole, Flaw}
-use Rattle.fx_scene_literals.specs.declared.made.Made.TheVariants.{Location, Plain, Track}
+use Rattle.fx_scene_instances.specs.declared.instances.Want.{Want}
+use Rattle.fx_scene_instances.specs.declared.instances.Want.TheVariants as want
+use Rattle.fx_scene_instances.specs.declared.made.Found.{Found}
+use Rattle.fx_scene_instances.specs.declared.made.Found.TheVariants.{Whole, Flaw}
+use Rattle.fx_scene_instances.specs.declared.made.Made.TheVariants.{Location, Plain, Track}
 use Rattle.fx_scene_things.specs.Names.{Names}
 use Rattle.fx_scene_things.specs.declared.things.Thing.{Thing}
 use Rattle.fx_scene_things.specs.declared.things.Thing.TheVariants as thing

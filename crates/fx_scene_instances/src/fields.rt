@@ -1,6 +1,6 @@
 //! The fields of values that are written as instances.
 ghost use Rattle.std.specs.Prelude.{◌≡◌, IfOk};
-ghost use Rattle.fx_scene_literals.specs.Fields as spec;
+ghost use Rattle.fx_scene_instances.specs.Fields as spec;
 
 use crate::made::Made;
 use fx_base::{Family, Kind, Sides, Track, Value};
@@ -25,7 +25,7 @@ pub enum Field {
 }
 
 /// The field of this name of an instance of the class.
-pub(crate) fn field_named(class: Class, name: &str) -> Option<Field>
+pub fn field_named(class: Class, name: &str) -> Option<Field>
     ensures { result ≡ spec.field_named class name.now }
 {
     match class {
@@ -85,7 +85,7 @@ fn row_named(name: &str) -> Option<Field>
 }
 
 /// The kind of the values of the field.
-pub(crate) fn field_kind(class: Class, field: Field) -> Kind
+pub fn field_kind(class: Class, field: Field) -> Kind
     ensures { result ≡ spec.field_kind class field }
 {
     match field {
@@ -105,7 +105,7 @@ fn align_kind(class: Class) -> Kind
 }
 
 /// What is made, with this value in the field.
-pub(crate) fn with_value(field: Field, value: Value, made: Made) -> Made
+pub fn with_value(field: Field, value: Value, made: Made) -> Made
     ensures { result ≡ spec.with_value field value made }
 {
     match value {
@@ -222,7 +222,7 @@ fn plain_track() -> Track
 }
 
 /// What an instance of the class is without attributes and content.
-pub(crate) fn first_made(class: Class) -> Made
+pub fn first_made(class: Class) -> Made
     ensures { result ≡ spec.first_made class }
 {
     match class {
@@ -234,7 +234,7 @@ pub(crate) fn first_made(class: Class) -> Made
 }
 
 /// The constant of the class that has this name.
-pub(crate) fn constant_named(alloc: Global, class: Class, name: &str) -> Result<Given, AllocError>
+pub fn constant_named(alloc: Global, class: Class, name: &str) -> Result<Given, AllocError>
     ensures { IfOk result (λ given. given ≡ spec.constant_named class name.now) }
 {
     match class {

@@ -2,7 +2,7 @@
 ghost use Rattle.std.specs.Prelude.{◌≡◌, IfOk, map};
 ghost use Rattle.std.specs.Option.{option_copied};
 ghost use Rattle.fx_doc.specs.Views.{attr_view};
-ghost use Rattle.fx_scene_literals.specs.References as spec;
+ghost use Rattle.fx_scene_instances.specs.References as spec;
 ghost use Rattle.fx_scene_outline.specs.Views.{head_of};
 ghost use Rattle.fx_scene_things.specs.Known.{known};
 

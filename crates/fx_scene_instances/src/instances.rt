@@ -1,6 +1,6 @@
 //! Instances where values and parts of lists are wanted.
 ghost use Rattle.std.specs.Prelude.{◌≡◌};
-ghost use Rattle.fx_scene_literals.specs.Instances as spec;
+ghost use Rattle.fx_scene_instances.specs.Instances as spec;
 ghost use Rattle.fx_scene_outline.specs.Views.{head_of};
 ghost use Rattle.fx_scene_values.specs.Views.{scope_view};
 

@@ -1,0 +1,4 @@
+pub mod Fields
+pub mod Instances
+pub mod Needs
+pub mod References

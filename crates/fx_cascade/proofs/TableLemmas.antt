@@ -1,5 +1,5 @@
 -- A table of winners after one more voice is heard.
-use Rattle.std.proofs.Common.{◌≡◌, ◌≢◌, ◌++◌, ◌∷◌, [], ℕ, zero, suc, ◌<◌, ◌≤◌, Bool, true, false, cond, List, Option, Some, None, get_or, set, length, refl, sym, ap, ◌∙◌, subst, inl, inr, arith, ltb}
+use Rattle.std.proofs.Common.{◌≡◌, ◌≢◌, ◌++◌, ◌∷◌, [], ℕ, zero, suc, ◌<◌, ◌≤◌, Bool, true, false, cond, List, Option, Some, None, get_or, set, length, replicate, refl, sym, ap, ◌∙◌, subst, inl, inr, arith, ltb}
 use Rattle.std.specs.Str.{bytes_eq}
 use Rattle.std.specs.List.{position, position_or_len}
 use Rattle.std.proofs.lemmas.Bool.{cases_Bool, cases_eq, ltb-false}
@@ -206,9 +206,7 @@ pub none_kept : (rows : List (Option Source)) (others : List NamedSource) (name 
 unfolding source_of
 none_kept rows others name none empty = none_at (style_named name) rows others name none empty
 
-pub none_22 : all_none (None ∷ None ∷ None ∷ None ∷ None ∷ None ∷ None ∷ None ∷ None ∷ None ∷ None ∷ None ∷ None
-    ∷ None ∷ None ∷ None ∷ None ∷ None ∷ None ∷ None ∷ None ∷ None ∷ [])
-none_22 =
-    none-cons _ (none-cons _ (none-cons _ (none-cons _ (none-cons _ (none-cons _ (none-cons _ (none-cons _
-    (none-cons _ (none-cons _ (none-cons _ (none-cons _ (none-cons _ (none-cons _ (none-cons _ (none-cons _
-    (none-cons _ (none-cons _ (none-cons _ (none-cons _ (none-cons _ (none-cons _ none-nil)))))))))))))))))))))
+-- rows without a winner, however many
+pub none_rows : (n : ℕ) → all_none (replicate n None)
+none_rows zero = none-nil
+none_rows (suc n) = none-cons (replicate n None) (none_rows n)

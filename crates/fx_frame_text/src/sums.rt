@@ -12,18 +12,19 @@ pub fn canvas_sum(canvas: &Canvas) -> u128
 {
     let mut total = 0u128;
     for y in 0..canvas.height() {
-        total += row_sum(canvas.row(y));
+        total += u128::from(row_sum(canvas.row(y)));
     }
     total
 }
 
-fn row_sum(row: &[u32]) -> u128
+fn row_sum(row: &[u32]) -> u64
+    requires { length row.now ≤ 2048 }
     ensures sum { result ≡ sum row.now }
     ensures small { result ≤ length row.now * 2 ^ 32 }
 {
-    let mut total = 0u128;
+    let mut total = 0u64;
     for pixel in row {
-        total += u128::from(*pixel);
+        total += u64::from(*pixel);
     }
     total
 }

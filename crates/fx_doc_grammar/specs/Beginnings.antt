@@ -9,7 +9,7 @@ use Rattle.fx_doc_grammar.specs.Characters.{IsWhite, Each, last_code}
 use Rattle.fx_doc_grammar.specs.Grammar as spec
 use Rattle.fx_doc_grammar.specs.declared.Quote.{Quote}
 use Rattle.fx_doc_grammar.specs.declared.Entity.{Entity}
-use Rattle.fx_doc_grammar.specs.declared.Entity.TheVariants.{Begun, A, Am, Amp, Ap, Apo, Apos, G, Gt, L, Lt, Q, Qu, Quo, Quot, Hash, Decimal, Hex, HexDigits}
+use Rattle.fx_doc_grammar.specs.declared.Entity.TheVariants as entity
 
 -- the open elements, the innermost outside, with what stands before each and its tag
 pub data Path : Type 0 where
@@ -46,29 +46,30 @@ pub data Part : Type 0 where
   PEnded : List ℕ → List ℕ → Part
 
 abbrev pub entity_text : Entity → List ℕ → List ℕ
-entity_text Begun ds = codes "&"
-entity_text A ds = codes "&a"
-entity_text Am ds = codes "&am"
-entity_text Amp ds = codes "&amp"
-entity_text Ap ds = codes "&ap"
-entity_text Apo ds = codes "&apo"
-entity_text Apos ds = codes "&apos"
-entity_text G ds = codes "&g"
-entity_text Gt ds = codes "&gt"
-entity_text L ds = codes "&l"
-entity_text Lt ds = codes "&lt"
-entity_text Q ds = codes "&q"
-entity_text Qu ds = codes "&qu"
-entity_text Quo ds = codes "&quo"
-entity_text Quot ds = codes "&quot"
-entity_text Hash ds = codes "&#"
-entity_text (Decimal n) ds = codes "&#" ++ ds
-entity_text Hex ds = codes "&#x"
-entity_text (HexDigits n) ds = codes "&#x" ++ ds
+entity_text entity.Begun ds = codes "&"
+entity_text entity.A ds = codes "&a"
+entity_text entity.Am ds = codes "&am"
+entity_text entity.Amp ds = codes "&amp"
+entity_text entity.Ap ds = codes "&ap"
+entity_text entity.Apo ds = codes "&apo"
+entity_text entity.Apos ds = codes "&apos"
+entity_text entity.G ds = codes "&g"
+entity_text entity.Gt ds = codes "&gt"
+entity_text entity.L ds = codes "&l"
+entity_text entity.Lt ds = codes "&lt"
+entity_text entity.Q ds = codes "&q"
+entity_text entity.Qu ds = codes "&qu"
+entity_text entity.Quo ds = codes "&quo"
+entity_text entity.Quot ds = codes "&quot"
+entity_text entity.Hash ds = codes "&#"
+entity_text (entity.Decimal n) ds = codes "&#" ++ ds
+entity_text entity.Hex ds = codes "&#x"
+entity_text (entity.HexDigits n) ds = codes "&#x" ++ ds
 
 abbrev pub Entity_ok : Entity → List ℕ → Type 0
-Entity_ok (Decimal n) ds = spec.IsFilled ds × Each spec.IsDecimal ds × (digits_value 10 ds ≡ n) × (n ≤ last_code)
-Entity_ok (HexDigits n) ds = spec.IsFilled ds × Each spec.IsHexadecimal ds × (digits_value 16 ds ≡ n) × (n ≤ last_code)
+Entity_ok (entity.Decimal n) ds = spec.IsFilled ds × Each spec.IsDecimal ds × (digits_value 10 ds ≡ n) × (n ≤ last_code)
+Entity_ok (entity.HexDigits n) ds =
+    spec.IsFilled ds × Each spec.IsHexadecimal ds × (digits_value 16 ds ≡ n) × (n ≤ last_code)
 Entity_ok _ ds = Unit {0}
 
 abbrev key_text : spec.Tag → List ℕ → List ℕ → List ℕ

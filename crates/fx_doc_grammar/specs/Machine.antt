@@ -9,11 +9,11 @@ use Rattle.fx_base.specs.declared.positions.Position.{Position}
 use Rattle.fx_doc_grammar.specs.Characters.{class_of, in_name, is_character, last_code}
 use Rattle.fx_doc_grammar.specs.Grammar as spec
 use Rattle.fx_doc_grammar.specs.declared.Class.{Class}
-use Rattle.fx_doc_grammar.specs.declared.Class.TheVariants.{White, Less, Greater, Slash, Equals, Bang, Question, Dash, Quotation, Apostrophe, Ampersand, Letter}
+use Rattle.fx_doc_grammar.specs.declared.Class.TheVariants as class
 use Rattle.fx_doc_grammar.specs.declared.Quote.{Quote}
 use Rattle.fx_doc_grammar.specs.declared.Quote.TheVariants.{Single, Double}
 use Rattle.fx_doc_grammar.specs.declared.Entity.{Entity}
-use Rattle.fx_doc_grammar.specs.declared.Entity.TheVariants.{Begun, A, Am, Amp, Ap, Apo, Apos, G, Gt, L, Lt, Q, Qu, Quo, Quot, Hash, Decimal, Hex, HexDigits}
+use Rattle.fx_doc_grammar.specs.declared.Entity.TheVariants as entities
 use Rattle.fx_doc_grammar.specs.declared.Turn.{Turn}
 use Rattle.fx_doc_grammar.specs.declared.Turn.TheVariants.{Further, Whole}
 
@@ -29,16 +29,16 @@ expect x t c = if c == x then Some t else None
 
 abbrev pub begin_entity : ℕ → Option Turn
 begin_entity c =
-    if c == letter (codes "a") then Some (Further A)
-    else (if c == letter (codes "g") then Some (Further G)
-    else (if c == letter (codes "l") then Some (Further L)
-    else (if c == letter (codes "q") then Some (Further Q)
-    else (if c == ascii.number_sign then Some (Further Hash) else None))))
+    if c == letter (codes "a") then Some (Further entities.A)
+    else (if c == letter (codes "g") then Some (Further entities.G)
+    else (if c == letter (codes "l") then Some (Further entities.L)
+    else (if c == letter (codes "q") then Some (Further entities.Q)
+    else (if c == ascii.number_sign then Some (Further entities.Hash) else None))))
 
 abbrev pub after_a : ℕ → Option Turn
 after_a c =
-    if c == letter (codes "m") then Some (Further Am)
-    else (if c == letter (codes "p") then Some (Further Ap) else None)
+    if c == letter (codes "m") then Some (Further entities.Am)
+    else (if c == letter (codes "p") then Some (Further entities.Ap) else None)
 
 -- a number with one more digit, as long as it stays among the code points
 abbrev pub with_digit : ℕ → (ℕ → Entity) → ℕ → ℕ → Option Turn
@@ -47,34 +47,34 @@ with_digit base entity n c =
     then Some (Further (entity (n * base + digit_value c))) else None
 
 abbrev pub decimal_digit : ℕ → ℕ → Option Turn
-decimal_digit n c = with_digit 10 Decimal n c
+decimal_digit n c = with_digit 10 entities.Decimal n c
 
 abbrev pub hexadecimal_digit : ℕ → ℕ → Option Turn
-hexadecimal_digit n c = with_digit 16 HexDigits n c
+hexadecimal_digit n c = with_digit 16 entities.HexDigits n c
 
 abbrev pub number_end : ℕ → Option Turn
 number_end n = if is_character n then Some (Whole n) else None
 
 abbrev pub entity_step : Entity → ℕ → Option Turn
-entity_step Begun c = begin_entity c
-entity_step A c = after_a c
-entity_step Am c = expect (letter (codes "p")) (Further Amp) c
-entity_step Amp c = expect ascii.semicolon (Whole ascii.ampersand) c
-entity_step Ap c = expect (letter (codes "o")) (Further Apo) c
-entity_step Apo c = expect (letter (codes "s")) (Further Apos) c
-entity_step Apos c = expect ascii.semicolon (Whole ascii.apostrophe) c
-entity_step G c = expect (letter (codes "t")) (Further Gt) c
-entity_step Gt c = expect ascii.semicolon (Whole ascii.greater_than_sign) c
-entity_step L c = expect (letter (codes "t")) (Further Lt) c
-entity_step Lt c = expect ascii.semicolon (Whole ascii.less_than_sign) c
-entity_step Q c = expect (letter (codes "u")) (Further Qu) c
-entity_step Qu c = expect (letter (codes "o")) (Further Quo) c
-entity_step Quo c = expect (letter (codes "t")) (Further Quot) c
-entity_step Quot c = expect ascii.semicolon (Whole ascii.quotation_mark) c
-entity_step Hash c = if c == ascii.small_x then Some (Further Hex) else decimal_digit 0 c
-entity_step (Decimal n) c = if c == ascii.semicolon then number_end n else decimal_digit n c
-entity_step Hex c = hexadecimal_digit 0 c
-entity_step (HexDigits n) c = if c == ascii.semicolon then number_end n else hexadecimal_digit n c
+entity_step entities.Begun c = begin_entity c
+entity_step entities.A c = after_a c
+entity_step entities.Am c = expect (letter (codes "p")) (Further entities.Amp) c
+entity_step entities.Amp c = expect ascii.semicolon (Whole ascii.ampersand) c
+entity_step entities.Ap c = expect (letter (codes "o")) (Further entities.Apo) c
+entity_step entities.Apo c = expect (letter (codes "s")) (Further entities.Apos) c
+entity_step entities.Apos c = expect ascii.semicolon (Whole ascii.apostrophe) c
+entity_step entities.G c = expect (letter (codes "t")) (Further entities.Gt) c
+entity_step entities.Gt c = expect ascii.semicolon (Whole ascii.greater_than_sign) c
+entity_step entities.L c = expect (letter (codes "t")) (Further entities.Lt) c
+entity_step entities.Lt c = expect ascii.semicolon (Whole ascii.less_than_sign) c
+entity_step entities.Q c = expect (letter (codes "u")) (Further entities.Qu) c
+entity_step entities.Qu c = expect (letter (codes "o")) (Further entities.Quo) c
+entity_step entities.Quo c = expect (letter (codes "t")) (Further entities.Quot) c
+entity_step entities.Quot c = expect ascii.semicolon (Whole ascii.quotation_mark) c
+entity_step entities.Hash c = if c == ascii.small_x then Some (Further entities.Hex) else decimal_digit 0 c
+entity_step (entities.Decimal n) c = if c == ascii.semicolon then number_end n else decimal_digit n c
+entity_step entities.Hex c = hexadecimal_digit 0 c
+entity_step (entities.HexDigits n) c = if c == ascii.semicolon then number_end n else hexadecimal_digit n c
 
 -- States ------------------------------------------------------------------------------------------
 
@@ -192,9 +192,9 @@ with_attribute head q key value =
 -- Steps, one function for each mode ---------------------------------------------------------------
 
 abbrev pub in_inside : Position → Held → ℕ → Class → Option State
-in_inside p h c White = at (with_sign p c h) Inside
-in_inside p h c Less = at h (Opening p)
-in_inside p h c Ampersand = some_if (is_open h.stack) (at h (Referring p Begun))
+in_inside p h c class.White = at (with_sign p c h) Inside
+in_inside p h c class.Less = at h (Opening p)
+in_inside p h c class.Ampersand = some_if (is_open h.stack) (at h (Referring p entities.Begun))
 in_inside p h c _ = some_if (is_open h.stack) (at (with_sign p c h) Inside)
 
 abbrev pub in_referring : Position → Held → Option Turn → Option State
@@ -203,90 +203,90 @@ in_referring q h (Some (Whole n)) = at (with_sign q n h) Inside
 in_referring q h None = None
 
 abbrev pub in_opening : Position → Held → ℕ → Class → Option State
-in_opening q h c Letter = some_if (may_begin h) (at h (Naming q (c ∷ [])))
-in_opening q h c Bang = at h Banged
-in_opening q h c Question = at h Asked
-in_opening q h c Slash = begin_end h.stack h
+in_opening q h c class.Letter = some_if (may_begin h) (at h (Naming q (c ∷ [])))
+in_opening q h c class.Bang = at h Banged
+in_opening q h c class.Question = at h Asked
+in_opening q h c class.Slash = begin_end h.stack h
 in_opening q h c _ = None
 
 abbrev pub in_banged : Held → Class → Option State
-in_banged h Dash = at h BangDashed
+in_banged h class.Dash = at h BangDashed
 in_banged h _ = None
 
 abbrev pub in_bang_dashed : Held → Class → Option State
-in_bang_dashed h Dash = at h Commented
+in_bang_dashed h class.Dash = at h Commented
 in_bang_dashed h _ = None
 
 abbrev pub in_commented : Held → Class → Option State
-in_commented h Dash = at h Dashed
+in_commented h class.Dash = at h Dashed
 in_commented h _ = at h Commented
 
 abbrev pub in_dashed : Held → Class → Option State
-in_dashed h Dash = at h DashDashed
+in_dashed h class.Dash = at h DashDashed
 in_dashed h _ = at h Commented
 
 abbrev pub in_dash_dashed : Held → Class → Option State
-in_dash_dashed h Dash = at h DashDashed
-in_dash_dashed h Greater = at h Inside
+in_dash_dashed h class.Dash = at h DashDashed
+in_dash_dashed h class.Greater = at h Inside
 in_dash_dashed h _ = at h Commented
 
 abbrev pub in_asked : Held → ℕ → Class → Option State
-in_asked h c Letter = at h (Instructing (c ∷ []))
+in_asked h c class.Letter = at h (Instructing (c ∷ []))
 in_asked h c _ = None
 
 abbrev pub in_instructing : List ℕ → Held → ℕ → Class → Option State
-in_instructing n h c White = at h (Instructed n (encode c))
-in_instructing n h c Question = at h (NameAsked n)
+in_instructing n h c class.White = at h (Instructed n (encode c))
+in_instructing n h c class.Question = at h (NameAsked n)
 in_instructing n h c k = some_if (in_name k) (at h (Instructing (n ++ (c ∷ []))))
 
 abbrev pub in_name_asked : List ℕ → Held → Class → Option State
-in_name_asked n h Greater = at (with_instruction h n []) Inside
+in_name_asked n h class.Greater = at (with_instruction h n []) Inside
 in_name_asked n h _ = None
 
 abbrev pub in_instructed : List ℕ → List ℕ → Held → ℕ → Class → Option State
-in_instructed n x h c Question = at h (EndAsked n x)
+in_instructed n x h c class.Question = at h (EndAsked n x)
 in_instructed n x h c _ = at h (Instructed n (x ++ encode c))
 
 -- behind `?`, which belongs to the text unless `>` follows
 abbrev pub in_end_asked : List ℕ → List ℕ → Held → ℕ → Class → Option State
-in_end_asked n x h c Greater = at (with_instruction h n x) Inside
-in_end_asked n x h c Question = at h (EndAsked n (x ++ codes "?"))
+in_end_asked n x h c class.Greater = at (with_instruction h n x) Inside
+in_end_asked n x h c class.Question = at h (EndAsked n (x ++ codes "?"))
 in_end_asked n x h c _ = at h (Instructed n ((x ++ codes "?") ++ encode c))
 
 abbrev pub in_naming : Position → List ℕ → Held → ℕ → Class → Option State
-in_naming q n h c White = at h (Spaced (record { name = n; attributes = []; position = q }))
-in_naming q n h c Slash = at h (Slashed (record { name = n; attributes = []; position = q }))
-in_naming q n h c Greater = at (open_element h (record { name = n; attributes = []; position = q })) Inside
+in_naming q n h c class.White = at h (Spaced (record { name = n; attributes = []; position = q }))
+in_naming q n h c class.Slash = at h (Slashed (record { name = n; attributes = []; position = q }))
+in_naming q n h c class.Greater = at (open_element h (record { name = n; attributes = []; position = q })) Inside
 in_naming q n h c k = some_if (in_name k) (at h (Naming q (n ++ (c ∷ []))))
 
 abbrev pub in_spaced : Position → spec.Head → Held → ℕ → Class → Option State
-in_spaced p head h c White = at h (Spaced head)
-in_spaced p head h c Slash = at h (Slashed head)
-in_spaced p head h c Greater = at (open_element h head) Inside
-in_spaced p head h c Letter = at h (Keyed head p (c ∷ []))
+in_spaced p head h c class.White = at h (Spaced head)
+in_spaced p head h c class.Slash = at h (Slashed head)
+in_spaced p head h c class.Greater = at (open_element h head) Inside
+in_spaced p head h c class.Letter = at h (Keyed head p (c ∷ []))
 in_spaced p head h c _ = None
 
 -- behind a value: no attribute begins without white before it
 abbrev pub in_tight : spec.Head → Held → Class → Option State
-in_tight head h White = at h (Spaced head)
-in_tight head h Slash = at h (Slashed head)
-in_tight head h Greater = at (open_element h head) Inside
+in_tight head h class.White = at h (Spaced head)
+in_tight head h class.Slash = at h (Slashed head)
+in_tight head h class.Greater = at (open_element h head) Inside
 in_tight head h _ = None
 
 abbrev pub in_keyed : spec.Head → Position → List ℕ → Held → ℕ → Class → Option State
-in_keyed head q k h c White = some_if (is_fresh k head) (at h (KeySpaced head q k))
-in_keyed head q k h c Equals = some_if (is_fresh k head) (at h (Signed head q k))
+in_keyed head q k h c class.White = some_if (is_fresh k head) (at h (KeySpaced head q k))
+in_keyed head q k h c class.Equals = some_if (is_fresh k head) (at h (Signed head q k))
 in_keyed head q k h c kind = some_if (in_name kind) (at h (Keyed head q (k ++ (c ∷ []))))
 
 abbrev pub in_key_spaced : spec.Head → Position → List ℕ → Held → Class → Option State
-in_key_spaced head q k h White = at h (KeySpaced head q k)
-in_key_spaced head q k h Equals = at h (Signed head q k)
+in_key_spaced head q k h class.White = at h (KeySpaced head q k)
+in_key_spaced head q k h class.Equals = at h (Signed head q k)
 in_key_spaced head q k h _ = None
 
 abbrev pub in_signed : spec.Head → Position → List ℕ → Held → Class → Option State
-in_signed head q k h White = at h (Signed head q k)
-in_signed head q k h Quotation = at h (Quoted head q k Double [] 0)
-in_signed head q k h Apostrophe = at h (Quoted head q k Single [] 0)
+in_signed head q k h class.White = at h (Signed head q k)
+in_signed head q k h class.Quotation = at h (Quoted head q k Double [] 0)
+in_signed head q k h class.Apostrophe = at h (Quoted head q k Single [] 0)
 in_signed head q k h _ = None
 
 -- a character of a value that is no `<` and no `&`
@@ -295,8 +295,8 @@ in_value true head q k u v n h c kind = at h (Tight (with_attribute head q k v))
 in_value false head q k u v n h c kind = at h (Quoted head q k u (v ++ spec.value_byte kind c) (n + 1))
 
 abbrev pub in_quoted : Position → spec.Head → Position → List ℕ → Quote → List ℕ → ℕ → Held → ℕ → Class → Option State
-in_quoted p head q k u v n h c Less = None
-in_quoted p head q k u v n h c Ampersand = at h (ValueReferring head q k u v n p Begun)
+in_quoted p head q k u v n h c class.Less = None
+in_quoted p head q k u v n h c class.Ampersand = at h (ValueReferring head q k u v n p entities.Begun)
 in_quoted p head q k u v n h c kind = in_value (spec.is_quote u kind) head q k u v n h c kind
 
 abbrev pub in_value_referring : spec.Head → Position → List ℕ → Quote → List ℕ → ℕ → Position → Held → Option Turn
@@ -306,12 +306,12 @@ in_value_referring head q k u v n r h (Some (Whole x)) = at h (Quoted head q k u
 in_value_referring head q k u v n r h None = None
 
 abbrev pub in_slashed : spec.Head → Held → Class → Option State
-in_slashed head h Greater = at (with_leaf h head) Inside
+in_slashed head h class.Greater = at (with_leaf h head) Inside
 in_slashed head h _ = None
 
 abbrev pub in_ended : Held → Class → Option State
-in_ended h White = at h Ended
-in_ended h Greater = close h
+in_ended h class.White = at h Ended
+in_ended h class.Greater = close h
 in_ended h _ = None
 
 abbrev pub in_ending : List ℕ → Held → ℕ → Class → Option State

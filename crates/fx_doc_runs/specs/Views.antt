@@ -5,7 +5,7 @@ use Rattle.std.specs.String.{string_bytes}
 use Rattle.fx_base.specs.declared.positions.Position.{Position}
 use Rattle.fx_doc_grammar.specs.declared.Entity.TheVariants.{Begun}
 use Rattle.fx_doc_grammar.specs.declared.Quote.{Quote}
-use Rattle.fx_doc_grammar.specs.Grammar.{IsRoot, Nodes, Nothing, Letters, Node, Attr, Reading, Level as LevelView, Head as HeadView}
+use Rattle.fx_doc_grammar.specs.Grammar as grammar
 use Rattle.fx_doc_grammar.specs.Machine as m
 use Rattle.fx_doc_runs.specs.declared.document.Attribute.{Attribute}
 use Rattle.fx_doc_runs.specs.declared.document.Content.{Content}
@@ -25,31 +25,32 @@ use Rattle.fx_doc_runs.specs.declared.modes.Reader.{Reader}
 
 -- a piece of content puts itself behind what stands before it
 abbrev pub Onto : Type 0
-Onto = Nodes → Nodes
+Onto = grammar.Nodes → grammar.Nodes
 
-abbrev pub built : Nodes → List Onto → Nodes
+abbrev pub built : grammar.Nodes → List Onto → grammar.Nodes
 built n [] = n
 built n (f ∷ fs) = built (f n) fs
 
-abbrev pub attr_view : Attribute → Attr
+abbrev pub attr_view : Attribute → grammar.Attr
 attr_view a = record { name = a.name; value = a.value; position = a.position }
 
 abbrev pub element_step : Element-F Onto Onto → Onto
-element_step e n = Node n (record { name = e.name; attributes = map attr_view e.attributes; position = e.position })
-    (built Nothing e.content.items)
+element_step e n =
+    grammar.Node n (record { name = e.name; attributes = map attr_view e.attributes; position = e.position })
+    (built grammar.Nothing e.content.items)
 
 abbrev pub content_step : Content-F Onto Onto → Onto
 content_step (Child e) = e
-content_step (Chars t position) = λ n. Letters n t position
+content_step (Chars t position) = λ n. grammar.Letters n t position
 
 abbrev pub onto : Content → Onto
 onto = fold-Content Onto Onto content_step element_step
 
 -- what is read of pieces of content
-abbrev pub nodes_of : List Content → Nodes
-nodes_of cs = built Nothing (map onto cs)
+abbrev pub nodes_of : List Content → grammar.Nodes
+nodes_of cs = built grammar.Nothing (map onto cs)
 
-abbrev pub level_view : Level → LevelView
+abbrev pub level_view : Level → grammar.Level
 level_view l = record {
   nodes = nodes_of l.content.items;
   run = string_bytes l.run.text;
@@ -58,10 +59,10 @@ level_view l = record {
 }
 
 -- a level behind these nodes, with an empty run
-abbrev pub level_behind : Nodes → LevelView
+abbrev pub level_behind : grammar.Nodes → grammar.Level
 level_behind n = record { nodes = n; run = []; first = None; count = 0 }
 
-abbrev pub head_view : Head → HeadView
+abbrev pub head_view : Head → grammar.Head
 head_view h = record { name = h.name; attributes = map attr_view h.attributes.items; position = h.position }
 
 abbrev pub stack_from : m.Stack → List Open → m.Stack
@@ -156,23 +157,23 @@ naming_state h p n = m.at h (m.Naming p n)
 abbrev pub instructing_state : m.Held → List ℕ → Option m.State
 instructing_state h n = m.at h (m.Instructing n)
 
-abbrev pub keyed_state : m.Held → HeadView → Position → List ℕ → Option m.State
+abbrev pub keyed_state : m.Held → grammar.Head → Position → List ℕ → Option m.State
 keyed_state h head p n = m.at h (m.Keyed head p n)
 
-abbrev pub key_spaced_state : m.Held → HeadView → Position → List ℕ → Option m.State
+abbrev pub key_spaced_state : m.Held → grammar.Head → Position → List ℕ → Option m.State
 key_spaced_state h head p n = m.at h (m.KeySpaced head p n)
 
-abbrev pub signed_state : m.Held → HeadView → Position → List ℕ → Option m.State
+abbrev pub signed_state : m.Held → grammar.Head → Position → List ℕ → Option m.State
 signed_state h head p n = m.at h (m.Signed head p n)
 
 -- the tag of a name alone
-abbrev pub bare_head : Position → List ℕ → HeadView
+abbrev pub bare_head : Position → List ℕ → grammar.Head
 bare_head p n = record { name = n; attributes = []; position = p }
 
-abbrev pub tight_state : m.Held → HeadView → Option m.State
+abbrev pub tight_state : m.Held → grammar.Head → Option m.State
 tight_state h head = m.at h (m.Tight head)
 
-abbrev pub quoted_state : m.Held → HeadView → Position → List ℕ → Quote → List ℕ → ℕ → Option m.State
+abbrev pub quoted_state : m.Held → grammar.Head → Position → List ℕ → Quote → List ℕ → ℕ → Option m.State
 quoted_state h head p k u b n = m.at h (m.Quoted head p k u b n)
 
 -- an element begins at p within 128 open ones
@@ -187,11 +188,11 @@ abbrev pub onto_element : Element → Onto
 onto_element = fold-Element Onto Onto content_step element_step
 
 -- an element by itself
-abbrev pub node_of : Element → Nodes
-node_of e = onto_element e Nothing
+abbrev pub node_of : Element → grammar.Nodes
+node_of e = onto_element e grammar.Nothing
 
 -- what contracts see of a document
-abbrev pub reading : Document → Reading
+abbrev pub reading : Document → grammar.Reading
 reading d = record { imports = d.imports; root = node_of d.root }
 
 abbrev pub inside_view : Held → m.State
@@ -199,8 +200,8 @@ inside_view h = record { held = held_view h; mode = m.Inside }
 
 -- what the machine would answer at s has one element as its root
 abbrev pub AnswersRoot : m.State → Type 0
-AnswersRoot s = (n : Reading) → m.answer s ≡ Some n → IsRoot n.root
+AnswersRoot s = (n : grammar.Reading) → m.answer s ≡ Some n → grammar.IsRoot n.root
 
 -- a piece of content that is no element
 abbrev pub IsRun : Content → Type 0
-IsRun c = (n : Nodes) → IsRoot (onto c n) → ⊥
+IsRun c = (n : grammar.Nodes) → grammar.IsRoot (onto c n) → ⊥

@@ -2,18 +2,18 @@
 -- EventHandler, javafx.scene.input.MouseEvent and KeyEvent, javafx.event.ActionEvent).
 use Rattle.std.specs.Prelude.{ℕ, ◌==◌, Bool, List, [], ◌∷◌}
 use Rattle.fx_events.specs.declared.kinds.EventKind.{EventKind}
-use Rattle.fx_events.specs.declared.kinds.EventKind.TheVariants.{Any, Mouse, Key, Action, MouseMoved, MouseDragged, MousePressed, MouseReleased, MouseClicked, MouseEntered, MouseExited, KeyPressed}
+use Rattle.fx_events.specs.declared.kinds.EventKind.TheVariants as kind
 use Rattle.fx_events.specs.declared.kinds.Phase.{Phase}
 use Rattle.fx_events.specs.declared.kinds.Phase.TheVariants.{Filter, Handler, Convenience}
 
 -- an event is handled as one of its own type, then of the general type, and then of ANY
 abbrev pub types_of : EventKind → List EventKind
-types_of Any = Any ∷ []
-types_of Mouse = Mouse ∷ Any ∷ []
-types_of Key = Key ∷ Any ∷ []
-types_of Action = Action ∷ Any ∷ []
-types_of KeyPressed = KeyPressed ∷ Key ∷ Any ∷ []
-types_of of_mouse = of_mouse ∷ Mouse ∷ Any ∷ []
+types_of kind.Any = kind.Any ∷ []
+types_of kind.Mouse = kind.Mouse ∷ kind.Any ∷ []
+types_of kind.Key = kind.Key ∷ kind.Any ∷ []
+types_of kind.Action = kind.Action ∷ kind.Any ∷ []
+types_of kind.KeyPressed = kind.KeyPressed ∷ kind.Key ∷ kind.Any ∷ []
+types_of of_mouse = of_mouse ∷ kind.Mouse ∷ kind.Any ∷ []
 
 -- what runs in a phase: the convenience handler of a type runs behind its handlers
 abbrev pub parts_of : Phase → List Phase
@@ -23,18 +23,18 @@ parts_of Convenience = Convenience ∷ []
 
 -- the place of a type in the list of types
 abbrev pub type_number : EventKind → ℕ
-type_number Any = 0
-type_number Mouse = 1
-type_number Key = 2
-type_number Action = 3
-type_number MouseMoved = 4
-type_number MouseDragged = 5
-type_number MousePressed = 6
-type_number MouseReleased = 7
-type_number MouseClicked = 8
-type_number MouseEntered = 9
-type_number MouseExited = 10
-type_number KeyPressed = 11
+type_number kind.Any = 0
+type_number kind.Mouse = 1
+type_number kind.Key = 2
+type_number kind.Action = 3
+type_number kind.MouseMoved = 4
+type_number kind.MouseDragged = 5
+type_number kind.MousePressed = 6
+type_number kind.MouseReleased = 7
+type_number kind.MouseClicked = 8
+type_number kind.MouseEntered = 9
+type_number kind.MouseExited = 10
+type_number kind.KeyPressed = 11
 
 abbrev pub phase_number : Phase → ℕ
 phase_number Filter = 0

@@ -81,8 +81,7 @@ impl Handlers {
     }
 
     /// Registers an action at a node, behind all others. A convenience handler stands in the place of the one of its
-    /// type, as
-    /// JavaFX's `setOnMouseClicked` does.
+    /// type, as JavaFX's `setOnMouseClicked` does.
     pub fn add(
         &mut self,
         alloc: Global,

@@ -18,7 +18,7 @@ use Rattle.fx_base.specs.Names.{numbers}
 use Rattle.fx_graph_model.specs.Unread.{after_reading}
 use Rattle.fx_graph_model.specs.Uses.{entry_of, bound_in}
 use Rattle.fx_store_model.specs.declared.changes.Change.{Change}
-use Rattle.fx_store_model.specs.declared.changes.Change.TheVariants.{Set, Publish, Bind, Unbind, Pair, Unpair, Listen, Unlisten, Forget}
+use Rattle.fx_store_model.specs.declared.changes.Change.TheVariants as change
 use Rattle.fx_store_pairs.specs.Pairs.{group, is_among, joined, without_pair}
 use Rattle.fx_store_model.specs.Stored.{Stored, with_unread}
 
@@ -96,16 +96,16 @@ made_forget names stored =
     }
 
 unfoldable pub made : Change → Stored → Stored
-made (Set name value) stored = made_set name.0 value stored
-made (Publish pairs) stored = with_entries (with_values false pairs stored.entries) stored
-made (Bind name expr operands) stored =
+made (change.Set name value) stored = made_set name.0 value stored
+made (change.Publish pairs) stored = with_entries (with_values false pairs stored.entries) stored
+made (change.Bind name expr operands) stored =
     with_entries (with_binding name.0 expr (numbers operands) stored.entries) stored
-made (Unbind name) stored = made_unbind name.0 stored
-made (Pair one other) stored = made_pair one.0 other.0 stored
-made (Unpair one other) stored = with_pairs (without_pair one.0 other.0 stored.pairs) stored
-made (Listen name kind owner tag) stored = made_listen name kind owner tag stored
-made (Unlisten name kind owner tag) stored = made_unlisten name.0 kind owner tag stored
-made (Forget names) stored = made_forget (numbers names) stored
+made (change.Unbind name) stored = made_unbind name.0 stored
+made (change.Pair one other) stored = made_pair one.0 other.0 stored
+made (change.Unpair one other) stored = with_pairs (without_pair one.0 other.0 stored.pairs) stored
+made (change.Listen name kind owner tag) stored = made_listen name kind owner tag stored
+made (change.Unlisten name kind owner tag) stored = made_unlisten name.0 kind owner tag stored
+made (change.Forget names) stored = made_forget (numbers names) stored
 
 -- all that are joined with the name, where it has another value
 abbrev pub moved : ℕ → Value → Stored → List ℕ
@@ -113,8 +113,8 @@ moved name value stored =
     if same_value (eager stored.entries name) value then [] else group stored.pairs (length stored.entries) name
 
 unfoldable pub changed_by : Change → Stored → List ℕ
-changed_by (Set name value) stored = moved name.0 value stored
-changed_by (Publish pairs) stored = changed pairs stored.entries
-changed_by (Bind name expr operands) stored = name.0 ∷ []
-changed_by (Pair one other) stored = moved one.0 (eager stored.entries other.0) stored
+changed_by (change.Set name value) stored = moved name.0 value stored
+changed_by (change.Publish pairs) stored = changed pairs stored.entries
+changed_by (change.Bind name expr operands) stored = name.0 ∷ []
+changed_by (change.Pair one other) stored = moved one.0 (eager stored.entries other.0) stored
 changed_by _ stored = []

@@ -14,7 +14,7 @@ use Rattle.fx_store_pairs.specs.Pairs.{is_among, is_paired}
 use Rattle.fx_graph_model.specs.declared.entries.Entry.{Entry}
 use Rattle.fx_graph_model.specs.declared.errors.GraphError.{GraphError}
 use Rattle.fx_graph_model.specs.Equality.{same_kind}
-use Rattle.fx_graph_model.specs.Refusals.{IsFree, IsForgetRefusal, fit_refusal, kind_at, link_refusal, publish_refusal, read_only_in, set_refusal, unknown_name}
+use Rattle.fx_graph_model.specs.Refusals as graph
 use Rattle.fx_graph_model.specs.Uses.{bound_in, uses}
 use Rattle.fx_store_model.specs.declared.changes.Change.{Change}
 use Rattle.fx_store_model.specs.declared.changes.Change.TheVariants.{Set, Publish, Bind, Unbind, Pair, Unpair, Listen, Unlisten, Forget}
@@ -31,7 +31,7 @@ abbrev pub refused_if : Bool → StoreError → Option StoreError
 refused_if so cause = if so then Some cause else None
 
 abbrev pub unknown_of : List Name → List Entry → Option StoreError
-unknown_of names entries = of_graph_refusal (unknown_name entries names)
+unknown_of names entries = of_graph_refusal (graph.unknown_name entries names)
 
 -- of one or the other the first that is so
 abbrev pub refused_pair : (Name → StoreError) → (ℕ → Bool) → Name → Name → Option StoreError
@@ -41,9 +41,10 @@ refused_pair cause test one other =
 unfoldable pub pair_refusal : Name → Name → List Entry → List (ℕ × ℕ) → Option StoreError
 pair_refusal one other entries pairs =
     or_else (unknown_of (one ∷ other ∷ []) entries)
-    (or_else (refused_pair error.ReadOnly (read_only_in entries) one other)
+    (or_else (refused_pair error.ReadOnly (graph.read_only_in entries) one other)
     (or_else
-    (if same_kind (kind_at entries one.0) (kind_at entries other.0) then None else Some (error.WrongKind other))
+    (if same_kind (graph.kind_at entries one.0) (graph.kind_at entries other.0)
+    then None else Some (error.WrongKind other))
     (or_else (refused_pair error.Mixed (bound_in entries) one other)
     (or_else (refused_if (one.0 == other.0) error.Same)
     (refused_if (nat_le 10000 (length pairs)) error.Full)))))
@@ -66,14 +67,14 @@ unlisten_refusal name owner entries living =
 
 unfoldable pub bind_refusal : Name → Tree → List Name → List Entry → List (ℕ × ℕ) → Option StoreError
 bind_refusal name expr operands entries pairs =
-    or_else (of_graph_refusal (fit_refusal name expr operands entries))
+    or_else (of_graph_refusal (graph.fit_refusal name expr operands entries))
     (or_else (refused_if (is_paired pairs name.0) (error.Mixed name))
-    (of_graph_refusal (link_refusal name expr operands entries)))
+    (of_graph_refusal (graph.link_refusal name expr operands entries)))
 
 -- of each change but the one that forgets
 unfoldable pub refusal : Change → Stored → Option StoreError
-refusal (Set name value) stored = of_graph_refusal (set_refusal ((name, value) ∷ []) stored.entries)
-refusal (Publish pairs) stored = of_graph_refusal (publish_refusal pairs stored.entries)
+refusal (Set name value) stored = of_graph_refusal (graph.set_refusal ((name, value) ∷ []) stored.entries)
+refusal (Publish pairs) stored = of_graph_refusal (graph.publish_refusal pairs stored.entries)
 refusal (Bind name expr operands) stored = bind_refusal name expr operands stored.entries stored.pairs
 refusal (Unbind name) stored = unknown_of (name ∷ []) stored.entries
 refusal (Pair one other) stored = pair_refusal one other stored.entries stored.pairs
@@ -94,9 +95,10 @@ is_read_outside names entries = list_any (is_outside_reader names entries) (rang
 
 -- properties are forgotten just where all are known and no other one is bound to one of them
 abbrev pub IsForgetAnswer : {T : Type 0} → List Name → List Entry → Result T StoreError → Type 0
-IsForgetAnswer names entries (Ok value) = (unknown_name entries names ≡ None) × IsFree (numbers names) entries
+IsForgetAnswer names entries (Ok value) =
+    (graph.unknown_name entries names ≡ None) × graph.IsFree (numbers names) entries
 IsForgetAnswer names entries (Err cause) =
-    ((refused : GraphError) × IsForgetRefusal names entries refused × (cause ≡ of_graph refused))
+    ((refused : GraphError) × graph.IsForgetRefusal names entries refused × (cause ≡ of_graph refused))
     ⊎ (cause ≡ error.Memory)
 
 abbrev pub IsChangeAnswer : {T : Type 0} → Change → Stored → Result T StoreError → Type 0

@@ -1,6 +1,5 @@
 //! Style sheets are read: their text is cut into rules and declarations, and what is no such part is dropped with a
-//! warning.
-//! The parts are judged by `fx_css_parts`; the scene holds the sheets.
+//! warning. The parts are judged by `fx_css_parts`; the scene holds the sheets.
 #![tactic(auto)]
 
 mod agent;

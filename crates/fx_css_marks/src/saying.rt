@@ -1,6 +1,5 @@
 //! What a text says, put together by runs: bare runs as they are, a space for each comment, and quoted texts that mean
-//! nothing.
-//! Rules and declarations are cut by the signs and read from the bytes.
+//! nothing. Rules and declarations are cut by the signs and read from the bytes.
 ghost use Rattle.std.specs.Prelude.{◌≡◌, ◌≤◌, ◌++◌, ◌∷◌, ℕ, List, [], true, length, replicate, IfOk, OnOk};
 ghost use Rattle.fx_base.specs.declared.positions.Position.{Position};
 ghost use Rattle.fx_css_marks.specs.declared.marks.Mark.{Mark};

@@ -15,8 +15,7 @@ pub enum Combinator {
 }
 
 /// What is written without a combinator in it: a type, classes, ids and pseudo-classes, all of which a node has to
-/// have.
-/// The first compound of a selector and no other has no combinator. `*` and no type are both `kind` None.
+/// have. The first compound of a selector and no other has no combinator. `*` and no type are both `kind` None.
 #[derive(Drop)]
 pub struct Compound {
     pub combinator: Option<Combinator>,

@@ -1,4 +1,5 @@
-//! An expression is read, copied and filled. What expressions mean, refusals and limits are stored cases of reader_cases.
+//! An expression is read, copied and filled. What expressions mean, refusals and limits are stored cases of
+//! reader_cases.
 use fx_base::Value;
 use fx_expr::{BinarySign, Expr, as_text, fill, read_expr};
 use std::test::Fail;

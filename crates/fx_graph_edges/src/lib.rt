@@ -1,6 +1,5 @@
 //! The edges of the property graph: for each property who is bound to it, and marking along them, which looks at no
-//! more
-//! than it marks. The graph itself stands on it.
+//! more than it marks. The graph itself stands on it.
 #![tactic(auto)]
 
 mod counting;

@@ -1,6 +1,5 @@
 //! The names that became unread in a change, rising. The work list has each of them once in its front, so this is
-//! sorted,
-//! in place: no memory is taken, and no other name is looked at. The store of listeners reads them.
+//! sorted, in place: no memory is taken, and no other name is looked at. The store of listeners reads them.
 ghost use Rattle.std.specs.Prelude.{◌≡◌, ◌<◌, ◌≤◌, ◌^◌, ℕ, All, length, take, slice_set};
 ghost use Rattle.std.specs.List.Sorted.{IsPermutation, IsNonDecreasing};
 ghost use Rattle.fx_base.specs.Names.{numbers, name_of};

@@ -6,8 +6,7 @@ use std::alloc::{AllocError, Global};
 use std::marker::Model;
 
 /// Who reads a property, by places in the store; who reads it twice stands here twice. Contracts see these places and
-/// for
-/// how many more there is room.
+/// for how many more there is room.
 #[derive(Drop)]
 pub struct Users {
     places: Vec<usize>,

@@ -1,5 +1,5 @@
-//! The shelf of real files, and the sink of a writer that fails. The shelf and the sink in memory are called by the runs of
-//! fx_play_tests.
+//! The shelf of real files, and the sink of a writer that fails. The shelf and the sink in memory are called by the
+//! runs of fx_play_tests.
 use fx_edge::{FileShelf, OutSink};
 use fx_port::{FetchError, Fetched, Shelf, Sink};
 use std::alloc::Global;

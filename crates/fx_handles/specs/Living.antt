@@ -25,7 +25,8 @@ abbrev pub after_release : Register → Owner → Register
 after_release register owner =
     record { living = filter (λ other. not (is_same other owner)) register.living; born = register.born }
 
--- what is true of the living owners: birth numbers rise from 1 on, slots differ, and no number is above the last one given
+-- what is true of the living owners: birth numbers rise from 1 on, slots differ, and no number is above the last one
+-- given
 pub record IsSound (register : Register) : Type 0 where
   pub rising : AllPairs (λ (one other : Owner). one.birth < other.birth) register.living
   pub apart : AllPairs (λ (one other : Owner). one.slot ≢ other.slot) register.living

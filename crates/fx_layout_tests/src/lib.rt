@@ -1,4 +1,5 @@
-//! Tests of what a node's pane is asked with. They stand apart, so that a test that changes has nothing else proved anew.
+//! Tests of what a node's pane is asked with. They stand apart, so that a test that changes has nothing else proved
+//! anew.
 #![tactic(auto)]
 
 #[cfg(test)]

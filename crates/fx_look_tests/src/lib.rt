@@ -1,4 +1,5 @@
-//! Tests of written values and of the class table. They stand apart, so that a test that changes has nothing else proved anew.
+//! Tests of written values and of the class table. They stand apart, so that a test that changes has nothing else
+//! proved anew.
 #![tactic(auto)]
 
 #[cfg(test)]

@@ -51,9 +51,9 @@ pub record Pulsed : Type 0 where
   pub damage : List Rect
   pub notices : Notices
 
--- The present scene, styled, laid out and drawn from nothing, is the next frame, which can be drawn, and the sizes of its
--- nodes are published behind it, as one change. The expressions that it evaluates at most are those that its reads ask
--- for, and those of that change.
+-- The present scene, styled, laid out and drawn from nothing, is the next frame, which can be drawn, and the sizes of
+-- its nodes are published behind it, as one change. The expressions that it evaluates at most are those that its reads
+-- ask for, and those of that change.
 pub record IsDrawn (before now : World) (last next : Option Framed) (pulsed : Pulsed) (cost : ℕ) : Type 0 where
   pub rects : List Rect
   pub shown : IsFrame (scene_of before) before.window pulsed.frame.width pulsed.frame.height rects pulsed.frame.picture

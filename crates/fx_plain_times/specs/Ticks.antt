@@ -35,4 +35,5 @@ all_animated sets course = fold after_set course sets
 -- how many expressions are evaluated at most while they do
 unfoldable pub cost_of_sets : List (Name × Value) → World → ℕ
 cost_of_sets [] world = 0
-cost_of_sets (set ∷ sets) world = cost_of (changed (Set set.0 set.1) world) + cost_of_sets sets (animated set world).world
+cost_of_sets (set ∷ sets) world =
+    cost_of (changed (Set set.0 set.1) world) + cost_of_sets sets (animated set world).world

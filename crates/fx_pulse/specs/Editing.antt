@@ -36,8 +36,8 @@ pub record AreLast (d : Drawn) (marks : List Bool) (olds : List Entry) : Type 0 
   pub same : (k : ℕ) → k < length d.boxes → flag_in marks k ≡ false
       → (node_at last.boxes k ≡ node_at d.boxes k) × (look_at last.looks k ≡ look_at d.looks k)
 
--- The edits so far put the entries of the nodes that show before a place, of which there are so many, where those of the
--- last picture stood.
+-- The edits so far put the entries of the nodes that show before a place, of which there are so many, where those of
+-- the last picture stood.
 pub record IsEditedUpTo (d : Drawn) (olds : List Entry) (place : ℕ) (edits : List Edit) (count : ℕ) : Type 0 where
   pub counted : count ≡ length (shown_below d place)
   pub within : AreEdits edits count

@@ -49,8 +49,8 @@ pub record IsDrawn (r : Rendering) (scene : Scene) (window : Option (ℕ × ℕ)
   pub size : root_size r.kept.layout ≡ ((surface_of r.canvas).width, (surface_of r.canvas).height)
   pub placed : IsLayout scene.boxes (looks_of scene) window r.kept.layout
 
--- the last picture was drawn so: it is the frame of the scene that is kept in this window, and of each node of the scene
--- it is told whether it shows; without one nothing is said
+-- the last picture was drawn so: it is the frame of the scene that is kept in this window, and of each node of the
+-- scene it is told whether it shows; without one nothing is said
 abbrev pub IsCurrent : Option Drawing → Rendering → Type 0
 IsCurrent drawn r =
     IfSome drawn (λ (d : Drawing). IfSome r.kept.last (λ (scene : Scene).

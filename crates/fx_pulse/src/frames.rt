@@ -53,9 +53,10 @@ pub(crate) struct Made {
     pub next: Next,
 }
 
-/// The frame of a scene, in a window or in one as large as its root, by what is kept of the last scene. Where the frame
-/// before it shows the last scene, is as large, and the same nodes show, its picture is edited: entries are made for the
-/// nodes that were measured anew, that stand elsewhere, or that are disabled where they weren't or the other way round.
+/// The frame of a scene, in a window or in one as large as its root, by what is kept of the last scene. Where the
+/// frame before it shows the last scene, is as large, and the same nodes show, its picture is edited: entries are made
+/// for the nodes that were measured anew, that stand elsewhere, or that are disabled where they weren't or the other
+/// way round.
 pub(crate) fn made_of<L: Ledgers>(
     alloc: Global,
     scene: Scene<'_>,

@@ -37,7 +37,8 @@ impl LastScene {
         }
     }
 
-    /// Keeps the next scene in place of this one: of facts that are touched only what differs is copied, unless all are.
+    /// Keeps the next scene in place of this one: of facts that are touched only what differs is copied, unless all
+    /// are.
     fn followed(
         self,
         alloc: Global,

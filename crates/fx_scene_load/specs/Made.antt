@@ -46,7 +46,8 @@ pub record IsNextRead (files : Files) (here : Open) (room : ℕ) (desk : Desk) (
   pub counts : count ≡ acts_before (told_in here desk settled node piece).acts
 
 -- these nodes in the definitions within a piece are read, so the piece is where it is read as a whole behind them
-abbrev pub AreDefinedRead : Files → Open → ℕ → Desk → ℕ → Piece → List Defined → Course → List Settled → ℕ → Course → Type 0
+abbrev pub AreDefinedRead : Files → Open → ℕ → Desk → ℕ → Piece → List Defined → Course → List Settled → ℕ
+    → Course → Type 0
 AreDefinedRead files here room desk node piece defined course settled done next =
     (told : Told) (last : Course) → IsToldRead files here room desk node piece settled done next [] told last
     → IsToldRead files here room desk node piece [] 0 course defined told last

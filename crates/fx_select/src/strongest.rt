@@ -9,8 +9,8 @@ ghost use Rattle.fx_select.specs.Strongest.{greater, is_weaker};
 use fx_css_types::Candidate;
 use std::alloc::{AllocError, Global};
 
-/// Puts the hits in the order of their sheets and rules, and makes those of one rule one. Hits that stand so already stay
-/// as they are.
+/// Puts the hits in the order of their sheets and rules, and makes those of one rule one. Hits that stand so already
+/// stay as they are.
 pub fn merge_hits(alloc: Global, hits: &mut Vec<Candidate>) -> Result<(), AllocError>
     ensures { OnOk result (AreMerged hits.old.items hits.new.items) }
 {

@@ -1,5 +1,5 @@
-//! The parts of a selector are counted. Which nodes selectors match, and which rules match a node, as the reference player
-//! says, are stored cases of style_cases.
+//! The parts of a selector are counted. Which nodes selectors match, and which rules match a node, as the reference
+//! player says, are stored cases of style_cases.
 ghost use Rattle.std.specs.Prelude.{IsTrue, ◌≤◌};
 ghost use Rattle.fx_css_types.specs.Specificity.{part_count};
 

@@ -37,8 +37,8 @@ unfoldable pub all : {A : Type 0} → List (Result A Refusal) → Result (List A
 all [] = Ok []
 all {A} (one ∷ others) = and_then (both one (all others)) (λ (found : A × List A). Ok (found.0 ∷ found.1))
 
--- what a line that isn't refused makes and tells: the world before the watched properties are read, and the world after;
--- and how many expressions it evaluates at most
+-- what a line that isn't refused makes and tells: the world before the watched properties are read, and the world
+-- after; and how many expressions it evaluates at most
 pub record Taken : Type 0 where
   pub made : World
   pub world : World

@@ -1,5 +1,5 @@
-//! What is true of every scene of living nodes beside what each call of the tree says: which nodes a subtree holds, what
-//! each change leaves of each node, and what a path and a route are. It stands above the tree and its events, and
+//! What is true of every scene of living nodes beside what each call of the tree says: which nodes a subtree holds,
+//! what each change leaves of each node, and what a path and a route are. It stands above the tree and its events, and
 //! nothing stands on it.
 #![tactic(auto)]
 

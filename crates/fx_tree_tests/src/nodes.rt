@@ -6,8 +6,7 @@ use std::alloc::Global;
 use std::test::Fail;
 
 /// Each command is what it does (`+` attaches, `-` detaches, `x` drops and `r` makes the root), one or two nodes, the
-/// place,
-/// and the letter of its answer. The nodes are `a` to `z` and `A` to `D` in the order of their births.
+/// place, and the letter of its answer. The nodes are `a` to `z` and `A` to `D` in the order of their births.
 const COMMANDS: &str =
     "+xl2P +Ao0. +Cq0. +ra0. +if1P +yw2P +eb0. +fm0. rC  . +fr0. +lg0. +kj2P +tv0. +lp0. +pl0W +Bw0. +sd0. +dz0. rl  A ri  A +ds0W +bn0. +kq0H +iD0. +vf0. +pf0H rD  H -b  . +xs1P -e  N +DC0A +ei1P +fc1. +eo2H +qo0H -i  N +pm0H -A  N rf  H -B  N +ft2W xl  . +zz2W +yA0. -i  N +kb1P ry  A +kj2P +li1S +DB1P +kh0. +DC0A -f  . rq  H -j  N ry  A +xx1W +hy0. -h  . +bj0. -g  S rb  A -o  . +mv2H +hw0H +mi0. rl  S +rk2P xk  . rj  H ";
 

@@ -1,5 +1,6 @@
-//! Reads words of a command line, lines of a script, numbers of demos, texts in columns and totals under caps, one to a
-//! line of its input, and prints what is asked for. Its input and output are a test of what reads, wraps or shares each.
+//! Reads words of a command line, lines of a script, numbers of demos, texts in columns and totals under caps, one to
+//! a line of its input, and prints what is asked for. Its input and output are a test of what reads, wraps or shares
+//! each.
 //!
 //! A line is a word, a `|`, and what it is about. `wrap` and `share` have a number in front, with a `|` behind it, and
 //! the texts of `wrap`, `cells` and `glyph` have the escapes of escapes.rt.

@@ -1,6 +1,6 @@
-//! Reads what its input gives line by line, and prints what is read: selectors, declarations, sheets and styles, what the
-//! bytes of a sheet say, expressions with what they mean, and documents. Its input and output are a test of the readers:
-//! the output is that of the reference player, or was counted by hand.
+//! Reads what its input gives line by line, and prints what is read: selectors, declarations, sheets and styles, what
+//! the bytes of a sheet say, expressions with what they mean, and documents. Its input and output are a test of the
+//! readers: the output is that of the reference player, or was counted by hand.
 //!
 //! A line is a word, a `|`, and a text with the escapes of escapes.rt, in which the answer is printed too.
 //!

@@ -1,5 +1,5 @@
-//! Sheets and styles: the numbers of rules, selectors and declarations, a checksum of the rules as they are written, and
-//! the places of warnings; or why there are none.
+//! Sheets and styles: the numbers of rules, selectors and declarations, a checksum of the rules as they are written,
+//! and the places of warnings; or why there are none.
 use anyhow::bail;
 use fx_base::{Color, Same, Sides, Text, Value};
 use fx_css::{SheetError, agent_sheet, read_inline, read_sheet};

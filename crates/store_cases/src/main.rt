@@ -1,6 +1,5 @@
 //! Carries out commands on a store of properties, a line each, and prints what each answered, what it told, and a flag
-//! for
-//! each property that says whether it is unread. Its input and output are a test of the store.
+//! for each property that says whether it is unread. Its input and output are a test of the store.
 #![tactic(auto)]
 
 mod answers;

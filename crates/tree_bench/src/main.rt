@@ -1,6 +1,5 @@
 //! Builds a tree of nodes, moves subtrees in it, walks it in pre-order and drops it, and prints a checksum of the
-//! walks.
-//! A script counts its instructions; no other crate stands on this one.
+//! walks. A script counts its instructions; no other crate stands on this one.
 #![tactic(auto)]
 
 use anyhow::bail;

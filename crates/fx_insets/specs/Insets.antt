@@ -1,6 +1,6 @@
 -- The insets of a node by its look: its padding and its border layers (JavaFX 21 API, Region.getInsets).
 -- Cited by what lays a node out and by what draws it.
-use Rattle.std.specs.Prelude.{ℕ, ℤ, pos, negsuc, ◌^◌, ◌≤ℤ◌, ◌+ℤ◌, ◌-◌, List, length, map, min, slice_index_or, fold, unwrap_or, Option, Some, None}
+use Rattle.std.specs.Prelude.{ℕ, ℤ, pos, negsuc, ◌≤ℤ◌, ◌+ℤ◌, ◌-◌, List, length, map, min, slice_index_or, fold, unwrap_or, Option, Some, None}
 use Rattle.std.specs.Int.{int_max}
 use Rattle.std.specs.List.{range_with_len}
 use Rattle.fx_base.specs.declared.geometry.Sides.{Sides}
@@ -24,9 +24,9 @@ no_sides = record { top = pos 0; right = pos 0; bottom = pos 0; left = pos 0 }
 abbrev pub layer_at : List Sides → ℕ → Sides
 layer_at layers i = slice_index_or layers (min i (length layers - 1)) no_sides
 
--- a number is far from the ends of what is computed with
-abbrev pub IsNear : ℤ → Type 0
-IsNear n = (negsuc (2 ^ 66) ≤ℤ n) × (n ≤ℤ pos (2 ^ 66))
+-- a number is as far from 0 at most as a layer of the border ends
+abbrev pub IsReach : ℤ → Type 0
+IsReach n = (negsuc 99999 ≤ℤ n) × (n ≤ℤ pos 200000)
 
 -- where a layer of the border ends on a side, from the node's edge inwards
 unfoldable pub border_end : Side → Look → ℕ → ℤ

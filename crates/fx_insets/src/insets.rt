@@ -1,7 +1,7 @@
 //! Insets of looks, side by side.
-ghost use Rattle.std.specs.Prelude.{◌≡◌, ◌+ℤ◌, pos};
+ghost use Rattle.std.specs.Prelude.{◌≡◌, ◌≤◌, ◌≤ℤ◌, ◌+ℤ◌, pos, negsuc};
 ghost use Rattle.std.specs.Option.{ForSome};
-ghost use Rattle.fx_insets.specs.Insets.{IsNear, border_end, border_reach, greater, inset_on, insets_of, layer_at, on};
+ghost use Rattle.fx_insets.specs.Insets.{IsReach, border_end, border_reach, greater, inset_on, insets_of, layer_at, on};
 ghost use Rattle.fx_panes_parts.specs.Lengths.{length_of};
 
 use fx_base::Sides;
@@ -62,20 +62,22 @@ pub fn layer_at(layers: &[Sides], i: usize) -> Sides
 pub fn inset_on(side: Side, look: &Look) -> u64
     ensures { result ≡ inset_on side look.now }
 {
-    clamped(border_reach(side, look) + i128::from(length_of(on(side, look.padding))))
+    inset(border_reach(side, look), length_of(on(side, look.padding)))
 }
 
-/// A number as a length.
-fn clamped(n: i128) -> u64
-    ensures { result ≡ length_of n }
+/// What a border that reaches so far and a padding of this length take together.
+fn inset(reach: i64, padding: u64) -> u64
+    requires reach { IsReach reach }
+    requires padding { padding ≤ 100000 }
+    ensures { result ≡ length_of (reach +ℤ pos padding) }
 {
-    n.clamp(0, 100_000) as u64
+    length_of(reach + padding as i64)
 }
 
 #[tactic(auto, using(crate::proofs::Folding::fold_next), unfolding(crate::specs::Insets::border_reach))]
-fn border_reach(side: Side, look: &Look) -> i128
+fn border_reach(side: Side, look: &Look) -> i64
     ensures value { result ≡ border_reach side look.now }
-    ensures bounds { IsNear result }
+    ensures bounds { IsReach result }
 {
     let mut best = None;
     for i in 0..look.border_color.as_slice().len() {
@@ -85,9 +87,9 @@ fn border_reach(side: Side, look: &Look) -> i128
 }
 
 #[tactic(auto, unfolding(crate::specs::Insets::border_end))]
-fn border_end(side: Side, look: &Look, i: usize) -> i128
+fn border_end(side: Side, look: &Look, i: usize) -> i64
     ensures value { result ≡ border_end side look.now i }
-    ensures bounds { IsNear result }
+    ensures bounds { IsReach result }
 {
     behind(
         length_of(on(side, layer_at(look.border_width.as_slice(), i))),
@@ -96,18 +98,20 @@ fn border_end(side: Side, look: &Look, i: usize) -> i128
 }
 
 /// So far behind the end of a length.
-fn behind(length: u64, place: i64) -> i128
+fn behind(length: u64, place: i64) -> i64
+    requires length { length ≤ 100000 }
+    requires place { (negsuc 99999 ≤ℤ place) × (place ≤ℤ pos 100000) }
     ensures value { result ≡ pos length +ℤ place }
-    ensures bounds { IsNear result }
+    ensures bounds { IsReach result }
 {
-    i128::from(length) + i128::from(place)
+    length as i64 + place
 }
 
-fn greater(best: Option<i128>, n: i128) -> Option<i128>
-    requires near { IsNear n }
-    requires best { ForSome best IsNear }
+fn greater(best: Option<i64>, n: i64) -> Option<i64>
+    requires near { IsReach n }
+    requires best { ForSome best IsReach }
     ensures value { result ≡ greater best n }
-    ensures near { ForSome result IsNear }
+    ensures near { ForSome result IsReach }
 {
     match best {
         None => Some(n),

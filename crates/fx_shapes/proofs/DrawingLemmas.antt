@@ -3,8 +3,9 @@ use Rattle.std.proofs.Common.{◌≡◌, ◌++◌, ℕ, Bool, true, false, List,
 use Rattle.std.specs.Prelude.{chars}
 use Rattle.fx_boxes.specs.Controls.{scale_of}
 use Rattle.fx_cells.proofs.Cutting.{one_wrapping_of}
+use Rattle.fx_insets.specs.Insets.{insets_of}
 use Rattle.fx_shapes.specs.Drawings.{OneDrawing, shown}
-use Rattle.fx_shapes.specs.Layers.{backgrounds, borders, insets_of}
+use Rattle.fx_shapes.specs.Layers.{backgrounds, borders}
 use Rattle.fx_shapes.specs.Letters.{HasLines, columns_of, content_of, letters_of}
 
 one_lines : (wrap : Bool) (columns : ℕ) (text : List ℕ) (one another : List (ℕ × ℕ))

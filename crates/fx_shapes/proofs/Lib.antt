@@ -4,3 +4,4 @@ pub mod ListSteps
 pub mod DrawingLemmas
 pub mod AlignLemmas
 pub mod HiddenLemmas
+pub mod WholeLemmas

@@ -1,12 +1,9 @@
 -- One element more of a list, with its index.
-use Rattle.std.proofs.Common.{◌≡◌, ◌<◌, ◌≤◌, ◌+◌, ℕ, ℤ, Bool, List, [], ◌∷◌, ◌++◌, length, take, get_or, map, refl, sym, ap, ◌∙◌, arith, suc, zero, length-take, append_assoc, append-nil}
-use Rattle.std.specs.Int.{int_max}
-use Rattle.std.specs.List.{enumerate_from, filter, flat_map, range_with_len}
+use Rattle.std.proofs.Common.{◌≡◌, ◌<◌, ◌+◌, ℕ, Bool, List, [], ◌∷◌, ◌++◌, length, take, get_or, map, refl, sym, ap, ◌∙◌, arith, length-take, append_assoc, append-nil}
+use Rattle.std.specs.List.{enumerate_from, filter, flat_map}
 use Rattle.std.proofs.lemmas.List.{length-map, map-append, take_more}
 use Rattle.std.proofs.lemmas.List.Concat.{flat_map-append}
 use Rattle.std.proofs.lemmas.List.Elements.{filter-append}
-use Rattle.std.proofs.lemmas.List.FromFn.{map-range_with_len_more}
-use Rattle.fx_shapes.specs.Layers.{greatest_of}
 
 enumerate-append : {X : Type 0} (n : ℕ) (xs ys : List X) → enumerate_from n (xs ++ ys) ≡ enumerate_from n xs ++ enumerate_from (n + length xs) ys
 enumerate-append n [] ys = let e : n + 0 ≡ n = omega arith in rw e refl
@@ -45,20 +42,6 @@ kept_more_lists p f before now xs i d h is =
     ∙ (append_assoc before (filter p (flat_map f all)) (filter p (f (i, x)))
     ∙ ap (λ l. before ++ l) (sym (ap (λ l. filter p (flat_map f l)) (enumerate_more xs i d h)
     ∙ (ap (filter p) (flat_map-append f all ((i, x) ∷ []) ∙ ap (λ l. flat_map f all ++ l) one) ∙ filter-append p (flat_map f all) (f (i, x))))))
-
-greatest-append : (n m : ℤ) (ns : List ℤ) → greatest_of ((n ∷ ns) ++ m ∷ []) ≡ int_max (greatest_of (n ∷ ns)) m
-greatest-append n m [] = refl
-greatest-append n m (k ∷ ns) = greatest-append (int_max n k) m ns
-
-step_from : (f : ℕ → ℤ) (n : ℕ) → greatest_of (map f (range_with_len 0 (suc n + 1))) ≡ int_max (greatest_of (map f (range_with_len 0 (suc n)))) (f (suc n))
-step_from f n =
-    ap greatest_of (map-range_with_len_more f 0 (suc n) (suc n) (omega arith))
-    ∙ greatest-append (f 0) (f (suc n)) (map f (range_with_len 1 n))
-
--- one more than some
-pub greatest_more : (f : ℕ → ℤ) (n : ℕ) → 1 ≤ n → greatest_of (map f (range_with_len 0 (n + 1))) ≡ int_max (greatest_of (map f (range_with_len 0 n))) (f n)
-greatest_more f zero h = absurd (omega (arith, h))
-greatest_more f (suc n) h = step_from f n
 
 -- the same where each is made of another first
 pub kept_more_mapped : {X Y A : Type 0} (p : A → Bool) (f : ℕ × Y → A) (g : X → Y) (before now : List A) (xs : List X) (i : ℕ) (d : X)

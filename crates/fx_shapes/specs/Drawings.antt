@@ -3,11 +3,12 @@ use Rattle.std.specs.Prelude.{◌≡◌, ℕ, Bool, ◌&&◌, ◌++◌, not, nat
 use Rattle.std.specs.List.{filter}
 use Rattle.fx_base.specs.declared.geometry.Rect.{Rect}
 use Rattle.fx_boxes.specs.Controls.{scale_of}
+use Rattle.fx_insets.specs.Insets.{insets_of}
 use Rattle.fx_look.specs.declared.looks.Look.{Look}
 use Rattle.fx_picture.specs.Bounds.{is_empty}
 use Rattle.fx_picture.specs.Shapes.{bounds, color_of}
 use Rattle.fx_picture.specs.declared.shapes.Shape.{Shape}
-use Rattle.fx_shapes.specs.Layers.{backgrounds, borders, insets_of}
+use Rattle.fx_shapes.specs.Layers.{backgrounds, borders}
 use Rattle.fx_shapes.specs.Letters.{HasLines, columns_of, content_of, letters_of}
 
 -- a shape that is empty or fully transparent is left out

@@ -1,60 +1,18 @@
--- The layers of a look, and the shapes of its backgrounds and borders: JavaFX CSS Reference Guide, Region.
-use Rattle.std.specs.Prelude.{ℕ, ℤ, pos, ◌-◌, ◌+ℤ◌, ◌-ℤ◌, List, [], ◌∷◌, length, map, fold, min, slice_index_or}
-use Rattle.std.specs.Int.{int_max, int_min}
-use Rattle.std.specs.List.{enumerate_from, flat_map, range_with_len}
+-- The shapes of a look's backgrounds and borders: JavaFX CSS Reference Guide, Region.
+use Rattle.std.specs.Prelude.{ℕ, ℤ, pos, ◌+ℤ◌, ◌-ℤ◌, List, [], ◌∷◌, map}
+use Rattle.std.specs.Int.{int_min}
+use Rattle.std.specs.List.{enumerate_from, flat_map}
 use Rattle.fx_base.specs.declared.color.Color.{Color}
 use Rattle.fx_base.specs.declared.geometry.Rect.{Rect}
 use Rattle.fx_base.specs.declared.geometry.Sides.{Sides}
+use Rattle.fx_insets.specs.Insets.{layer_at}
+use Rattle.fx_insets.specs.declared.insets.Side.{Side}
+use Rattle.fx_insets.specs.declared.insets.Side.TheVariants.{Top, Right, Bottom, Left}
 use Rattle.fx_look.specs.declared.looks.Look.{Look}
 use Rattle.fx_panes_parts.specs.Lengths.{length_of, place_of}
 use Rattle.fx_picture.specs.declared.shapes.Shape.{Shape}
 use Rattle.fx_picture.specs.declared.shapes.Shape.TheVariants.{Fill}
-use Rattle.fx_shapes.specs.declared.sides.Side.{Side}
-use Rattle.fx_shapes.specs.declared.sides.Side.TheVariants.{Top, Right, Bottom, Left}
 
--- the length on a side
-abbrev pub on_side : Side → Sides → ℤ
-on_side Top s = s.top
-on_side Right s = s.right
-on_side Bottom s = s.bottom
-on_side Left s = s.left
-
-abbrev pub no_sides : Sides
-no_sides = record { top = pos 0; right = pos 0; bottom = pos 0; left = pos 0 }
-
--- the lengths of a layer: the last ones stand for all further layers
-unfoldable pub sides_at : List Sides → ℕ → Sides
-sides_at all layer = slice_index_or all (min layer (length all - 1)) no_sides
-
--- ---- insets
--- how far a layer of the border reaches in from a side
-abbrev pub border_at : Look → Side → ℕ → ℤ
-border_at look side layer =
-    place_of (on_side side (sides_at look.border_insets layer))
-    +ℤ pos (length_of (on_side side (sides_at look.border_width layer)))
-
--- the greatest of these, and 0 where there are none
-abbrev pub greatest_of : List ℤ → ℤ
-greatest_of [] = pos 0
-greatest_of (n ∷ ns) = fold int_max n ns
-
--- what the border takes on a side
-unfoldable pub border_of : Look → Side → ℤ
-border_of look side = greatest_of (map (border_at look side) (range_with_len 0 (length look.border_color)))
-
--- what padding and border take on a side
-abbrev pub inset_of : Look → Side → ℤ
-inset_of look side = pos (length_of (pos (length_of (on_side side look.padding)) +ℤ border_of look side))
-
-abbrev pub insets_of : Look → Sides
-insets_of look = record {
-  top = inset_of look Top;
-  right = inset_of look Right;
-  bottom = inset_of look Bottom;
-  left = inset_of look Left;
-}
-
--- ---- shapes
 -- a rectangle less these lengths on its sides
 unfoldable pub shrunk : Rect → Sides → Rect
 shrunk r s = record {
@@ -79,7 +37,7 @@ inner r s = shrunk r (placed s)
 
 -- the background's layers
 abbrev pub background_at : Look → Rect → ℕ × Color → Shape
-background_at look r layer = Fill (inner r (sides_at look.background_insets layer.0)) layer.1
+background_at look r layer = Fill (inner r (layer_at look.background_insets layer.0)) layer.1
 
 abbrev pub backgrounds : Look → Rect → List Shape
 backgrounds look r = map (background_at look r) (enumerate_from 0 look.background_color)
@@ -121,7 +79,7 @@ strips r s color = map (λ side. Fill (strip_on side r (cut_widths r s)) color) 
 -- the border's layers
 abbrev pub border_layer : Look → Rect → ℕ × Color → List Shape
 border_layer look r layer =
-    strips (inner r (sides_at look.border_insets layer.0)) (sides_at look.border_width layer.0) layer.1
+    strips (inner r (layer_at look.border_insets layer.0)) (layer_at look.border_width layer.0) layer.1
 
 abbrev pub borders : Look → Rect → List Shape
 borders look r = flat_map (border_layer look r) (enumerate_from 0 look.border_color)

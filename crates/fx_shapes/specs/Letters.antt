@@ -8,13 +8,14 @@ use Rattle.fx_base.specs.declared.geometry.Sides.{Sides}
 use Rattle.fx_boxes.specs.Controls.{scale_of}
 use Rattle.fx_cells.specs.Columns.{cells_of}
 use Rattle.fx_cells.specs.Wrapping.{IsWrapping}
+use Rattle.fx_insets.specs.Insets.{insets_of}
 use Rattle.fx_look.specs.declared.looks.Look.{Look}
 use Rattle.fx_panes_parts.specs.Lengths.{aligned}
 use Rattle.fx_picture.specs.Shapes.{whole}
 use Rattle.fx_picture.specs.declared.shapes.Shape.{Shape}
 use Rattle.fx_picture.specs.declared.shapes.Shape.TheVariants.{Letters}
 use Rattle.fx_shapes.specs.declared.letters.Block.{Block}
-use Rattle.fx_shapes.specs.Layers.{insets_of, shrunk}
+use Rattle.fx_shapes.specs.Layers.{shrunk}
 
 -- a rectangle with nothing in the place of a length below 0
 unfoldable pub filled : Rect → Rect

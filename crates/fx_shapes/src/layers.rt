@@ -1,15 +1,17 @@
 //! The fills of a look: layers of the background, and strips of the border.
-ghost use Rattle.std.specs.Prelude.{◌≡◌, ◌++◌, ◌∷◌, [], ◌≤ℤ◌, ◌+ℤ◌, ◌-ℤ◌, ◌⊎◌, OnOk, pos, negsuc};
+ghost use Rattle.std.specs.Prelude.{◌≡◌, ◌++◌, ◌∷◌, [], ◌≤ℤ◌, ◌+ℤ◌, ◌-ℤ◌, ◌⊎◌, OnOk, int_lt, not, pos, negsuc};
+ghost use Rattle.fx_insets.specs.Insets.{on};
 ghost use Rattle.fx_panes_parts.specs.Lengths.{place_of};
+ghost use Rattle.fx_picture.specs.Bounds.{bounds_of, is_empty};
 ghost use Rattle.fx_shapes.specs.Drawings.{is_shown, shown};
 ghost use Rattle.fx_shapes.specs.Layers as spec;
 ghost use Rattle.fx_shapes.specs.Rects.{AreLimited, AreShort, IsNear, IsNearby};
 
-use crate::sides::{Side, on_side, sides_at};
 use fx_base::{Color, Rect, Sides};
+use fx_insets::{Side, layer_at, on};
 use fx_look::Look;
 use fx_panes_parts::{length_of, place_of};
-use fx_picture::{Shape, bounds, color_of, is_empty};
+use fx_picture::Shape;
 use std::alloc::AllocError;
 
 /// Adds the layers of the background that show.
@@ -38,7 +40,7 @@ fn add_background(
     ensures { OnOk result (shapes.new.items
         ≡ shapes.old.items ++ shown (spec.background_at look.now rect (layer, color) ∷ [])) }
 {
-    let insets = sides_at(look.background_insets.as_slice(), layer);
+    let insets = layer_at(look.background_insets.as_slice(), layer);
     add_fill(shapes, inner(rect, insets), color)
 }
 
@@ -68,8 +70,8 @@ fn add_border(
     ensures { OnOk result (shapes.new.items
         ≡ shapes.old.items ++ shown (spec.border_layer look.now rect (layer, color))) }
 {
-    let insets = sides_at(look.border_insets.as_slice(), layer);
-    let widths = sides_at(look.border_width.as_slice(), layer);
+    let insets = layer_at(look.border_insets.as_slice(), layer);
+    let widths = layer_at(look.border_width.as_slice(), layer);
     add_strips(shapes, inner(rect, insets), widths, color)
 }
 
@@ -77,23 +79,41 @@ fn add_border(
 fn add_fill(shapes: &mut Vec<Shape>, rect: Rect, color: Color) -> Result<(), AllocError>
     ensures { OnOk result (shapes.new.items ≡ shapes.old.items ++ shown (Shape.Fill rect color ∷ [])) }
 {
-    add_shown(shapes, Shape::Fill { rect, color })
+    add_if(
+        shapes,
+        Shape::Fill { rect, color },
+        color.a > 0 && has_area(rect),
+    )
 }
 
-/// Adds a shape, if it shows.
-pub(crate) fn add_shown(shapes: &mut Vec<Shape>, shape: Shape) -> Result<(), AllocError>
+/// Whether a rectangle holds a point.
+fn has_area(rect: Rect) -> bool
+    ensures { result ≡ not (is_empty (bounds_of rect)) }
+{
+    is_wide(rect) && is_high(rect)
+}
+
+pub(crate) fn is_wide(rect: Rect) -> bool
+    ensures { result ≡ int_lt (pos 0) rect.w }
+{
+    rect.w > 0
+}
+
+fn is_high(rect: Rect) -> bool
+    ensures { result ≡ int_lt (pos 0) rect.h }
+{
+    rect.h > 0
+}
+
+/// Adds a shape where it shows.
+pub(crate) fn add_if(shapes: &mut Vec<Shape>, shape: Shape, shows: bool) -> Result<(), AllocError>
+    requires { shows ≡ is_shown shape }
     ensures { OnOk result (shapes.new.items ≡ shapes.old.items ++ shown (shape ∷ [])) }
 {
-    if is_shown(&shape) {
+    if shows {
         shapes.push(shape)?;
     }
     Ok(())
-}
-
-fn is_shown(shape: &Shape) -> bool
-    ensures { result ≡ is_shown shape.now }
-{
-    color_of(shape).a > 0 && !is_empty(bounds(shape))
 }
 
 fn add_strips(
@@ -135,11 +155,11 @@ fn placed(sides: Sides) -> Sides
 }
 
 fn place_on(side: Side, sides: Sides) -> i64
-    ensures value { result ≡ place_of (spec.on_side side sides) }
+    ensures value { result ≡ place_of (on side sides) }
     ensures least { negsuc 99999 ≤ℤ result }
     ensures most { result ≤ℤ pos 100000 }
 {
-    place_of(on_side(&sides, side))
+    place_of(on(side, sides))
 }
 
 /// A rectangle less these lengths on its sides.

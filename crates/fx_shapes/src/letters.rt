@@ -1,15 +1,14 @@
 //! The lines of a text as letters in the content of a node.
-ghost use Rattle.std.specs.Prelude.{◌≡◌, ◌+◌, ◌*◌, ◌/◌, ◌%◌, ◌++◌, ◌∷◌, [], ◌≤◌, ◌^◌, ◌≤ℤ◌, ◌+ℤ◌, All, IfOk, IfSome, IfNone, OnOk, chars, length, map, pos};
+ghost use Rattle.std.specs.Prelude.{◌≡◌, ◌+◌, ◌*◌, ◌/◌, ◌%◌, ◌++◌, ◌∷◌, [], ◌≤◌, ◌^◌, ◌≤ℤ◌, ◌+ℤ◌, ◌<◌, ◌&&◌, All, IfOk, IfSome, IfNone, OnOk, chars, int_lt, length, map, min, nat_lt, pos};
 ghost use Rattle.fx_cells.specs.Columns.{cells_of};
 ghost use Rattle.fx_panes_parts.specs.Lengths.{aligned};
 ghost use Rattle.fx_picture.specs.Shapes.{whole};
 ghost use Rattle.fx_shapes.specs.Drawings.{shown};
 ghost use Rattle.fx_shapes.specs.Letters.{IsPiece, block_of, content_of, filled, line_at, line_of, lines_of};
-ghost use Rattle.fx_shapes.specs.Layers.{insets_of};
 ghost use Rattle.fx_shapes.specs.Rects.{AreLimited, IsContent, IsNear, IsNearby};
 
 use crate::insets::insets_of;
-use crate::layers::{add_shown, shrunk};
+use crate::layers::{add_if, is_wide, shrunk};
 use crate::lines::{length, scale_of};
 use fx_base::{Color, Rect, Sides, Text, TextError};
 use fx_cells::cells;
@@ -106,7 +105,7 @@ fn piece_of(alloc: Global, text: &Text, range: (usize, usize)) -> Result<Text, A
     }
 }
 
-fn add_line(
+pub(crate) fn add_line(
     shapes: &mut Vec<Shape>,
     block: &Block,
     index: u64,
@@ -117,31 +116,44 @@ fn add_line(
     requires most { block.now.scale ≤ 2 ^ 61 }
     ensures { OnOk result (shapes.new.items ≡ shapes.old.items ++ shown (line_at block.now (index, line) ∷ [])) }
 {
+    let used = width_of(block, &line);
     match down_of(block, index) {
-        Some(y) => add_shown(
+        Some(y) => add_if(
             shapes,
             Shape::Letters {
-                x: across_of(block, &line),
+                x: across_of(block, used),
                 y,
                 scale: block.scale as i64,
                 text: line,
                 clip: block.clip,
                 color: block.color,
             },
+            is_visible(block, used),
         ),
         None => Ok(()),
     }
 }
 
-/// Where a line begins, from the left.
-fn across_of(block: &Block, line: &Text) -> i64
-    requires clip { IsContent block.now.clip }
-    requires most { block.now.scale ≤ 2 ^ 61 }
-    ensures { result ≡ block.now.clip.x
-        +ℤ pos (aligned (block.now.alignment % 3) (4 * cells_of (chars line.now) * block.now.scale)
-        (whole block.now.clip.w)) }
+/// How wide a line is, but no more than a `u64` holds.
+fn width_of(block: &Block, line: &Text) -> u64
+    requires { block.now.scale ≤ 2 ^ 61 }
+    ensures { result ≡ min (4 * cells_of (chars line.now) * block.now.scale) 18446744073709551615 }
 {
-    let used = (4 * block.scale).saturating_mul(cells(line.as_str()));
+    (4 * block.scale).saturating_mul(cells(line.as_str()))
+}
+
+/// Whether letters of this width show in the content, in a line that begins in it.
+fn is_visible(block: &Block, used: u64) -> bool
+    ensures { result ≡ (nat_lt 0 block.now.color.a && (nat_lt 0 used && int_lt (pos 0) block.now.clip.w)) }
+{
+    block.color.a > 0 && used > 0 && is_wide(block.clip)
+}
+
+/// Where a line of this width begins, from the left.
+fn across_of(block: &Block, used: u64) -> i64
+    requires clip { IsContent block.now.clip }
+    ensures { result ≡ block.now.clip.x +ℤ pos (aligned (block.now.alignment % 3) used (whole block.now.clip.w)) }
+{
     block.clip.x + aligned(block.alignment % 3, used, length(block.clip.w)) as i64
 }
 
@@ -152,6 +164,9 @@ fn down_of(block: &Block, index: u64) -> Option<i64>
     ensures some { IfSome result (λ y. y ≡ block.now.clip.y +ℤ pos (
         aligned (block.now.alignment / 3) (6 * block.now.count * block.now.scale) (whole block.now.clip.h)
         + 6 * index * block.now.scale)) }
+    ensures inside { IfSome result (λ _.
+        aligned (block.now.alignment / 3) (6 * block.now.count * block.now.scale) (whole block.now.clip.h)
+        + 6 * index * block.now.scale < whole block.now.clip.h) }
     ensures none { IfNone result (whole block.now.clip.h
         ≤ aligned (block.now.alignment / 3) (6 * block.now.count * block.now.scale) (whole block.now.clip.h)
         + 6 * index * block.now.scale) }

@@ -8,8 +8,7 @@ mod layers;
 mod letters;
 mod lines;
 mod making;
-mod sides;
 
+pub use fx_insets::Side;
 pub use insets::insets_of;
 pub use making::{one_drawing, shapes};
-pub use sides::Side;

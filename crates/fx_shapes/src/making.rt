@@ -6,7 +6,7 @@ ghost use Rattle.fx_shapes.specs.Layers.{backgrounds, borders};
 ghost use Rattle.fx_shapes.specs.Rects.{IsNear};
 
 use crate::layers::{add_backgrounds, add_borders};
-use crate::letters::{add_lines, block_of};
+use crate::letters::{add_line, add_lines, block_of};
 use crate::lines::{columns_of, lines_of};
 use fx_base::{Rect, Text};
 use fx_look::Look;
@@ -25,7 +25,7 @@ pub fn shapes(
     requires { IsNear rect }
     ensures { IfOk result (λ shapes. IsDrawing look.now rect (option_copied text.entry) shapes.items) }
 {
-    let mut shapes = Vec::new(alloc);
+    let mut shapes = Vec::with_capacity(alloc, room_for(look, text))?;
     add_backgrounds(&mut shapes, look, rect)?;
     add_borders(&mut shapes, look, rect)?;
     match text {
@@ -39,8 +39,37 @@ pub fn one_drawing()
     ensures { OneDrawing }
 {}
 
-#[tactic(auto, unfolding(crate::specs::Letters::block_of))]
+/// How many shapes there are at most, where the text has one line.
+fn room_for(look: &Look, text: Option<&Text>) -> usize {
+    let layers = look.background_color.as_slice().len();
+    let strips = look.border_color.as_slice().len().saturating_mul(4);
+    let lines = if text.is_some() { 1 } else { 0 };
+    layers.saturating_add(strips).saturating_add(lines)
+}
+
+/// Adds a text, which is one line unless it is wrapped.
 fn with_text(
+    alloc: Global,
+    mut shapes: Vec<Shape>,
+    look: &Look,
+    rect: Rect,
+    text: &Text,
+) -> Result<Vec<Shape>, AllocError>
+    requires near { IsNear rect }
+    requires fills { shapes.items ≡ shown (backgrounds look.now rect) ++ shown (borders look.now rect) }
+    ensures { IfOk result (λ shapes. IsTextDrawing look.now rect text.now shapes.items) }
+{
+    if look.wrap_text {
+        return with_lines(alloc, shapes, look, rect, text);
+    }
+    let block = block_of(look, rect, 1);
+    let line = text.copy(alloc)?;
+    add_line(&mut shapes, &block, 0, line)?;
+    Ok(shapes)
+}
+
+#[tactic(auto, unfolding(crate::specs::Letters::block_of))]
+fn with_lines(
     alloc: Global,
     mut shapes: Vec<Shape>,
     look: &Look,

@@ -1,5 +1,5 @@
 -- A row of letters is the rows of its glyphs side by side, and a row of a glyph is three bits side by side.
-use Rattle.std.proofs.Common.{◌≡◌, ◌<◌, ◌≤◌, ◌+◌, ◌-◌, ◌*◌, ◌/◌, ◌%◌, ◌&&◌, ◌||◌, ◌+ℤ◌, ◌-ℤ◌, ◌≤ℤ◌, ◌<ℤ◌, ℕ, ℤ, pos, negsuc, suc, zero, Bool, true, false, cond, List, [], ◌∷◌, ◌++◌, refl, sym, ap, ◌∙◌, arith, inl, inr, leb, nat_lt}
+use Rattle.std.proofs.Common.{◌≡◌, ◌<◌, ◌≤◌, ◌+◌, ◌-◌, ◌*◌, ◌^◌, ◌/◌, ◌%◌, ◌&&◌, ◌||◌, ◌+ℤ◌, ◌-ℤ◌, ◌≤ℤ◌, ◌<ℤ◌, ◌==◌, ℕ, ℤ, pos, negsuc, suc, zero, Bool, true, false, cond, List, [], ◌∷◌, ◌++◌, refl, sym, ap, ◌∙◌, arith, inl, inr, leb, nat_lt}
 use Rattle.std.specs.Prelude.{int_le, int_lt}
 use Rattle.std.proofs.lemmas.Bool.Decides.{leb_tells, nat_tests}
 use Rattle.std.proofs.lemmas.Int.{ints, by_lt_z}
@@ -69,7 +69,7 @@ in_low a b m p = grind (arith, nat_tests)
 in_high : (a b m : ℕ) → b ≤ m → is_in a b m ≡ false
 in_high a b m p = grind (arith, nat_tests)
 
-and_false : (a : Bool) → (a && false) ≡ false
+pub and_false : (a : Bool) → (a && false) ≡ false
 and_false true = refl
 and_false false = refl
 
@@ -246,7 +246,7 @@ char_none pen start c x h = by_column (char_dots pen start c x ≡ false) start 
     (λ m e. (let off : is_in 0 (4 * cell_width c * pen.scale) m ≡ false = in_high 0 (4 * cell_width c * pen.scale) m (rw h (omega arith)) in
     char_nat pen start c x m e ∙ rw off refl))
 
-three_false : (a b c : Bool) (t u v : Bool) → t ≡ false → u ≡ false → v ≡ false → (((a && t) || (b && u)) || (c && v)) ≡ false
+pub three_false : (a b c : Bool) (t u v : Bool) → t ≡ false → u ≡ false → v ≡ false → (((a && t) || (b && u)) || (c && v)) ≡ false
 three_false a b c t u v p q r = rw (p, q, r) (none a b c)
 
 pub bits_are : (pen : Pen) (start one two : ℤ) (c x : ℕ) → 0 < pen.scale → 1 ≤ cell_width c → one ≡ start +ℤ pos (1 * pen.scale) → two ≡ start +ℤ pos (2 * pen.scale)
@@ -374,6 +374,29 @@ line_apart pen start cs c x =
     mixed true false false u h = refl
     mixed false b t u h = refl
 
+-- below the rows of its glyphs a line is blank
+row_blank : (g q r : ℕ) → 5 ≤ r → has_dot g q r ≡ false
+unfolding has_dot
+row_blank g q r h = let off : nat_lt r 5 ≡ false = grind (arith, nat_tests, h) in rw off (ap (λ t. t && (g / 2 ^ (14 - (3 * r + q)) % 2 == 1)) (and_false (nat_lt q 3)))
+
+ink_blank : (cs : List ℕ) (s m b : ℕ) → 5 ≤ b / s → ink cs s m b ≡ false
+unfolding ink
+ink_blank [] s m b h = refl
+ink_blank (c ∷ cs) s m b h =
+    let off = row_blank (glyph_of c) (m / s) (b / s) h in
+    let rest = ink_blank cs s (m - 4 * cell_width c * s) b h in
+    rw (off, rest) (either (nat_lt m (4 * cell_width c * s)))
+  where
+    either : (t : Bool) → cond t false false ≡ false
+    either true = refl
+    either false = refl
+
+pub line_blank : (pen : Pen) (start : ℤ) (cs : List ℕ) (x : ℕ) → 5 ≤ pen.below / pen.scale → line_dots pen start cs x ≡ false
+unfolding line_dots
+line_blank pen start cs x h =
+    let off = ink_blank cs pen.scale (whole (pos x -ℤ start)) pen.below h in
+    rw off (and_false (in_range start (start +ℤ pos (4 * cells_of cs * pen.scale)) x))
+
 -- what lies before the rest doesn't see it
 pub line_rest : (pen : Pen) (start : ℤ) (cs ds : List ℕ) (x : ℕ) → pos x <ℤ (start +ℤ pos (4 * cells_of cs * pen.scale))
     → line_dots pen start cs x ≡ line_dots pen start (cs ++ ds) x
@@ -389,13 +412,6 @@ line_rest pen start cs ds x h =
     let here : nat_lt m w ≡ true = grind (arith, nat_tests, less) in
     let inks = ink-append cs ds pen.scale m pen.below in
     line_nat pen start cs x m e ∙ (rw (i0, i1, inks, here) refl ∙ sym (line_nat pen start (cs ++ ds) x m e))))
-
-pub bits_same : (pen : Pen) (start at0 at1 at2 : ℤ) (c x : ℕ) (a0 a1 a2 : Bool) → 0 < pen.scale → 1 ≤ cell_width c
-    → at0 ≡ start → at1 ≡ start +ℤ pos (1 * pen.scale) → at2 ≡ start +ℤ pos (2 * pen.scale)
-    → a0 ≡ has_dot (glyph_of c) 0 (pen.below / pen.scale) → a1 ≡ has_dot (glyph_of c) 1 (pen.below / pen.scale) → a2 ≡ has_dot (glyph_of c) 2 (pen.below / pen.scale)
-    → (((a0 && bit_dots pen at0 x) || (a1 && bit_dots pen at1 x)) || (a2 && bit_dots pen at2 x)) ≡ char_dots pen start c x
-bits_same pen start at0 at1 at2 c x a0 a1 a2 some wide p0 p1 p2 e0 e1 e2 =
-    rw (e0, e1, e2, p0) (bits_are pen start at1 at2 c x some wide p1 p2)
 
 or_apart : (a b c : Bool) → (a && c) ≡ false → (b && c) ≡ false → ((a || b) && c) ≡ false
 or_apart true b c h k = h

@@ -2,4 +2,5 @@ pub mod SpanLemmas
 pub mod DotLemmas
 pub mod CutLemmas
 pub mod LetterLemmas
+pub mod Bits
 pub mod ShapeLemmas

@@ -1,7 +1,8 @@
 -- What painting does to one row: the dots are laid over once each, and counted.
-use Rattle.std.specs.Prelude.{◌≡◌, ◌<◌, ◌≤◌, ℕ, ℤ, pos, Bool, ◌&&◌, ◌+◌, ◌-◌, ◌*◌, ◌/◌, ◌+ℤ◌, ◌-ℤ◌, List, count_by, length, nat_le, nat_lt, slice_index, if◌then◌else◌}
+use Rattle.std.specs.Prelude.{◌≡◌, ◌<◌, ◌≤◌, ℕ, ℤ, pos, Bool, ◌&&◌, ◌||◌, ◌+◌, ◌-◌, ◌*◌, ◌/◌, ◌+ℤ◌, ◌-ℤ◌, List, count_by, length, nat_le, nat_lt, slice_index, if◌then◌else◌}
 use Rattle.std.specs.List.{range_with_len}
 use Rattle.fx_base.specs.Pixel.{blended}
+use Rattle.fx_pens.specs.declared.runs.Bits.{Bits}
 use Rattle.fx_pens.specs.declared.spans.Pen.{Pen}
 use Rattle.fx_cells.specs.Columns.{cell_width, cells_of}
 use Rattle.fx_cells.specs.Font.{glyph_of}
@@ -34,6 +35,21 @@ pub record IsPen (pen : Pen) (row : List ℕ) : Type 0 where
 -- one bit of a glyph: a scale of columns from here on
 abbrev pub bit_dots : Pen → ℤ → ℕ → Bool
 bit_dots pen start x = in_range start (start +ℤ pos pen.scale) x
+
+-- the bits of a row of a glyph
+abbrev pub bits_of : ℕ → ℕ → Bits
+bits_of glyph row = record {
+  left = has_dot glyph 0 row;
+  middle = has_dot glyph 1 row;
+  right = has_dot glyph 2 row;
+}
+
+-- three bits side by side, of which the first begins here
+unfoldable pub row_dots : Pen → ℤ → Bits → ℕ → Bool
+row_dots pen start bits x =
+    ((bits.left && bit_dots pen start x)
+    || (bits.middle && bit_dots pen (start +ℤ pos (1 * pen.scale)) x))
+    || (bits.right && bit_dots pen (start +ℤ pos (2 * pen.scale)) x)
 
 -- the row of a glyph that the pen paints, in the first of the cells of a character that begin here
 unfoldable pub char_dots : Pen → ℤ → ℕ → ℕ → Bool

@@ -3,6 +3,7 @@
 #![tactic(auto)]
 
 mod letters;
+mod runs;
 mod shapes;
 mod spans;
 

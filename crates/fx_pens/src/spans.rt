@@ -1,11 +1,13 @@
 //! One colour over a part of a row.
-ghost use Rattle.std.specs.Prelude.{◌≡◌, ◌≤◌, ◌+ℤ◌, ◌≤ℤ◌, ◌&&◌, ◌+◌, ◌-◌, ℕ, pos, negsuc, ◌^◌, length, map};
+ghost use Rattle.std.specs.Prelude.{◌≡◌, ◌≤◌, ◌+ℤ◌, ◌≤ℤ◌, ◌&&◌, ◌+◌, ◌-◌, ℕ, pos, negsuc, ◌^◌};
+ghost use Rattle.std.specs.Prelude.{length, map, replicate, true};
 ghost use Rattle.fx_base.specs.Pixel.{blended, pixel_of};
 ghost use Rattle.fx_lanes.specs.Blending.{packed_color};
 ghost use Rattle.fx_pens.specs.Dots.{IsLaid, IsPen, bit_dots, is_in};
 
 use fx_base::{Color, Steps};
 use fx_lanes::{blend_row, fill};
+use std::simd::prelude::*;
 use std::sync::ledger::Ledger;
 
 /// What paints a row: the columns that it may touch, how wide a bit of a glyph is, how far the row lies below the first
@@ -27,6 +29,7 @@ pub struct Columns {
 }
 
 /// Paints the columns from one on and before another.
+#[inline(always)]
 pub(crate) fn lay_span<P: Ledger>(
     row: &mut [u32],
     pen: Pen,
@@ -65,7 +68,7 @@ pub(crate) fn lay_bit<P: Ledger>(
 }
 
 /// A column, cut to the pen's.
-fn cut(pen: Pen, at: i128) -> usize
+pub(crate) fn cut(pen: Pen, at: i128) -> usize
     requires rises { pen.left ≤ pen.right }
     requires near { pen.right ≤ 65536 }
     ensures low { at ≤ℤ pos pen.left → result ≡ pen.left }
@@ -89,13 +92,49 @@ fn behind(start: i128, scale: u64) -> i128
     start + i128::from(scale)
 }
 
+/// Few opaque pixels are written right here, as most spans of letters are.
+#[inline(always)]
 fn lay_color(row: &mut [u32], color: Color)
+    ensures { row.new ≡ map (blended color) row.old }
+{
+    if is_small(row.len(), color) {
+        write_few(row, opaque(color));
+    } else {
+        lay_long(row, color);
+    }
+}
+
+#[inline(always)]
+fn is_small(pixels: usize, color: Color) -> bool
+    ensures { result ≡ true → color.a ≡ 255 }
+{
+    pixels < 16 && color.a == 255
+}
+
+#[inline(never)]
+fn lay_long(row: &mut [u32], color: Color)
     ensures { row.new ≡ map (blended color) row.old }
 {
     if color.a == 255 {
         fill(row, opaque(color));
     } else {
         blend_row(row, packed(color));
+    }
+}
+
+/// Writes a colour, 0x00RRGGBB, to every pixel of a row.
+#[inline(always)]
+fn write_few(row: &mut [u32], color: u32)
+    ensures { row.new ≡ replicate (length row.old) color }
+{
+    let lanes = u32x4::splat(color);
+    let mut at = 0;
+    while row.len() - at >= 4 {
+        lanes.copy_to_slice(&mut row[at..]);
+        at += 4;
+    }
+    for i in at..row.len() {
+        row[i] = color;
     }
 }
 

@@ -8,8 +8,14 @@ use Rattle.std.proofs.lemmas.List.{length_push, take_all, take_more, take-append
 use Rattle.fx_cells.specs.Columns.{cell_width, cells_of}
 use Rattle.fx_pens.specs.Dots.{char_dots, line_dots}
 use Rattle.fx_pens.proofs.DotLemmas.{laid-none, laid-same, laid-then}
-use Rattle.fx_pens.proofs.LetterLemmas.{add_more, le_from, line_apart, line_more, line_nil, line_rest, wide_one}
+use Rattle.fx_pens.proofs.LetterLemmas.{add_more, le_from, line_apart, line_blank, line_more, line_nil, line_rest, wide_one}
 use Rattle.fx_pens.proofs.letters.lay_line.Goals as goal
+
+pub returns-then-line-ge5 : goal.returns-then-line-ge5
+returns-then-line-ge5 g c =
+    let low = c.if-line-ge5.true in
+    laid-none c.args.pen (line_dots c.args.pen c.args.first (chars c.args.text.now)) c.args.row.now c.args.painted.now c.requires.rises
+    (λ x a b. line_blank c.args.pen c.args.first (chars c.args.text.now) x low)
 
 pub loop-c-init : goal.loop-c-init
 loop-c-init g c =

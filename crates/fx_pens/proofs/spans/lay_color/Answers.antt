@@ -4,9 +4,9 @@ use Rattle.fx_base.specs.Pixel.{blended, pixel_of}
 use Rattle.fx_pens.proofs.SpanLemmas.{blended-opaque, map-constant}
 use Rattle.fx_pens.proofs.spans.lay_color.Goals as goal
 
-pub returns-then-color-eq255 : goal.returns-then-color-eq255
-returns-then-color-eq255 c =
-    c.fill.ensures
+pub returns-then-is_small : goal.returns-then-is_small
+returns-then-is_small c =
+    c.write_few.ensures
     ∙ (ap (replicate (length c.args.row.now)) c.opaque.ensures
     ∙ sym (map-constant (blended c.args.color) (pixel_of c.args.color.r c.args.color.g c.args.color.b) c.args.row.now
-    (λ under. blended-opaque c.args.color under c.if-color-eq255.true)))
+    (λ under. blended-opaque c.args.color under (c.is_small.ensures c.if-is_small.true))))

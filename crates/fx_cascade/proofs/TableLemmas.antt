@@ -9,10 +9,11 @@ use Rattle.std.proofs.lemmas.List.Sums.{fails_before_first}
 use Rattle.fx_look.specs.StyleRows.{style_named}
 use Rattle.fx_css_types.specs.declared.sheets.Candidate.{Candidate}
 use Rattle.fx_cascade.specs.declared.sources.Source.{Source}
+use Rattle.fx_cascade.specs.declared.sources.Source.TheVariants as source
 use Rattle.fx_cascade.specs.declared.others.NamedSource.{NamedSource}
 use Rattle.fx_cascade.specs.Sources.{voice}
 use Rattle.fx_cascade.specs.Ranks.{greater, greater_of}
-use Rattle.fx_cascade.specs.Tables.{Table, row_source, source_at, source_of, under, with_greater}
+use Rattle.fx_cascade.specs.Tables.{Table, row_source, slot, slots, source_at, source_of, under, with_greater}
 use Rattle.fx_cascade.specs.Winners.{hear}
 use Rattle.fx_cascade.proofs.NameLemmas.{apart, equal_name, one_row, same_name}
 
@@ -206,7 +207,32 @@ pub none_kept : (rows : List (Option Source)) (others : List NamedSource) (name 
 unfolding source_of
 none_kept rows others name none empty = none_at (style_named name) rows others name none empty
 
--- rows without a winner, however many
-pub none_rows : (n : ℕ) → all_none (replicate n None)
-none_rows zero = none-nil
-none_rows (suc n) = none-cons (replicate n None) (none_rows n)
+pub slot_at : (heard : List Bool) (sources : List Source) (i : ℕ)
+    → get_or (slots heard sources) i None ≡ slot (get_or heard i false) (get_or sources i (source.Code false))
+slot_at [] sources i = refl
+slot_at (h ∷ hs) [] zero = refl
+slot_at (h ∷ hs) [] (suc i) = slot_at hs [] i
+slot_at (h ∷ hs) (s ∷ ss) zero = refl
+slot_at (h ∷ hs) (s ∷ ss) (suc i) = slot_at hs ss i
+
+pub slots_set : (heard : List Bool) (sources : List Source) (i : ℕ) (s : Source) → i < length heard
+    → i < length sources → slots (set heard i true) (set sources i s) ≡ set (slots heard sources) i (Some s)
+slots_set [] sources i s marked within = absurd (omega arith)
+slots_set (h ∷ hs) [] i s marked within = absurd (omega arith)
+slots_set (h ∷ hs) (t ∷ ss) zero s marked within = refl
+slots_set (h ∷ hs) (t ∷ ss) (suc i) s marked within =
+    ap (λ l. slot h t ∷ l) (slots_set hs ss i s (omega arith) (omega arith))
+
+pub slots_within : (heard : List Bool) (sources : List Source) (i : ℕ) → i < length heard → i < length sources
+    → i < length (slots heard sources)
+slots_within [] sources i marked within = absurd (omega arith)
+slots_within (h ∷ hs) [] i marked within = absurd (omega arith)
+slots_within (h ∷ hs) (s ∷ ss) zero marked within = omega arith
+slots_within (h ∷ hs) (s ∷ ss) (suc i) marked within =
+    let more : i < length (slots hs ss) = slots_within hs ss i (omega arith) (omega arith) in omega (arith, more)
+
+-- rows of which nothing was heard, however many
+pub none_heard : (n : ℕ) (sources : List Source) → all_none (slots (replicate n false) sources)
+none_heard zero sources = none-nil
+none_heard (suc n) [] = none-cons (slots (replicate n false) []) (none_heard n [])
+none_heard (suc n) (s ∷ ss) = none-cons (slots (replicate n false) ss) (none_heard n ss)

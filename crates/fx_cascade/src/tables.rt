@@ -5,11 +5,12 @@ ghost use Rattle.fx_look.specs.StyleRows.{style_named};
 ghost use Rattle.fx_css_types.specs.Limits.{AreWithinLimits, IsKeptDeclaration, row_of};
 ghost use Rattle.fx_cascade.specs.Sources.{best_source, code_voice, declarations_of, declared_voices, row_name, rule_at, rule_voices, voice};
 ghost use Rattle.fx_cascade.specs.Winners.{hear, heard};
-ghost use Rattle.fx_cascade.specs.Tables.{AreRows, IsRaised, source_of};
+ghost use Rattle.fx_cascade.specs.Ranks.{greater};
+ghost use Rattle.fx_cascade.specs.Tables.{AreRows, IsRaised, row_source, source_of};
 
 use crate::one_property::declarations_at;
 use crate::others::{NamedSource, place_of, under};
-use crate::ranks::{greater, greater_of};
+use crate::ranks::greater_of;
 use crate::sources::Source;
 use fx_base::{Ledgers, Text, Work};
 use fx_css_types::{Candidate, Declaration, SheetAt};
@@ -17,20 +18,21 @@ use fx_look::{CodeValue, STYLE_COUNT, StyleName};
 use std::alloc::{AllocError, Global};
 use std::marker::Model;
 
-/// What wins each property of a node: of the rows of the style table by row, of other names by name. Contracts ask it
-/// for a name.
+/// What wins each property of a node: of the rows of the style table by row, where something was heard of it, and of
+/// other names by name. Contracts ask it for a name. A table that serves again clears the marks alone.
 #[derive(Drop)]
 pub struct Winners {
-    rows: [Option<Source>; STYLE_COUNT],
+    heard: [bool; STYLE_COUNT],
+    rows: [Source; STYLE_COUNT],
     others: Vec<NamedSource>,
 }
 
 impl Model for Winners {
-    ghost use Rattle.fx_cascade.specs.Tables.{Table};
+    ghost use Rattle.fx_cascade.specs.Tables.{Table, slots};
 
     ghost Value = { Table };
 
-    ghost view = { λ w. record { rows = w.rows; others = w.others.items } };
+    ghost view = { λ w. record { rows = slots w.heard w.rows; others = w.others.items } };
 }
 
 /// The winners of a node among the code values and the declarations of the rules that match it. Counts one styled node.
@@ -59,9 +61,18 @@ impl Winners {
         ensures { (name : List ℕ) → source_of result name ≡ None }
     {
         Winners {
-            rows: [None; STYLE_COUNT],
+            heard: [false; STYLE_COUNT],
+            rows: [Source::Code(false); STYLE_COUNT],
             others: Vec::new(alloc),
         }
+    }
+
+    /// Nothing has won any more.
+    pub fn clear(&mut self)
+        ensures { (name : List ℕ) → source_of self.new name ≡ None }
+    {
+        self.heard = [false; STYLE_COUNT];
+        self.others.clear();
     }
 
     /// Finds the winners of a node as `style_node` does, in place, where nothing has won.
@@ -87,11 +98,25 @@ impl Winners {
     }
 
     /// What wins the row of the style table at this place.
+    #[inline]
     pub fn row(&self, row: usize) -> Option<Source>
         requires { row < STYLE_COUNT }
         ensures { (name : List ℕ) → style_named name ≡ Some row → result ≡ source_of self.now name }
     {
-        self.rows[row]
+        self.slot(row)
+    }
+
+    /// What wins the row at this place, where something was heard of it.
+    #[inline]
+    fn slot(&self, row: usize) -> Option<Source>
+        requires { row < STYLE_COUNT }
+        ensures { result ≡ row_source self.now.rows row }
+    {
+        if self.heard[row] {
+            Some(self.rows[row])
+        } else {
+            None
+        }
     }
 
     /// What wins for a name that is no row of the style table.
@@ -103,12 +128,27 @@ impl Winners {
         under(self.others.as_slice(), said)
     }
 
+    /// The winner of the row after one more that speaks.
+    #[inline]
+    #[tactic(auto, unfolding(crate::specs::Ranks::greater))]
+    fn best_of(&self, matched: &[Candidate], row: usize, source: Source) -> Source
+        requires { row < STYLE_COUNT }
+        ensures { Some result ≡ greater matched.now (row_source self.now.rows row) source }
+    {
+        match self.slot(row) {
+            Some(best) => greater_of(matched, best, source),
+            None => source,
+        }
+    }
+
     fn hear_row(&mut self, matched: &[Candidate], row: usize, source: Source)
         requires { row < STYLE_COUNT }
         ensures { (said name : List ℕ) → style_named said ≡ Some row
             → source_of self.new name ≡ hear matched.now name (source_of self.old name) (voice said source) }
     {
-        self.rows[row] = greater(matched, self.rows[row], source);
+        let best = self.best_of(matched, row, source);
+        self.heard[row] = true;
+        self.rows[row] = best;
     }
 
     fn hear_other(

@@ -7,7 +7,6 @@ use Rattle.fx_base.specs.declared.geometry.Sides.{Sides}
 use Rattle.fx_node_style.specs.declared.looking.Lengths.{Lengths}
 use Rattle.fx_node_style.specs.declared.looking.Spaces.{Spaces}
 use Rattle.fx_node_style.specs.declared.looking.Truths.{Truths}
-use Rattle.fx_node_style.specs.declared.looking.Layers.{Layers}
 use Rattle.fx_look.specs.declared.looks.Look.{Look}
 use Rattle.fx_css_types.specs.declared.declarations.FoundValue.{FoundValue}
 use Rattle.fx_node_style.specs.declared.looking.Rows.{Rows}
@@ -46,6 +45,25 @@ truths_of row parent = record {
   fill_height = truth_in (row spec.fill_height_row) true parent.fill_height;
   wrap_text = truth_in (row spec.wrap_text_row) false parent.wrap_text;
   visibility = truth_in (row spec.visibility_row) true parent.visibility;
+}
+
+-- the layers of a look, and the colour of its text
+pub record Layers : Type 0 where
+  pub background_color : List Rgba
+  pub background_insets : List Sides
+  pub border_color : List Rgba
+  pub border_width : List Sides
+  pub border_insets : List Sides
+  pub text_fill : Rgba
+
+abbrev pub layers_on : Look → Layers
+layers_on look = record {
+  background_color = look.background_color;
+  background_insets = look.background_insets;
+  border_color = look.border_color;
+  border_width = look.border_width;
+  border_insets = look.border_insets;
+  text_fill = look.text_fill;
 }
 
 abbrev pub layers_of : (ℕ → Option FoundValue) → (List ℕ → Option Rgba) → Look → Layers

@@ -1,5 +1,5 @@
 //! What a row of a look is by the value that wins it, by the kind of the row.
-ghost use Rattle.std.specs.Prelude.{◌≡◌, ℕ, ℤ, Bool, Some, IfOk};
+ghost use Rattle.std.specs.Prelude.{◌≡◌, ◌∷◌, [], ℕ, ℤ, Bool, Some, IsTrue, OnOk};
 ghost use Rattle.fx_base.specs.declared.geometry.Sides.{Sides as Insets};
 ghost use Rattle.fx_css_types.specs.declared.declarations.FoundValue.TheVariants as found;
 ghost use Rattle.std.specs.Option.{option_map};
@@ -7,9 +7,10 @@ ghost use Rattle.fx_node_style.specs.Kinds.{length_in, truth_in, sides_in, layer
 ghost use Rattle.fx_node_style.specs.Values.{found_value};
 
 use crate::values::Winning;
-use fx_base::{List, Sides, Value};
+use fx_base::{List, Same, Sides, Value};
 use fx_css_types::Declared;
-use std::alloc::AllocError;
+use std::alloc::{AllocError, Global};
+use std::mem;
 
 /// A size: the one that wins, the parent's under `inherit`, else the initial one.
 pub fn length_in(found: Option<Winning>, unset: i64, parent: i64) -> i64
@@ -99,30 +100,51 @@ fn sides_of(value: &Value, unset: Sides) -> Sides
     }
 }
 
-/// The sides of layers, in the room of other ones.
-pub fn layers_in(
-    room: Vec<Sides>,
+/// The sides of layers, in the place of other ones.
+pub fn write_layers(
+    alloc: Global,
+    layers: &mut List<Sides>,
     found: Option<Winning>,
     unset: Sides,
     parent: &List<Sides>,
-) -> Result<List<Sides>, AllocError>
-    ensures { IfOk result (λ layers. layers ≡ layers_in (option_map found_value found.entry) unset parent.now) }
+) -> Result<(), AllocError>
+    ensures { OnOk result (layers.new ≡ layers_in (option_map found_value found.entry) unset parent.now) }
 {
     match found {
-        Some(Winning::Declared(Declared::SidesList(layers))) => filled(room, layers.as_slice()),
-        Some(Winning::Declared(Declared::Inherit)) => filled(room, parent.as_slice()),
-        _ => filled(room, &[unset]),
+        Some(Winning::Declared(Declared::SidesList(list))) => fill(alloc, layers, list.as_slice()),
+        Some(Winning::Declared(Declared::Inherit)) => fill(alloc, layers, parent.as_slice()),
+        _ => fill_one(alloc, layers, unset),
     }
 }
 
-fn filled(room: Vec<Sides>, layers: &[Sides]) -> Result<List<Sides>, AllocError>
-    ensures { IfOk result (λ list. list ≡ layers.now) }
+/// One layer of these sides, which mostly stands there already.
+fn fill_one(alloc: Global, layers: &mut List<Sides>, one: Sides) -> Result<(), AllocError>
+    ensures { OnOk result (layers.new ≡ one ∷ []) }
 {
-    let mut list = room;
-    list.clear();
-    list.reserve_exact(layers.len())?;
-    list.extend_from_slice(layers)?;
-    Ok(List::from_vec(list))
+    if is_one(layers.as_slice(), one) {
+        return Ok(());
+    }
+    fill(alloc, layers, &[one])
+}
+
+fn is_one(layers: &[Sides], one: Sides) -> bool
+    ensures { IsTrue result → layers.now ≡ one ∷ [] }
+{
+    match layers {
+        [only] => only.is_same(&one),
+        _ => false,
+    }
+}
+
+fn fill(alloc: Global, layers: &mut List<Sides>, sides: &[Sides]) -> Result<(), AllocError>
+    ensures { OnOk result (layers.new ≡ sides.now) }
+{
+    let mut items = mem::replace(layers, List::new(alloc)).into_vec();
+    items.clear();
+    items.reserve_exact(sides.len())?;
+    items.extend_from_slice(sides)?;
+    *layers = List::from_vec(items);
+    Ok(())
 }
 
 /// The place of a constant.

@@ -15,5 +15,5 @@ mod values;
 pub use laws::rows_are_named;
 pub use node_styles::NodeStyle;
 pub use rooms::Room;
-pub use styling::{Ground, style_in};
+pub use styling::{Ground, restyle, style_in};
 pub use values::Winning;

@@ -1,11 +1,10 @@
 //! The look of a node by the values that win the rows of the style table.
-ghost use Rattle.std.specs.Prelude.{◌≡◌, ◌<◌, ℕ, IfOk, map};
+ghost use Rattle.std.specs.Prelude.{◌≡◌, ◌<◌, ℕ, IfOk, OnOk, map};
 ghost use Rattle.fx_lookup.specs.Lookups.{resolved};
 ghost use Rattle.fx_node_style.specs.Kinds.{color_in, colors_in, layers_in, length_in, place_in, sides_in, truth_in};
-ghost use Rattle.fx_node_style.specs.Looking.{joined, layers_of, lengths_of, look_of, rows_of, spaces_of, truths_of};
+ghost use Rattle.fx_node_style.specs.Looking.{joined, layers_of, layers_on, lengths_of, look_of, rows_of, spaces_of, truths_of};
 ghost use Rattle.fx_node_style.specs.Values.{WinsBy};
 
-use crate::rooms::LayersRoom;
 use crate::values::row_value;
 use crate::{kinds, paints};
 use fx_base::{Color, List, Sides};
@@ -73,19 +72,21 @@ impl Rows<'_> {
         )
     }
 
-    fn layers(
+    fn write_layers(
         self,
-        room: Vec<Sides>,
+        alloc: Global,
+        layers: &mut List<Sides>,
         row: usize,
         unset: Sides,
         parent: &List<Sides>,
-    ) -> Result<List<Sides>, AllocError>
+    ) -> Result<(), AllocError>
         requires wins { WinsBy self.winners.now self.sheets.now self.matched.now self.codes.now }
         requires there { row < STYLE_COUNT }
-        ensures { IfOk result (λ layers. layers ≡ layers_in (rows_of self.entry row) unset parent.now) }
+        ensures { OnOk result (layers.new ≡ layers_in (rows_of self.entry row) unset parent.now) }
     {
-        kinds::layers_in(
-            room,
+        kinds::write_layers(
+            alloc,
+            layers,
             row_value(self.sheets, self.matched, self.codes, self.winners, row),
             unset,
             parent,
@@ -116,22 +117,22 @@ impl<'a> Rows<'a> {
         )
     }
 
-    fn colors(
+    fn write_colors(
         self,
         alloc: Global,
-        room: Vec<Color>,
+        colors: &mut List<Color>,
         row: usize,
         chain: &[&'a [NamedPaint]],
         parent: &List<Color>,
-    ) -> Result<List<Color>, AllocError>
+    ) -> Result<(), AllocError>
         requires wins { WinsBy self.winners.now self.sheets.now self.matched.now self.codes.now }
         requires there { row < STYLE_COUNT }
-        ensures { IfOk result (λ colors. colors
+        ensures { OnOk result (colors.new
             ≡ colors_in (resolved (map (λ n. n.now) chain.now)) (rows_of self.entry row) parent.now) }
     {
-        paints::colors_in(
+        paints::write_colors(
             alloc,
-            room,
+            colors,
             row_value(self.sheets, self.matched, self.codes, self.winners, row),
             chain,
             parent,
@@ -187,17 +188,8 @@ struct Truths {
     visibility: bool,
 }
 
-#[derive(Drop)]
-struct Layers {
-    background_color: List<Color>,
-    background_insets: List<Sides>,
-    border_color: List<Color>,
-    border_width: List<Sides>,
-    border_insets: List<Sides>,
-    text_fill: Color,
-}
-
 impl Rows<'_> {
+    #[inline]
     #[tactic(auto, unfolding(fx_look::specs::Styles::styles))]
     fn lengths(self, parent: &Look) -> Lengths
         requires wins { WinsBy self.winners.now self.sheets.now self.matched.now self.codes.now }
@@ -213,6 +205,7 @@ impl Rows<'_> {
         }
     }
 
+    #[inline]
     #[tactic(auto, unfolding(fx_look::specs::Styles::styles))]
     fn spaces(self, parent: &Look) -> Spaces
         requires wins { WinsBy self.winners.now self.sheets.now self.matched.now self.codes.now }
@@ -228,6 +221,7 @@ impl Rows<'_> {
         }
     }
 
+    #[inline]
     #[tactic(auto, unfolding(fx_look::specs::Styles::styles))]
     fn truths(self, parent: &Look) -> Truths
         requires wins { WinsBy self.winners.now self.sheets.now self.matched.now self.codes.now }
@@ -242,120 +236,119 @@ impl Rows<'_> {
     }
 }
 
+/// Writes the layers of a look and the colour of its text.
 #[tactic(auto, unfolding(fx_look::specs::Styles::styles))]
-fn layers_of<'a>(
+fn write_layers<'a>(
     alloc: Global,
-    room: LayersRoom,
+    look: &mut Look,
     rows: Rows<'a>,
     chain: &[&'a [NamedPaint]],
     parent: &Look,
-) -> Result<Layers, AllocError>
+) -> Result<(), AllocError>
     requires wins { WinsBy rows.winners.now rows.sheets.now rows.matched.now rows.codes.now }
-    ensures { IfOk result (λ layers. layers
+    ensures { OnOk result (layers_on look.new
         ≡ layers_of (rows_of rows.entry) (resolved (map (λ n. n.now) chain.now)) parent.now) }
 {
-    Ok(Layers {
-        background_color: rows.colors(
-            alloc,
-            room.background_color,
-            StyleKey::BackgroundColor as usize,
-            chain,
-            &parent.background_color,
-        )?,
-        background_insets: rows.layers(
-            room.background_insets,
-            StyleKey::BackgroundInsets as usize,
-            ZERO,
-            &parent.background_insets,
-        )?,
-        border_color: rows.colors(
-            alloc,
-            room.border_color,
-            StyleKey::BorderColor as usize,
-            chain,
-            &parent.border_color,
-        )?,
-        border_width: rows.layers(
-            room.border_width,
-            StyleKey::BorderWidth as usize,
-            ONE,
-            &parent.border_width,
-        )?,
-        border_insets: rows.layers(
-            room.border_insets,
-            StyleKey::BorderInsets as usize,
-            ZERO,
-            &parent.border_insets,
-        )?,
-        text_fill: rows.color(
-            alloc,
-            StyleKey::TextFill as usize,
-            chain,
-            BLACK,
-            parent.text_fill,
-        )?,
-    })
+    rows.write_colors(
+        alloc,
+        &mut look.background_color,
+        StyleKey::BackgroundColor as usize,
+        chain,
+        &parent.background_color,
+    )?;
+    rows.write_layers(
+        alloc,
+        &mut look.background_insets,
+        StyleKey::BackgroundInsets as usize,
+        ZERO,
+        &parent.background_insets,
+    )?;
+    rows.write_colors(
+        alloc,
+        &mut look.border_color,
+        StyleKey::BorderColor as usize,
+        chain,
+        &parent.border_color,
+    )?;
+    rows.write_layers(
+        alloc,
+        &mut look.border_width,
+        StyleKey::BorderWidth as usize,
+        ONE,
+        &parent.border_width,
+    )?;
+    rows.write_layers(
+        alloc,
+        &mut look.border_insets,
+        StyleKey::BorderInsets as usize,
+        ZERO,
+        &parent.border_insets,
+    )?;
+    look.text_fill = rows.color(
+        alloc,
+        StyleKey::TextFill as usize,
+        chain,
+        BLACK,
+        parent.text_fill,
+    )?;
+    Ok(())
 }
 
-/// The look of a node by its rows, its paints and its ancestors', and its parent's look, in the room of another.
+/// Writes the look of a node, by its rows, its paints and its ancestors', and its parent's look, in the place of
+/// another.
 #[tactic(auto, unfolding(crate::specs::Looking::look_of, fx_look::specs::Styles::styles))]
-pub fn look_of<'a>(
+pub fn write_look<'a>(
     alloc: Global,
-    room: LayersRoom,
+    look: &mut Look,
     rows: Rows<'a>,
     chain: &[&'a [NamedPaint]],
     alignment: u8,
     parent: &Look,
-) -> Result<Look, AllocError>
+) -> Result<(), AllocError>
     requires wins { WinsBy rows.winners.now rows.sheets.now rows.matched.now rows.codes.now }
-    ensures { IfOk result (λ look. look ≡ look_of (rows_of rows.entry) (resolved (map
+    ensures { OnOk result (look.new ≡ look_of (rows_of rows.entry) (resolved (map
         (λ n. n.now) chain.now)) alignment parent.now) }
 {
-    let layers = layers_of(alloc, room, rows, chain, parent)?;
+    write_layers(alloc, look, rows, chain, parent)?;
     let padding = rows.sides(StyleKey::Padding as usize, ZERO, parent.padding);
     let alignment = rows.place(StyleKey::Alignment as usize, alignment, parent.alignment);
-    Ok(joined(
+    write_fields(
+        look,
         padding,
         alignment,
         rows.spaces(parent),
         rows.lengths(parent),
         rows.truths(parent),
-        layers,
-    ))
+    );
+    Ok(())
 }
 
-fn joined(
+/// Writes all fields but those of layers and the colour of the text.
+#[inline]
+fn write_fields(
+    look: &mut Look,
     padding: Sides,
     alignment: u8,
     spaces: Spaces,
     lengths: Lengths,
     truths: Truths,
-    layers: Layers,
-) -> Look
-    ensures { result ≡ joined padding alignment spaces lengths truths layers }
+)
+    ensures { look.new ≡ joined padding alignment spaces lengths truths (layers_on look.old) }
 {
-    Look {
-        padding,
-        alignment,
-        spacing: spaces.spacing,
-        hgap: spaces.hgap,
-        vgap: spaces.vgap,
-        fill_width: truths.fill_width,
-        fill_height: truths.fill_height,
-        min_width: lengths.min_width,
-        min_height: lengths.min_height,
-        pref_width: lengths.pref_width,
-        pref_height: lengths.pref_height,
-        max_width: lengths.max_width,
-        max_height: lengths.max_height,
-        background_color: layers.background_color,
-        background_insets: layers.background_insets,
-        border_color: layers.border_color,
-        border_width: layers.border_width,
-        border_insets: layers.border_insets,
-        text_fill: layers.text_fill,
-        font_size: spaces.font_size,
-        wrap_text: truths.wrap_text,
-        visibility: truths.visibility,
-    }
+    look.padding = padding;
+    look.alignment = alignment;
+    look.spacing = spaces.spacing;
+    look.hgap = spaces.hgap;
+    look.vgap = spaces.vgap;
+    look.fill_width = truths.fill_width;
+    look.fill_height = truths.fill_height;
+    look.min_width = lengths.min_width;
+    look.min_height = lengths.min_height;
+    look.pref_width = lengths.pref_width;
+    look.pref_height = lengths.pref_height;
+    look.max_width = lengths.max_width;
+    look.max_height = lengths.max_height;
+    look.font_size = spaces.font_size;
+    look.wrap_text = truths.wrap_text;
+    look.visibility = truths.visibility;
 }

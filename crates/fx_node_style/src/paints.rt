@@ -1,5 +1,5 @@
 //! Paints, some of which are looked up.
-ghost use Rattle.std.specs.Prelude.{◌≡◌, [], Some, IfOk, map};
+ghost use Rattle.std.specs.Prelude.{◌≡◌, [], Some, IfOk, OnOk, map};
 ghost use Rattle.std.specs.Option.{option_map};
 ghost use Rattle.fx_lookup.specs.Lookups.{resolved};
 ghost use Rattle.fx_css_types.specs.declared.declarations.FoundValue.TheVariants as found;
@@ -11,6 +11,7 @@ use fx_base::{Color, List, Value};
 use fx_css_types::{Declared, Paint};
 use fx_lookup::{NamedPaint, resolve};
 use std::alloc::{AllocError, Global};
+use std::mem;
 
 fn painted<'a>(
     alloc: Global,
@@ -84,73 +85,91 @@ fn declared_color<'a>(
     }
 }
 
-/// The colours of layers of paints, in the room of other ones; a layer whose name gives no colour is transparent.
-pub fn colors_in<'a>(
+/// The colours of layers of paints, in the place of other ones; a layer whose name gives no colour is transparent.
+pub fn write_colors<'a>(
     alloc: Global,
-    room: Vec<Color>,
+    colors: &mut List<Color>,
     found: Option<Winning<'a>>,
     chain: &[&'a [NamedPaint]],
     parent: &List<Color>,
-) -> Result<List<Color>, AllocError>
-    ensures { IfOk result (λ colors. colors
+) -> Result<(), AllocError>
+    ensures { OnOk result (colors.new
         ≡ colors_in (resolved (map (λ n. n.now) chain.now)) (option_map found_value found.entry) parent.now) }
 {
     match found {
-        Some(Winning::Declared(declared)) => declared_colors(alloc, room, declared, chain, parent),
-        _ => Ok(emptied(room)),
+        Some(Winning::Declared(declared)) => {
+            write_declared(alloc, colors, declared, chain, parent)
+        }
+        _ => {
+            empty(alloc, colors);
+            Ok(())
+        }
     }
 }
 
-fn declared_colors<'a>(
+fn write_declared<'a>(
     alloc: Global,
-    room: Vec<Color>,
+    colors: &mut List<Color>,
     declared: &'a Declared,
     chain: &[&'a [NamedPaint]],
     parent: &List<Color>,
-) -> Result<List<Color>, AllocError>
-    ensures { IfOk result (λ colors. colors
+) -> Result<(), AllocError>
+    ensures { OnOk result (colors.new
         ≡ colors_in (resolved (map (λ n. n.now) chain.now)) (Some (found.Declared declared.now)) parent.now) }
 {
     match declared {
-        Declared::Paints(paints) => layers(alloc, room, paints.as_slice(), chain),
-        Declared::Inherit => filled(room, parent.as_slice()),
-        _ => Ok(emptied(room)),
+        Declared::Paints(paints) => write_painted(alloc, colors, paints.as_slice(), chain),
+        Declared::Inherit => fill(alloc, colors, parent.as_slice()),
+        _ => {
+            empty(alloc, colors);
+            Ok(())
+        }
     }
 }
 
-fn emptied(room: Vec<Color>) -> List<Color>
-    ensures { result ≡ [] }
+fn empty(alloc: Global, colors: &mut List<Color>)
+    ensures { colors.new ≡ [] }
 {
-    let mut list = room;
-    list.clear();
-    List::from_vec(list)
+    match colors.as_slice() {
+        [] => (),
+        [_, ..] => *colors = List::from_vec(emptied(alloc, colors)),
+    }
 }
 
-fn filled(room: Vec<Color>, colors: &[Color]) -> Result<List<Color>, AllocError>
-    ensures { IfOk result (λ list. list ≡ colors.now) }
+/// The memory of the colours, with nothing in it.
+fn emptied(alloc: Global, colors: &mut List<Color>) -> Vec<Color>
+    ensures { result.items ≡ [] }
 {
-    let mut list = room;
-    list.clear();
-    list.reserve_exact(colors.len())?;
-    list.extend_from_slice(colors)?;
-    Ok(List::from_vec(list))
+    let mut items = mem::replace(colors, List::new(alloc)).into_vec();
+    items.clear();
+    items
 }
 
-fn layers<'a>(
+fn fill(alloc: Global, colors: &mut List<Color>, from: &[Color]) -> Result<(), AllocError>
+    ensures { OnOk result (colors.new ≡ from.now) }
+{
+    let mut items = emptied(alloc, colors);
+    items.reserve_exact(from.len())?;
+    items.extend_from_slice(from)?;
+    *colors = List::from_vec(items);
+    Ok(())
+}
+
+fn write_painted<'a>(
     alloc: Global,
-    room: Vec<Color>,
+    colors: &mut List<Color>,
     paints: &'a [Paint],
     chain: &[&'a [NamedPaint]],
-) -> Result<List<Color>, AllocError>
-    ensures { IfOk result (λ colors. colors ≡ colors_of (resolved (map (λ n. n.now) chain.now)) paints.now) }
+) -> Result<(), AllocError>
+    ensures { OnOk result (colors.new ≡ colors_of (resolved (map (λ n. n.now) chain.now)) paints.now) }
 {
-    let mut colors = room;
-    colors.clear();
-    colors.reserve_exact(paints.len())?;
+    let mut items = emptied(alloc, colors);
+    items.reserve_exact(paints.len())?;
     for paint in paints {
-        colors.push(color_or(alloc, paint, chain, TRANSPARENT)?)?;
+        items.push(color_or(alloc, paint, chain, TRANSPARENT)?)?;
     }
-    Ok(List::from_vec(colors))
+    *colors = List::from_vec(items);
+    Ok(())
 }
 
 /// No colour (JavaFX `Color.TRANSPARENT`).

@@ -2,7 +2,7 @@
 ghost use Rattle.std.specs.Prelude.{◌≡◌, []};
 
 use crate::node_styles::NodeStyle;
-use fx_base::{Color, Sides};
+use fx_base::{Color, List, Sides};
 use fx_look::Look;
 use fx_lookup::NamedPaint;
 use std::alloc::Global;
@@ -58,7 +58,56 @@ impl Room {
     }
 }
 
+impl Room {
+    /// A style in this room. What it is doesn't matter.
+    pub fn into_style(self) -> NodeStyle {
+        let Room { layers, paints } = self;
+        NodeStyle {
+            look: layers.into_look(),
+            paints: List::from_vec(paints),
+        }
+    }
+}
+
 impl LayersRoom {
+    fn into_look(self) -> Look {
+        let none = Sides {
+            top: 0,
+            right: 0,
+            bottom: 0,
+            left: 0,
+        };
+        Look {
+            padding: none,
+            alignment: 0,
+            spacing: 0,
+            hgap: 0,
+            vgap: 0,
+            fill_width: true,
+            fill_height: true,
+            min_width: 0,
+            min_height: 0,
+            pref_width: 0,
+            pref_height: 0,
+            max_width: 0,
+            max_height: 0,
+            background_color: List::from_vec(self.background_color),
+            background_insets: List::from_vec(self.background_insets),
+            border_color: List::from_vec(self.border_color),
+            border_width: List::from_vec(self.border_width),
+            border_insets: List::from_vec(self.border_insets),
+            text_fill: Color {
+                r: 0,
+                g: 0,
+                b: 0,
+                a: 0,
+            },
+            font_size: 0,
+            wrap_text: false,
+            visibility: true,
+        }
+    }
+
     fn of(look: Look) -> LayersRoom
         ensures backgrounds { (result.background_color.items ≡ look.background_color)
             × (result.background_insets.items ≡ look.background_insets) }

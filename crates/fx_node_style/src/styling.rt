@@ -1,5 +1,5 @@
 //! The style of a node from the rules that match it and the styles of its ancestors.
-ghost use Rattle.std.specs.Prelude.{◌≡◌, ◌∷◌, ◌+◌, IfOk, map};
+ghost use Rattle.std.specs.Prelude.{◌≡◌, ◌∷◌, ◌+◌, IfOk, OnOk, map};
 ghost use Rattle.std.specs.Option.{option_copied};
 ghost use Rattle.fx_look.specs.Looks.{initial_look};
 ghost use Rattle.fx_lookup.specs.Lookups.{resolved};
@@ -11,15 +11,16 @@ ghost use Rattle.fx_node_style.specs.Styling.{inherited, style_under, style_with
 ghost use Rattle.fx_node_style.specs.Values.{WinsBy, row_value};
 
 use crate::keeping::kept_paints;
-use crate::looking::{Rows, look_of};
+use crate::looking::{Rows, write_look};
 use crate::node_styles::NodeStyle;
-use crate::rooms::{LayersRoom, Room};
+use crate::rooms::Room;
 use fx_base::{Ledgers, List, Work};
 use fx_cascade::Winners;
 use fx_css_types::{Candidate, SheetAt};
 use fx_look::{CodeValue, Look};
 use fx_lookup::NamedPaint;
 use std::alloc::{AllocError, Global};
+use std::mem;
 
 /// What the style of a node hangs on: the sheets and the rules of them that match it, its code values, the alignment of
 /// its class, its parent's look, and the paints of its ancestors from the nearest.
@@ -47,21 +48,43 @@ pub fn style_in<L: Ledgers>(
         (option_copied ground.entry.parent) (map (λ n. n.now) ground.entry.above.now)) }
     ensures cost { work.new ≡ record work.old { styled = work.old.styled + 1 } }
 {
+    let mut style = room.into_style();
     let mut winners = Winners::new(alloc);
+    restyle(alloc, &mut style, &mut winners, ground, work)?;
+    Ok(style)
+}
+
+/// Makes the style of a node as `style_in` does, in the place of another style and in this table of winners, whatever
+/// they hold.
+pub fn restyle<L: Ledgers>(
+    alloc: Global,
+    style: &mut NodeStyle,
+    winners: &mut Winners,
+    ground: Ground<'_>,
+    work: &mut Work<L>,
+) -> Result<(), AllocError>
+    requires rows { AreRows ground.codes.now }
+    requires sheets { AreWithinLimits ground.sheets.now }
+    ensures style { OnOk result (style.new
+        ≡ style_under ground.entry.sheets.now ground.entry.matched.now ground.entry.codes.now ground.entry.alignment
+        (option_copied ground.entry.parent) (map (λ n. n.now) ground.entry.above.now)) }
+    ensures cost { work.new ≡ record work.old { styled = work.old.styled + 1 } }
+{
+    winners.clear();
     winners.find(alloc, ground.sheets, ground.matched, ground.codes, work)?;
-    styled_by(alloc, room, ground, &winners)
+    write_style(alloc, style, ground, winners)
 }
 
 #[tactic(auto, unfolding(crate::specs::Styling::style_under))]
-fn styled_by(
+fn write_style(
     alloc: Global,
-    room: Room,
+    style: &mut NodeStyle,
     ground: Ground<'_>,
     winners: &Winners,
-) -> Result<NodeStyle, AllocError>
+) -> Result<(), AllocError>
     requires wins { WinsBy winners.now ground.sheets.now ground.matched.now ground.codes.now }
     requires sheets { AreWithinLimits ground.sheets.now }
-    ensures { IfOk result (λ style. style
+    ensures { OnOk result (style.new
         ≡ style_under ground.entry.sheets.now ground.entry.matched.now ground.entry.codes.now ground.entry.alignment
         (option_copied ground.entry.parent) (map (λ n. n.now) ground.entry.above.now)) }
 {
@@ -71,41 +94,42 @@ fn styled_by(
         codes: ground.codes,
         winners,
     };
-    let Room { layers, paints } = room;
-    let paints = kept_paints(alloc, paints, rows)?;
-    let look = look_by(alloc, layers, rows, ground, paints.as_slice())?;
-    Ok(NodeStyle {
-        look,
-        paints: List::from_vec(paints),
-    })
+    let room = mem::replace(&mut style.paints, List::new(alloc)).into_vec();
+    let paints = kept_paints(alloc, room, rows)?;
+    write_look_by(alloc, &mut style.look, rows, ground, paints.as_slice())?;
+    style.paints = List::from_vec(paints);
+    Ok(())
 }
 
-fn look_by<'a>(
+fn write_look_by<'a>(
     alloc: Global,
-    room: LayersRoom,
+    look: &mut Look,
     rows: Rows<'a>,
     ground: Ground<'a>,
     paints: &'a [NamedPaint],
-) -> Result<Look, AllocError>
+) -> Result<(), AllocError>
     requires wins { WinsBy rows.winners.now rows.sheets.now rows.matched.now rows.codes.now }
-    ensures { IfOk result (λ look. look ≡ look_of (rows_of rows.entry)
+    ensures { OnOk result (look.new ≡ look_of (rows_of rows.entry)
         (resolved (paints.now ∷ map (λ n. n.now) ground.entry.above.now)) ground.entry.alignment
         (inherited ground.entry.alignment (option_copied ground.entry.parent))) }
 {
     match paints {
-        [] => look_under(
-            alloc,
-            room,
-            rows,
-            ground.above,
-            ground.alignment,
-            ground.parent,
-        ),
+        [] => {
+            write_under(
+                alloc,
+                look,
+                rows,
+                ground.above,
+                ground.alignment,
+                ground.parent,
+            )?;
+            Ok(())
+        }
         [_, ..] => {
             let chain = chain_of(alloc, paints, ground.above)?;
-            look_under(
+            write_under(
                 alloc,
-                room,
+                look,
                 rows,
                 chain.as_slice(),
                 ground.alignment,
@@ -115,23 +139,23 @@ fn look_by<'a>(
     }
 }
 
-fn look_under<'a>(
+fn write_under<'a>(
     alloc: Global,
-    room: LayersRoom,
+    look: &mut Look,
     rows: Rows<'a>,
     chain: &[&'a [NamedPaint]],
     alignment: u8,
     parent: Option<&Look>,
-) -> Result<Look, AllocError>
+) -> Result<(), AllocError>
     requires wins { WinsBy rows.winners.now rows.sheets.now rows.matched.now rows.codes.now }
-    ensures { IfOk result (λ look. look ≡ look_of (rows_of rows.entry) (resolved (map (λ n. n.now) chain.now)) alignment
+    ensures { OnOk result (look.new ≡ look_of (rows_of rows.entry) (resolved (map (λ n. n.now) chain.now)) alignment
         (inherited alignment (option_copied parent.entry))) }
 {
     match parent {
-        Some(parent) => look_of(alloc, room, rows, chain, alignment, parent),
+        Some(parent) => write_look(alloc, look, rows, chain, alignment, parent),
         None => {
             let initial = Look::initial(alloc, alignment)?;
-            look_of(alloc, room, rows, chain, alignment, &initial)
+            write_look(alloc, look, rows, chain, alignment, &initial)
         }
     }
 }

@@ -26,7 +26,7 @@ use Rattle.fx_stage_facts.proofs.LoopLemmas.{next_left}
 -- no node yet
 
 pub draft_none : (world : World) (stands : List Stand) (draft : Draft) → stands ≡ []
-    → draft.sheets.items ≡ common_sheets world.graph → draft.styles.items ≡ [] → draft.boxes.items ≡ []
+    → draft.sheets ≡ common_sheets world.graph → draft.styles ≡ [] → draft.boxes ≡ []
     → IsDraft world stands draft
 draft_none world stands draft none sheets styles boxes = record {
   sheets = sheets
@@ -64,13 +64,13 @@ more_styles world start (first ∷ rest) stand =
 
 pub draft_next : (world : World) (stands now : List Stand) (stand : Stand) (before after : Draft)
     → now ≡ stands ++ stand ∷ []
-    → after.sheets.items ≡ before.sheets.items ++ sheets_at world.graph stand
-    → after.styles.items ≡ before.styles.items ++ style_at world (length before.sheets.items) stand ∷ []
-    → after.boxes.items ≡ before.boxes.items ++ box_at world stand ∷ []
+    → after.sheets ≡ before.sheets ++ sheets_at world.graph stand
+    → after.styles ≡ before.styles ++ style_at world (length before.sheets) stand ∷ []
+    → after.boxes ≡ before.boxes ++ box_at world stand ∷ []
     → IsDraft world stands before → IsDraft world now after
 draft_next world stands now stand before after are sheets styles boxes so_far =
     let common = common_sheets world.graph in
-    let long : length before.sheets.items ≡ length common + length (flat_map (sheets_at world.graph) stands) =
+    let long : length before.sheets ≡ length common + length (flat_map (sheets_at world.graph) stands) =
     ap length so_far.sheets ∙ length-append common (flat_map (sheets_at world.graph) stands) in
     record {
       sheets = sheets
@@ -79,7 +79,7 @@ draft_next world stands now stand before after are sheets styles boxes so_far =
           ∙ ap (λ (ss : List SheetAt). common ++ ss) (sym (more_sheets world stands stand))
           ∙ ap (λ (ss : List Stand). common ++ flat_map (sheets_at world.graph) ss) (sym are);
       styles = styles
-          ∙ ap (λ (fs : List StyleFacts). fs ++ style_at world (length before.sheets.items) stand ∷ []) so_far.styles
+          ∙ ap (λ (fs : List StyleFacts). fs ++ style_at world (length before.sheets) stand ∷ []) so_far.styles
           ∙ ap (λ (n : ℕ). styles_from world (length common) stands ++ style_at world n stand ∷ []) long
           ∙ sym (more_styles world (length common) stands stand)
           ∙ ap (styles_from world (length common)) (sym are);
@@ -126,9 +126,9 @@ pub facts_drafted : (world : World) (keys : List NodeKey) (place : ℕ) (standin
     → standing.marks.items ≡ map (is_set_disabled world) (take place keys) → IsDraft world standing.stands.items draft
     → ◌≡◌ {A = Facts}
     (record {
-      sheets = draft.sheets.items;
-      styles = draft.styles.items;
-      boxes = draft.boxes.items;
+      sheets = draft.sheets;
+      styles = draft.styles;
+      boxes = draft.boxes;
       disabled = standing.marks.items;
       window = world.window;
     })
@@ -137,10 +137,10 @@ unfolding facts_of
 facts_drafted world keys place standing draft attached past stands marks drafted =
     let nodes : standing.stands.items ≡ stands_of world =
     sym (ap (stands_from world standing.stands.items) (drop_all place keys past)) ∙ stands ∙ ap (stands_from world []) attached in
-    let one : draft.sheets.items ≡ sheets_of world =
+    let one : draft.sheets ≡ sheets_of world =
     drafted.sheets
     ∙ ap (λ (ss : List Stand). common_sheets world.graph ++ flat_map (sheets_at world.graph) ss) nodes in
-    let two : draft.styles.items ≡ style_facts world =
+    let two : draft.styles ≡ style_facts world =
     drafted.styles ∙ ap (styles_from world (length (common_sheets world.graph))) nodes in
     let three = drafted.boxes ∙ ap (map (box_at world)) nodes in
     let four =

@@ -7,5 +7,6 @@ pub mod LoopLemmas
 pub mod PlaceLemmas
 pub mod PublishLemmas
 pub mod ReadLemmas
+pub mod RefillLemmas
 pub mod TreeLemmas
 pub mod ValueLemmas

@@ -10,6 +10,6 @@ use Rattle.fx_stage_facts.specs.Styles.{styles_from}
 
 -- these are the sheets and the facts of these nodes
 pub record IsDraft (world : World) (stands : List Stand) (draft : Draft) : Type 0 where
-  pub sheets : draft.sheets.items ≡ common_sheets world.graph ++ flat_map (sheets_at world.graph) stands
-  pub styles : draft.styles.items ≡ styles_from world (length (common_sheets world.graph)) stands
-  pub boxes : draft.boxes.items ≡ map (box_at world) stands
+  pub sheets : draft.sheets ≡ common_sheets world.graph ++ flat_map (sheets_at world.graph) stands
+  pub styles : draft.styles ≡ styles_from world (length (common_sheets world.graph)) stands
+  pub boxes : draft.boxes ≡ map (box_at world) stands

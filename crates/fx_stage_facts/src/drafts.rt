@@ -1,20 +1,21 @@
 //! The lists of a frame's facts while they are made, one node after another, so that each node is looked up once.
-ghost use Rattle.std.specs.Prelude.{◌≡◌, ◌++◌, ◌∷◌, [], IfOk, OnOk, Some, length};
+ghost use Rattle.std.specs.Prelude.{◌≡◌, ◌≤◌, ◌+◌, ◌++◌, ◌∷◌, [], IfOk, OnOk, Some, length};
 ghost use Rattle.fx_stage_types.specs.Tables.{data_of};
-ghost use Rattle.fx_stage_facts.specs.Boxes.{bare_box as spec_box, box_at};
+ghost use Rattle.fx_stage_facts.specs.Boxes.{bare_box as spec_box, box_at, box_in};
 ghost use Rattle.fx_stage_facts.specs.Reads.{IsRead, IsReadAt};
 ghost use Rattle.fx_stage_facts.specs.Sheets.{common_sheets as common_of, sheets_at};
 ghost use Rattle.fx_stage_facts.specs.Stands.{AreOnce, stand_of as next_stand};
-ghost use Rattle.fx_stage_facts.specs.Styles.{bare_style as spec_style, style_at};
+ghost use Rattle.fx_stage_facts.specs.Styles.{bare_style as spec_style, style_at, style_in};
 ghost use Rattle.fx_stage_facts.specs.Values.{is_set_disabled};
 
-use crate::boxes::{bare_box, box_with};
+use crate::boxes::{bare_box, refill_box};
 use crate::places::{Asked, Places};
+use crate::refills::Refill;
 use crate::sheets::{common_sheets, push_own};
 use crate::stands::{Stand, stand_of};
-use crate::styles::{Spot, bare_style, style_with};
+use crate::styles::{Spot, bare_style, refill_style};
 use crate::values::truth_in;
-use fx_base::NodeKey;
+use fx_base::{List, NodeKey};
 use fx_css_types::SheetAt;
 use fx_kinds::{BoxFacts, StyleFacts};
 use fx_stage::Stage;
@@ -22,12 +23,12 @@ use fx_stage_graph::Graph;
 use fx_stage_types::NodeData;
 use std::alloc::{AllocError, Global};
 
-/// The facts of the nodes so far, and all sheets.
+/// The facts of the nodes so far, and all sheets, each list over an older one.
 #[derive(Drop)]
 pub struct Draft {
-    pub sheets: Vec<SheetAt>,
-    pub styles: Vec<StyleFacts>,
-    pub boxes: Vec<BoxFacts>,
+    pub sheets: Refill<SheetAt>,
+    pub styles: Refill<StyleFacts>,
+    pub boxes: Refill<BoxFacts>,
 }
 
 /// Where the nodes so far stand, and which of them are disabled themselves.
@@ -38,15 +39,23 @@ pub struct Standing {
 }
 
 impl Draft {
-    /// No facts, with room for those of so many nodes, and the sheets that count for every node.
-    pub(crate) fn with_room(alloc: Global, graph: &Graph, count: usize) -> Result<Draft, AllocError>
-        ensures sheets { IfOk result (λ draft. draft.sheets.items ≡ common_of graph.now) }
-        ensures styles { IfOk result (λ draft. draft.styles.items ≡ []) }
-        ensures boxes { IfOk result (λ draft. draft.boxes.items ≡ []) }
+    /// No facts, over these lists and with room for the facts of so many nodes, and the sheets that count for every
+    /// node.
+    pub(crate) fn over(
+        alloc: Global,
+        graph: &Graph,
+        sheets: List<SheetAt>,
+        styles: List<StyleFacts>,
+        boxes: List<BoxFacts>,
+        count: usize,
+    ) -> Result<Draft, AllocError>
+        ensures sheets { IfOk result (λ draft. draft.sheets ≡ common_of graph.now) }
+        ensures styles { IfOk result (λ draft. draft.styles ≡ []) }
+        ensures boxes { IfOk result (λ draft. draft.boxes ≡ []) }
     {
-        let sheets = common_sheets(alloc, graph)?;
-        let styles = Vec::with_capacity(alloc, count)?;
-        let boxes = Vec::with_capacity(alloc, count)?;
+        let sheets = common_sheets(alloc, graph, sheets)?;
+        let styles = Refill::with_room(styles, count)?;
+        let boxes = Refill::with_room(boxes, count)?;
         Ok(Draft {
             sheets,
             styles,
@@ -56,13 +65,18 @@ impl Draft {
 }
 
 impl Standing {
-    /// No nodes, and room for so many.
-    pub(crate) fn with_room(alloc: Global, count: usize) -> Result<Standing, AllocError>
+    /// No nodes, and room for so many. The marks stand in the memory of old ones.
+    pub(crate) fn over(
+        alloc: Global,
+        disabled: List<bool>,
+        count: usize,
+    ) -> Result<Standing, AllocError>
         ensures stands { IfOk result (λ standing. standing.stands.items ≡ []) }
         ensures marks { IfOk result (λ standing. standing.marks.items ≡ []) }
     {
         let stands = Vec::with_capacity(alloc, count)?;
-        let marks = Vec::with_capacity(alloc, count)?;
+        let mut marks = disabled.into_vec();
+        marks.clear();
         Ok(Standing { stands, marks })
     }
 
@@ -79,12 +93,65 @@ impl Standing {
 
 /// Puts the facts of a node that has nothing behind the others.
 fn push_bare(alloc: Global, draft: &mut Draft, stand: Stand) -> Result<(), AllocError>
-    ensures sheets { OnOk result (draft.new.sheets.items ≡ draft.old.sheets.items) }
-    ensures styles { OnOk result (draft.new.styles.items ≡ draft.old.styles.items ++ spec_style stand ∷ []) }
-    ensures boxes { OnOk result (draft.new.boxes.items ≡ draft.old.boxes.items ++ spec_box stand ∷ []) }
+    ensures sheets { OnOk result (draft.new.sheets ≡ draft.old.sheets) }
+    ensures styles { OnOk result (draft.new.styles ≡ draft.old.styles ++ spec_style stand ∷ []) }
+    ensures boxes { OnOk result (draft.new.boxes ≡ draft.old.boxes ++ spec_box stand ∷ []) }
 {
     draft.styles.push(bare_style(alloc, stand))?;
     draft.boxes.push(bare_box(alloc, stand))?;
+    Ok(())
+}
+
+/// Puts the style's facts of a node that has something behind the others.
+fn put_style(
+    alloc: Global,
+    styles: &mut Refill<StyleFacts>,
+    stage: &Stage,
+    places: &Places,
+    spot: Spot,
+    stand: Stand,
+    node: &NodeData,
+) -> Result<(), AllocError>
+    requires class { places.now ≡ node.now.class }
+    requires read { IsRead stage.now.store node.now }
+    requires room { spot.start + length node.now.sheets ≤ spot.end }
+    requires common { spot.common ≡ length (common_of stage.now.graph) }
+    ensures { OnOk result (styles.new ≡ styles.old ++ style_in stage.now spot.start stand (Some node.now) ∷ []) }
+{
+    if styles.count == styles.items.len() {
+        let mut facts = bare_style(alloc, stand);
+        refill_style(alloc, &mut facts, stage, places, spot, stand, node)?;
+        return styles.push(facts);
+    }
+    let place = styles.count;
+    let facts = &mut styles.items[place];
+    refill_style(alloc, facts, stage, places, spot, stand, node)?;
+    styles.count += 1;
+    Ok(())
+}
+
+/// Puts the box's facts of a node that has something behind the others.
+fn put_box(
+    alloc: Global,
+    boxes: &mut Refill<BoxFacts>,
+    stage: &Stage,
+    places: &Places,
+    stand: Stand,
+    node: &NodeData,
+) -> Result<(), AllocError>
+    requires class { places.now ≡ node.now.class }
+    requires read { IsRead stage.now.store node.now }
+    ensures { OnOk result (boxes.new ≡ boxes.old ++ box_in stage.now.store.entries stand (Some node.now) ∷ []) }
+{
+    if boxes.count == boxes.items.len() {
+        let mut facts = bare_box(alloc, stand);
+        refill_box(alloc, &mut facts, stage, places, stand, node)?;
+        return boxes.push(facts);
+    }
+    let place = boxes.count;
+    let facts = &mut boxes.items[place];
+    refill_box(alloc, facts, stage, places, stand, node)?;
+    boxes.count += 1;
     Ok(())
 }
 
@@ -102,11 +169,10 @@ fn push_facts(
     requires read { IsRead stage.now.store node.now }
     requires here { data_of stage.now.graph.table stand.key ≡ Some node.now }
     requires common { common ≡ length (common_of stage.now.graph) }
-    ensures sheets { OnOk result (draft.new.sheets.items
-        ≡ draft.old.sheets.items ++ sheets_at stage.now.graph stand) }
-    ensures styles { OnOk result (draft.new.styles.items
-        ≡ draft.old.styles.items ++ style_at stage.now (length draft.old.sheets.items) stand ∷ []) }
-    ensures boxes { OnOk result (draft.new.boxes.items ≡ draft.old.boxes.items ++ box_at stage.now stand ∷ []) }
+    ensures sheets { OnOk result (draft.new.sheets ≡ draft.old.sheets ++ sheets_at stage.now.graph stand) }
+    ensures styles { OnOk result (draft.new.styles
+        ≡ draft.old.styles ++ style_at stage.now (length draft.old.sheets) stand ∷ []) }
+    ensures boxes { OnOk result (draft.new.boxes ≡ draft.old.boxes ++ box_at stage.now stand ∷ []) }
 {
     let start = draft.sheets.len();
     push_own(
@@ -118,10 +184,8 @@ fn push_facts(
     )?;
     let end = draft.sheets.len();
     let spot = Spot { common, start, end };
-    let style = style_with(alloc, stage, places, spot, stand, node)?;
-    draft.styles.push(style)?;
-    let facts = box_with(alloc, stage, places, stand, node)?;
-    draft.boxes.push(facts)?;
+    put_style(alloc, &mut draft.styles, stage, places, spot, stand, node)?;
+    put_box(alloc, &mut draft.boxes, stage, places, stand, node)?;
     Ok(())
 }
 
@@ -142,12 +206,12 @@ pub(crate) fn push_node(
         ≡ standing.old.stands.items ++ next_stand stage.now standing.old.stands.items key ∷ []) }
     ensures marks { OnOk result (standing.new.marks.items
         ≡ standing.old.marks.items ++ is_set_disabled stage.now key ∷ []) }
-    ensures sheets { OnOk result (draft.new.sheets.items ≡ draft.old.sheets.items
+    ensures sheets { OnOk result (draft.new.sheets ≡ draft.old.sheets
         ++ sheets_at stage.now.graph (next_stand stage.now standing.old.stands.items key)) }
-    ensures styles { OnOk result (draft.new.styles.items ≡ draft.old.styles.items
-        ++ style_at stage.now (length draft.old.sheets.items)
+    ensures styles { OnOk result (draft.new.styles ≡ draft.old.styles
+        ++ style_at stage.now (length draft.old.sheets)
         (next_stand stage.now standing.old.stands.items key) ∷ []) }
-    ensures boxes { OnOk result (draft.new.boxes.items ≡ draft.old.boxes.items
+    ensures boxes { OnOk result (draft.new.boxes ≡ draft.old.boxes
         ++ box_at stage.now (next_stand stage.now standing.old.stands.items key) ∷ []) }
 {
     match stage.graph().node(key) {

@@ -1,5 +1,5 @@
 //! All that a frame takes from a stage.
-ghost use Rattle.std.specs.Prelude.{◌≡◌, ◌≤◌, ◌+◌, IfOk, OnErr, OnOk, true};
+ghost use Rattle.std.specs.Prelude.{◌≡◌, ◌≤◌, ◌+◌, [], IfOk, None, OnErr, OnOk, true};
 ghost use Rattle.fx_stage_model.specs.Taking.{IsReadSome};
 ghost use Rattle.fx_tree.specs.Scene.{is_once};
 ghost use Rattle.fx_stage_facts.specs.Attached.{attached_keys, look_cost, looked};
@@ -14,6 +14,7 @@ use fx_css_types::SheetAt;
 use fx_kinds::{BoxFacts, Class, StyleFacts};
 use fx_stage::Stage;
 use std::alloc::{AllocError, Global};
+use std::mem::replace;
 
 /// What a frame is made of: all style sheets, the facts of the nodes in the scene, in pre-order, whether each of them
 /// is disabled itself, and the window if there is one, as width and height in pixels.
@@ -26,12 +27,27 @@ pub struct Facts {
     pub window: Option<(u32, u32)>,
 }
 
+impl Facts {
+    /// No sheet, no node and no window.
+    pub fn new(alloc: Global) -> Facts
+        ensures { result ≡ record { sheets = []; styles = []; boxes = []; disabled = []; window = None } }
+    {
+        Facts {
+            sheets: List::new(alloc),
+            styles: List::new(alloc),
+            boxes: List::new(alloc),
+            disabled: List::new(alloc),
+            window: None,
+        }
+    }
+}
+
 /// The facts that these lists make.
 fn finished(stage: &Stage, standing: Standing, draft: Draft) -> Facts
     ensures { result ≡ record {
-      sheets = draft.sheets.items;
-      styles = draft.styles.items;
-      boxes = draft.boxes.items;
+      sheets = draft.sheets;
+      styles = draft.styles;
+      boxes = draft.boxes;
       disabled = standing.marks.items;
       window = stage.now.window;
     } }
@@ -43,23 +59,30 @@ fn finished(stage: &Stage, standing: Standing, draft: Draft) -> Facts
     } = draft;
     let Standing { marks, .. } = standing;
     Facts {
-        sheets: List::from_vec(sheets),
-        styles: List::from_vec(styles),
-        boxes: List::from_vec(boxes),
+        sheets: sheets.finish(),
+        styles: styles.finish(),
+        boxes: boxes.finish(),
         disabled: List::from_vec(marks),
         window: stage.window(),
     }
 }
 
-/// The facts of the nodes of these keys, whose properties were read.
-fn facts_at(alloc: Global, stage: &Stage, keys: &[NodeKey]) -> Result<Facts, AllocError>
+/// The facts of the nodes of these keys, whose properties were read, in the memory of old facts.
+fn facts_at(alloc: Global, stage: &Stage, keys: &[NodeKey], old: Facts) -> Result<Facts, AllocError>
     requires read { AreRead stage.now keys.now }
     requires keys { keys.now ≡ attached_keys stage.now }
     requires once { is_once keys.now ≡ true }
     ensures { IfOk result (λ facts. facts ≡ spec.facts_of stage.now) }
 {
-    let mut standing = Standing::with_room(alloc, keys.len())?;
-    let mut draft = Draft::with_room(alloc, stage.graph(), keys.len())?;
+    let Facts {
+        sheets,
+        styles,
+        boxes,
+        disabled,
+        ..
+    } = old;
+    let mut standing = Standing::over(alloc, disabled, keys.len())?;
+    let mut draft = Draft::over(alloc, stage.graph(), sheets, styles, boxes, keys.len())?;
     let common = draft.sheets.len();
     let mut places = Places::of(Class::Region);
     for key in keys {
@@ -96,6 +119,28 @@ fn look<L: Ledgers>(
     stage.read_all(alloc, names.as_slice(), work)
 }
 
+/// Reads the properties of all nodes in the scene, but their sizes, and makes these facts the ones that a frame is made
+/// of. What they held before doesn't matter: only their memory serves again. After want of memory they may hold
+/// anything.
+pub fn refresh_facts<L: Ledgers>(
+    alloc: Global,
+    stage: &mut Stage,
+    facts: &mut Facts,
+    work: &mut Work<L>,
+) -> Result<(), AllocError>
+    ensures facts { OnOk result (facts.new ≡ spec.facts_of stage.old) }
+    ensures ok { OnOk result (stage.new ≡ looked stage.old) }
+    ensures err { OnErr result (IsReadSome stage.old stage.new) }
+    ensures cost { work.new.evaluated ≤ work.old.evaluated + look_cost stage.old }
+    ensures others { work.new ≡ record work.old { evaluated = work.new.evaluated } }
+{
+    let keys = attached(alloc, stage.graph().tree())?;
+    look(alloc, stage, keys.as_slice(), work)?;
+    let old = replace(facts, Facts::new(alloc));
+    *facts = facts_at(alloc, stage, keys.as_slice(), old)?;
+    Ok(())
+}
+
 /// Reads the properties of all nodes in the scene, but their sizes, and lists what a frame is made of. All lists are
 /// made anew.
 pub fn read_facts<L: Ledgers>(
@@ -109,7 +154,7 @@ pub fn read_facts<L: Ledgers>(
     ensures cost { work.new.evaluated ≤ work.old.evaluated + look_cost stage.old }
     ensures others { work.new ≡ record work.old { evaluated = work.new.evaluated } }
 {
-    let keys = attached(alloc, stage.graph().tree())?;
-    look(alloc, stage, keys.as_slice(), work)?;
-    facts_at(alloc, stage, keys.as_slice())
+    let mut facts = Facts::new(alloc);
+    refresh_facts(alloc, stage, &mut facts, work)?;
+    Ok(facts)
 }

@@ -9,9 +9,10 @@ ghost use Rattle.fx_stage_facts.specs.Sheets.{common_sheets as common_of, inline
 ghost use Rattle.fx_stage_facts.specs.Styles as spec;
 
 use crate::places::{Asked, Places};
-use crate::sheets::places_of;
+use crate::refills::{Refill, push_all, refill_list};
+use crate::sheets::refill_places;
 use crate::stands::{Stand, is_same};
-use crate::values::text_in;
+use crate::values::refill_text;
 use fx_base::{List, Name, NodeKey, Text};
 use fx_css_types::Sheet;
 use fx_graph_model::Origin;
@@ -22,6 +23,7 @@ use fx_stage_graph::Graph;
 use fx_stage_types::NodeData;
 use fx_store::Store;
 use std::alloc::{AllocError, Global};
+use std::mem::replace;
 
 fn is_among(keys: &[NodeKey], key: NodeKey) -> bool
     ensures { result ≡ spec.is_among keys.now key }
@@ -39,37 +41,37 @@ fn is_focus(focus: Option<NodeKey>, key: NodeKey) -> bool
 }
 
 /// Puts the name behind the others, if it is so.
-fn push_if(alloc: Global, names: &mut Vec<Text>, so: bool, name: &str) -> Result<(), AllocError>
-    ensures { OnOk result (names.new.items ≡ names.old.items ++ spec.named_if so name.now) }
+fn push_if(alloc: Global, names: &mut Refill<Text>, so: bool, name: &str) -> Result<(), AllocError>
+    ensures { OnOk result (names.new ≡ names.old ++ spec.named_if so name.now) }
 {
     if !so {
         return Ok(());
     }
     match Text::from_str(alloc, name) {
-        Ok(name) => {
-            names.push(name)?;
-            Ok(())
-        }
+        Ok(name) => names.push(name),
         Err(_) => Err(AllocError),
     }
 }
 
-/// The pseudo-classes of a node.
-fn pseudos_of(
+/// Makes these names the pseudo-classes of a node.
+fn refill_pseudos(
     alloc: Global,
+    kept: &mut List<Text>,
     graph: &Graph,
     stand: Stand,
     node: &NodeData,
-) -> Result<List<Text>, AllocError>
-    ensures { IfOk result (λ names. names ≡ spec.pseudos_of graph.now stand node.now) }
+) -> Result<(), AllocError>
+    ensures { OnOk result (kept.new ≡ spec.pseudos_of graph.now stand node.now) }
 {
-    let mut names = node.pseudos.copy(alloc)?.into_vec();
+    let mut names = Refill::over(replace(kept, List::new(alloc)));
+    push_all(alloc, &mut names, node.pseudos.as_slice())?;
     let key = stand.key;
     push_if(alloc, &mut names, is_among(graph.hover(), key), "hover")?;
     push_if(alloc, &mut names, is_focus(graph.focus(), key), "focused")?;
     push_if(alloc, &mut names, is_among(graph.pressed(), key), "pressed")?;
     push_if(alloc, &mut names, stand.disabled, "disabled")?;
-    Ok(List::from_vec(names))
+    *kept = names.finish();
+    Ok(())
 }
 
 /// The value by code of a property that a declaration styles, if it has one.
@@ -116,13 +118,13 @@ fn is_first(store: &Store, name: Name) -> bool
 fn push_code(
     alloc: Global,
     store: &Store,
-    codes: &mut Vec<CodeValue>,
+    codes: &mut Refill<CodeValue>,
     name: Name,
     styled: Option<StyleName>,
 ) -> Result<(), AllocError>
     requires known { IfSome styled (λ _. unknown_in store.now.entries name.0 ≡ false) }
     requires read { IfSome styled (λ _. marked store.now.unread name.0 ≡ false) }
-    ensures { OnOk result (codes.new.items ≡ codes.old.items
+    ensures { OnOk result (codes.new ≡ codes.old
         ++ option_to_list (spec.code_of store.now.entries name.0 (option_map (λ style. style.0) styled))) }
 {
     let Some(style) = styled else {
@@ -133,25 +135,28 @@ fn push_code(
     }
     match code_with(alloc, store, name, style)? {
         None => Ok(()),
-        Some(code) => {
-            codes.push(code)?;
-            Ok(())
-        }
+        Some(code) => codes.push(code),
     }
 }
 
-/// The values by code of a node's properties.
-fn codes_of(alloc: Global, store: &Store, node: &NodeData) -> Result<List<CodeValue>, AllocError>
+/// Makes these values those by code of a node's properties.
+fn refill_codes(
+    alloc: Global,
+    kept: &mut List<CodeValue>,
+    store: &Store,
+    node: &NodeData,
+) -> Result<(), AllocError>
     requires { IsRead store.now node.now }
-    ensures { IfOk result (λ codes. codes
+    ensures { OnOk result (kept.new
         ≡ spec.codes_from store.now.entries node.now.first (properties_of node.now.class)) }
 {
-    let mut codes = Vec::new(alloc);
+    let mut codes = Refill::over(replace(kept, List::new(alloc)));
     for (place, row) in properties(node.class).iter().enumerate() {
         let name = Name(node.first + place as u32);
         push_code(alloc, store, &mut codes, name, row.styled)?;
     }
-    Ok(List::from_vec(codes))
+    *kept = codes.finish();
+    Ok(())
 }
 
 fn inline_place(place: usize, inline: &Option<Sheet>) -> Option<usize>
@@ -189,31 +194,38 @@ pub struct Spot {
     pub end: usize,
 }
 
-/// The facts of a node that has something.
-pub(crate) fn style_with(
+/// Makes these facts those of a node that has something.
+pub(crate) fn refill_style(
     alloc: Global,
+    facts: &mut StyleFacts,
     stage: &Stage,
     places: &Places,
     spot: Spot,
     stand: Stand,
     node: &NodeData,
-) -> Result<StyleFacts, AllocError>
+) -> Result<(), AllocError>
     requires class { places.now ≡ node.now.class }
     requires read { IsRead stage.now.store node.now }
     requires room { spot.start + length node.now.sheets ≤ spot.end }
     requires common { spot.common ≡ length (common_of stage.now.graph) }
-    ensures { IfOk result (λ facts. facts ≡ spec.style_in stage.now spot.start stand (Some node.now)) }
+    ensures { OnOk result (facts.new ≡ spec.style_in stage.now spot.start stand (Some node.now)) }
 {
     let end = spot.start + node.sheets.as_slice().len();
-    Ok(StyleFacts {
-        key: stand.key,
-        parent: stand.parent,
-        class: node.class,
-        id: text_in(alloc, stage, places, node, Asked::Id)?,
-        classes: node.classes.copy(alloc)?,
-        pseudos: pseudos_of(alloc, stage.graph(), stand, node)?,
-        inline: inline_place(end, &node.inline),
-        sheets: places_of(alloc, spot.common, stand.parent, spot.start, end)?,
-        codes: codes_of(alloc, stage.store(), node)?,
-    })
+    facts.key = stand.key;
+    facts.parent = stand.parent;
+    facts.class = node.class;
+    facts.inline = inline_place(end, &node.inline);
+    refill_text(alloc, &mut facts.id, stage, places, node, Asked::Id)?;
+    refill_list(alloc, &mut facts.classes, &node.classes)?;
+    refill_pseudos(alloc, &mut facts.pseudos, stage.graph(), stand, node)?;
+    refill_places(
+        alloc,
+        &mut facts.sheets,
+        spot.common,
+        stand.parent,
+        spot.start,
+        end,
+    )?;
+    refill_codes(alloc, &mut facts.codes, stage.store(), node)?;
+    Ok(())
 }

@@ -1,5 +1,5 @@
 //! The values of a node's properties, which were read.
-ghost use Rattle.std.specs.Prelude.{◌≡◌, ◌≤◌, IfOk, true};
+ghost use Rattle.std.specs.Prelude.{◌≡◌, ◌≤◌, OnOk, true};
 ghost use Rattle.std.specs.Option.{option_copied, option_map};
 ghost use Rattle.fx_stage_model.specs.Looking.{property_in};
 ghost use Rattle.fx_stage_facts.specs.Attached.{is_displayed};
@@ -8,7 +8,7 @@ ghost use Rattle.fx_stage_facts.specs.Reads.{IsRead};
 ghost use Rattle.fx_stage_facts.specs.Values as spec;
 
 use crate::places::{Asked, Places};
-use fx_base::{Name, Text, Value};
+use fx_base::{Name, Same, Text, Value};
 use fx_stage::Stage;
 use fx_stage_types::NodeData;
 use std::alloc::{AllocError, Global};
@@ -45,24 +45,39 @@ fn value_in<'a>(
     }
 }
 
-/// The text of the property; the empty one where the node has none.
+/// Makes the text the same as the other one. What is the same already is kept.
 #[inline]
-pub(crate) fn text_in(
+fn follow_text(alloc: Global, kept: &mut Text, next: &Text) -> Result<(), AllocError>
+    ensures { OnOk result (kept.new ≡ next.now) }
+{
+    if !kept.is_same(next) {
+        *kept = next.copy(alloc)?;
+    }
+    Ok(())
+}
+
+/// Makes the text that of the property; the empty one where the node has none.
+#[inline]
+pub(crate) fn refill_text(
     alloc: Global,
+    kept: &mut Text,
     stage: &Stage,
     places: &Places,
     node: &NodeData,
     asked: Asked,
-) -> Result<Text, AllocError>
+) -> Result<(), AllocError>
     requires class { places.now ≡ node.now.class }
     requires read { IsRead stage.now.store node.now }
     requires displayed { is_displayed (name_of asked) ≡ true }
-    ensures { IfOk result (λ text. text
+    ensures { OnOk result (kept.new
         ≡ spec.text_of (spec.value_in stage.now.store.entries node.now (name_of asked))) }
 {
     match value_in(stage, places, node, asked) {
-        Some(Value::Text(text)) => text.copy(alloc),
-        _ => Ok(Text::new(alloc)),
+        Some(Value::Text(text)) => follow_text(alloc, kept, text),
+        _ => {
+            *kept = Text::new(alloc);
+            Ok(())
+        }
     }
 }
 

@@ -7,5 +7,5 @@ use Rattle.fx_stage_facts.proofs.sheets.push_parents.Goals as goal
 
 pub returns-then-is_empty : goal.returns-then-is_empty
 returns-then-is_empty c =
-    none_put (from_origin (origin.Parent (depth_of c.args.tree.now.nodes c.args.key))) c.args.sheets.now.items c.args.own.now
+    none_put (from_origin (origin.Parent (depth_of c.args.tree.now.nodes c.args.key))) c.args.sheets.now c.args.own.now
     (eqb-true (length c.args.own.now) 0 (sym c.is_empty.ensures ∙ c.if-is_empty.true))

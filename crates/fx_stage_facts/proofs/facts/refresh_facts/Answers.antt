@@ -7,7 +7,7 @@ use Rattle.fx_stage_facts.specs.Attached.{attached_keys, keys_in}
 use Rattle.fx_stage_facts.specs.Reads.{AreRead}
 use Rattle.fx_stage_facts.specs.Scenes.{facts_of}
 use Rattle.fx_stage_facts.proofs.FactsLemmas.{facts_looked, on_ok}
-use Rattle.fx_stage_facts.proofs.facts.read_facts.Goals as goal
+use Rattle.fx_stage_facts.proofs.facts.refresh_facts.Goals as goal
 
 pub look-requires : goal.look-requires
 look-requires g c =
@@ -32,8 +32,4 @@ facts_at-requires-clause-once g c = ap is_once c.as_slice-2.ensures.value ∙ c.
 
 pub returns-clause-facts : goal.returns-clause-facts
 returns-clause-facts g c =
-    subst (λ (all : Facts). IfOk c.facts_at.result (λ (facts : Facts). facts ≡ all))
-    (ap facts_of c.in_ok-look.ensures.ok ∙ facts_looked c.args.stage.now) c.facts_at.ensures
-
-pub returns-clause-ok : goal.returns-clause-ok
-returns-clause-ok g c = on_ok c.facts_at.result c.in_ok-look.ensures.ok
+    c.in_ok-facts.ensures ∙ ap facts_of c.in_ok-look.ensures.ok ∙ facts_looked c.args.stage.now

@@ -4,7 +4,7 @@ use Rattle.fx_stage_rows.proofs.RowLemmas.{as_long, few_rows}
 use Rattle.fx_stage_facts.specs.Styles.{codes_from}
 use Rattle.fx_stage_facts.proofs.CodeLemmas.{row_known, row_not_unread}
 use Rattle.fx_stage_facts.proofs.LoopLemmas.{codes_next, piece_done, row_left}
-use Rattle.fx_stage_facts.proofs.styles.codes_of.Goals as goal
+use Rattle.fx_stage_facts.proofs.styles.refill_codes.Goals as goal
 
 pub overflow_cast-name : goal.overflow_cast-name
 overflow_cast-name c =
@@ -34,7 +34,7 @@ loop-place-preserved c =
     let first = c.args.node.now.first in
     let entries = c.args.store.now.entries in
     let place = c.loop-place.place in
-    piece_done c.loop-place.codes.items c.push_code.new.codes.items _
+    piece_done c.loop-place.codes c.push_code.new.codes _
     (codes_from entries (first + place) (drop place (properties_of class)))
     (codes_from entries (first + (place + 1)) (drop (place + 1) (properties_of class))) _ c.in_ok-push_code.ensures
     (codes_next entries first (properties_of class) place _

@@ -13,12 +13,13 @@ ghost use Rattle.fx_play_frames.specs.Games.{game_of, sight_of};
 ghost use Rattle.fx_play_frames.specs.Takings.{HasFrame, IsSmallRect, IsSmallTaken, last_behind, told_as};
 ghost use Rattle.fx_play_steps.specs.Traces.{course_of};
 ghost use Rattle.fx_pulse.specs.Rendering.{last_frame};
+ghost use Rattle.fx_pulse_kept.specs.Keeping.{boxes_in};
 ghost use Rattle.fx_stage_facts.specs.Publishing.{AreOnce, IsPublished, sized};
 ghost use Rattle.fx_stage_facts.specs.Scenes.{facts_of};
 ghost use Rattle.fx_stage_model.specs.World.{World};
 
 use crate::game::Game;
-use crate::scenes::{is_fit, scene_in, sizes_of};
+use crate::scenes::{facts_in, is_fit, scene_in, sizes_of};
 use crate::taking::{Shown, Taken};
 use fx_act::settle;
 use fx_base::{Ledgers, Rect, Work};
@@ -27,7 +28,7 @@ use fx_kinds::BoxFacts;
 use fx_play_steps::{Trace, print_told};
 use fx_pulse::{Frame, Renderer};
 use fx_stage::Stage;
-use fx_stage_facts::{Facts, publish, read_facts};
+use fx_stage_facts::{Facts, publish, refresh_facts};
 use fx_store_model::Notices;
 use std::alloc::{AllocError, Global};
 
@@ -108,14 +109,15 @@ fn drawn<L: Ledgers>(
         (counted work.old.styled work.old.laid work.old.painted)
         (counted work.new.styled work.new.laid work.new.painted)) }
 {
-    let facts = read_facts(alloc, stage, work)?;
-    let frame = draw(alloc, renderer, &facts, work)?;
+    let mut facts = facts_in(renderer.take_spare(alloc));
+    refresh_facts(alloc, stage, &mut facts, work)?;
+    let frame = draw(alloc, renderer, facts, work)?;
     let window = (frame.width, frame.height);
     let notices = publish_sizes(
         alloc,
         stage,
         window,
-        facts.boxes.as_slice(),
+        renderer.kept().boxes(),
         renderer.rects(),
         work,
     )?;
@@ -126,24 +128,26 @@ fn drawn<L: Ledgers>(
 fn draw<L: Ledgers>(
     alloc: Global,
     renderer: &mut Renderer,
-    facts: &Facts,
+    facts: Facts,
     work: &mut Work<L>,
 ) -> Result<Frame, AllocError>
-    ensures drawn { (world : World) → facts.now ≡ facts_of world
+    ensures drawn { (world : World) → facts ≡ facts_of world
         → IfOk result (IsDrawnAs world renderer.old renderer.new) }
-    ensures once { OnOk result (AreOnce (sizes facts.now.boxes renderer.new.rects)) }
+    ensures kept { OnOk result (boxes_in renderer.new.kept.last ≡ facts.boxes) }
+    ensures once { OnOk result (AreOnce (sizes facts.boxes renderer.new.rects)) }
     ensures small { IfOk result (λ frame. All IsSmallRect frame.damage.items) }
-    ensures work { (world : World) → facts.now ≡ facts_of world
+    ensures work { (world : World) → facts ≡ facts_of world
         → IfOk result (λ frame. IsDrawWork world renderer.old renderer.new frame
         (counted work.old.styled work.old.laid work.old.painted)
         (counted work.new.styled work.new.laid work.new.painted)) }
     ensures evaluated { OnOk result (work.new.evaluated ≡ work.old.evaluated) }
 {
+    let window = facts.window;
     let scene = scene_in(facts);
-    if !is_fit(alloc, scene, facts.window)? {
+    if !is_fit(alloc, scene.scene(), window)? {
         return Err(AllocError);
     }
-    let frame = renderer.pulse(alloc, scene, facts.window, work)?;
+    let frame = renderer.pulse(alloc, scene, window, work)?;
     if !is_shown(renderer, frame.damage.as_slice()) {
         return Err(AllocError);
     }

@@ -2,7 +2,7 @@
 ghost use Rattle.std.specs.Prelude.{◌≡◌, IfOk, IfSome, IsTrue, true};
 ghost use Rattle.fx_canvas.specs.Surfaces.{is_size};
 ghost use Rattle.fx_plain_frames.specs.Pulses.{scene_of, sizes_of};
-ghost use Rattle.fx_pulse_touched.specs.Sights.{seen};
+ghost use Rattle.fx_pulse_touched.specs.Sights.{scene_of as held, seen};
 ghost use Rattle.fx_pulse_model.specs.Scenes.{IsScene};
 ghost use Rattle.fx_stage_facts.specs.Scenes.{facts_of};
 ghost use Rattle.fx_stage_model.specs.World.{World};
@@ -10,21 +10,45 @@ ghost use Rattle.fx_stage_model.specs.World.{World};
 use fx_base::{NodeKey, Rect};
 use fx_css_limits::are_within_limits;
 use fx_kinds::BoxFacts;
-use fx_pulse::{Scene, is_scene};
+use fx_pulse::{Scene, SceneLists, is_scene};
 use fx_stage_facts::Facts;
 use std::alloc::{AllocError, Global};
 
 /// The scene of these facts.
 #[tactic(auto, unfolding(fx_stage_facts::specs::Scenes::facts_of))]
-pub(crate) fn scene_in(facts: &Facts) -> Scene<'_>
-    ensures scene { (world : World) → facts.now ≡ facts_of world → seen result ≡ scene_of world }
-    ensures boxes { result.boxes.now ≡ facts.now.boxes }
+pub(crate) fn scene_in(facts: Facts) -> SceneLists
+    ensures scene { (world : World) → facts ≡ facts_of world → held result ≡ scene_of world }
+    ensures boxes { result.boxes ≡ facts.boxes }
 {
-    Scene {
-        sheets: facts.sheets.as_slice(),
-        styles: facts.styles.as_slice(),
-        boxes: facts.boxes.as_slice(),
-        disabled: facts.disabled.as_slice(),
+    let Facts {
+        sheets,
+        styles,
+        boxes,
+        disabled,
+        ..
+    } = facts;
+    SceneLists {
+        sheets,
+        styles,
+        boxes,
+        disabled,
+    }
+}
+
+/// Facts in the memory of these lists.
+pub(crate) fn facts_in(lists: SceneLists) -> Facts {
+    let SceneLists {
+        sheets,
+        styles,
+        boxes,
+        disabled,
+    } = lists;
+    Facts {
+        sheets,
+        styles,
+        boxes,
+        disabled,
+        window: None,
     }
 }
 

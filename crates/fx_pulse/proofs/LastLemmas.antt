@@ -1,9 +1,11 @@
 -- The last picture is of nodes that hang and show as those of the scene, where it can be edited.
-use Rattle.std.proofs.Common.{refl, sym, ap, subst, ◌∙◌, ◌≡◌, ℕ, zero, suc, ◌+◌, ◌<◌, Bool, true, false, cond, List, ◌∷◌, filter, get_or, length, Option, Some, None, arith}
+use Rattle.std.proofs.Common.{refl, sym, ap, subst, ◌∙◌, ◌≡◌, ℕ, zero, suc, ◌+◌, ◌<◌, Bool, true, false, cond, List, [], ◌∷◌, filter, get_or, length, Option, Some, None, arith}
 use Rattle.std.specs.Prelude.{IfSome}
-use Rattle.std.specs.List.{range_with_len}
+use Rattle.std.specs.List.{list_all, range_with_len}
+use Rattle.std.proofs.lemmas.Bool.{true≢false}
 use Rattle.fx_base.specs.declared.geometry.Rect.{Rect}
 use Rattle.fx_look.specs.declared.looks.Look.{Look}
+use Rattle.fx_layout_sweeps.specs.Marks.{flag_in}
 use Rattle.fx_layout_sweeps.specs.Nodes.{no_node}
 use Rattle.fx_picture.specs.declared.entries.Entry.{Entry}
 use Rattle.fx_pulse_model.specs.Frames.{drawn_in}
@@ -11,7 +13,6 @@ use Rattle.fx_pulse_model.specs.Pictures.{Drawn, shown_places, shows}
 use Rattle.fx_pulse_model.specs.Scenes.{Scene, looks_of}
 use Rattle.fx_pulse_touched.proofs.ToldLemmas.{told_at}
 use Rattle.fx_pulse_kept.specs.Measuring.{AreOthersMarked, IsAsBefore}
-use Rattle.fx_pulse_kept.proofs.FollowLemmas.{some_free}
 use Rattle.fx_pulse_kept.proofs.StepLemmas.{as_many_boxes, same_there}
 use Rattle.fx_pulse.specs.Editing.{AreLast, IsEditable, IsShownScene, shown_in}
 use Rattle.fx_pulse.specs.declared.frames.Before.{Before}
@@ -42,6 +43,14 @@ same_places one other many same =
     ∙ ap (λ n. filter (shows other) (range_with_len 0 n)) many
 
 -- ---- the last picture
+some_free : (marks : List Bool) → list_all (λ mark. mark) marks ≡ false
+    → (p : ℕ) × (p < length marks) × (flag_in marks p ≡ false)
+some_free [] all = absurd (true≢false all)
+some_free (false ∷ marks) all = (zero, omega arith, refl)
+some_free (true ∷ marks) all =
+    let rest = some_free marks all in
+    (suc rest.0, omega (arith, rest.1), rest.2)
+
 pub last_is : (before : Option Before) (kept : Option Scene) (scene : Scene) (w h : ℕ) (rects : List Rect)
     (shown marks : List Bool) (olds : List Entry) → IsEditable before w h shown marks
     → IfSome before (λ (b : Before). (last : Scene) → kept ≡ Some last → IsShownScene last olds b.shown.now)

@@ -1,5 +1,5 @@
 -- The next picture, whole or by edits of the last one.
-use Rattle.std.specs.Prelude.{◌≡◌, ℕ, ◌<◌, Bool, false, List, length, slice_index_or, Option, Some, None}
+use Rattle.std.specs.Prelude.{◌≡◌, ℕ, ◌<◌, Bool, false, List, length, slice_index_or, Option, Some, None, IfSome}
 use Rattle.std.specs.List.{list_all}
 use Rattle.fx_base.specs.declared.geometry.Rect.{Rect}
 use Rattle.fx_damage.specs.Edits.{AreEdits, edited}
@@ -10,6 +10,7 @@ use Rattle.fx_picture.specs.declared.entries.Entry.{Entry}
 use Rattle.fx_pulse_model.specs.Frames.{drawn_in}
 use Rattle.fx_pulse_model.specs.Pictures.{Drawn, IsEntry, IsPicture, shown_places, shows}
 use Rattle.fx_pulse_model.specs.Scenes.{Scene}
+use Rattle.fx_pulse_kept.specs.Measuring.{AreOthersMarked}
 use Rattle.fx_pulse_touched.specs.Marks.{told}
 use Rattle.fx_pulse.specs.Drawing.{shown_below}
 use Rattle.fx_pulse.specs.declared.frames.Before.{Before}
@@ -25,6 +26,12 @@ pub record IsShownScene (scene : Scene) (olds : List Entry) (flags : List Bool) 
   pub rects : List Rect
   pub picture : IsPicture (drawn_in scene rects) olds
   pub shown : flags ≡ shown_in (drawn_in scene rects)
+
+-- It is marked what changed since some scene, if there was one, and the frame before, if there is one, shows that one.
+pub record IsSince (before : Option Before) (olds : List Entry) (scene : Scene) (marks : List Bool) : Type 0 where
+  pub last : Option Scene
+  pub marked : AreOthersMarked last scene marks
+  pub shown : IfSome before (λ (b : Before). (old : Scene) → last ≡ Some old → IsShownScene old olds b.shown.now)
 
 -- The entries are of nodes that hang and show as these do, and each of these that isn't marked had the facts for layout
 -- and the look that it has now.

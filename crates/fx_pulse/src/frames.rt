@@ -1,19 +1,20 @@
 //! A frame: the looks and the layout that are kept, brought up to the scene, and its picture, whole or by edits of the
 //! last one.
-ghost use Rattle.std.specs.Prelude.{◌≡◌, ◌↔◌, ◌≤◌, ◌+◌, ◌*◌, ℕ, false, true, IfOk, IfSome, IsTrue, OnOk, Some, length};
+ghost use Rattle.std.specs.Prelude.{◌≡◌, ◌↔◌, ◌≤◌, ◌+◌, ◌*◌, ℕ, false, true, IfOk, IfSome, IsTrue, OnOk, Option as Maybe, Some, length};
 ghost use Rattle.std.specs.List.{list_all};
 ghost use Rattle.fx_layout.specs.Layouts.{IsLayout};
 ghost use Rattle.fx_layout.specs.Updates.{rect_at, root_size};
 ghost use Rattle.fx_layout_sweeps.specs.Nodes.{IsTree, parents};
 ghost use Rattle.fx_pulse_kept.specs.Costs.{AreFew};
+ghost use Rattle.fx_pulse_kept.specs.Keeping.{AreOf};
 ghost use Rattle.fx_pulse_model.specs.Frames.{IsFrame};
 ghost use Rattle.fx_pulse_model.specs.Pictures.{IsPicture, is_disabled, shows};
 ghost use Rattle.fx_pulse_model.specs.Scenes.{IsScene, Scene as SceneValue, looks_of};
 ghost use Rattle.fx_pulse_touched.specs.Marks.{told};
-ghost use Rattle.fx_pulse_touched.specs.Sights.{seen};
+ghost use Rattle.fx_pulse_touched.specs.Sights.{scene_of, seen};
 ghost use Rattle.fx_pulse_touched.specs.Touched.{IsUntouched};
 ghost use Rattle.fx_pulse.specs.Drawing.{drawn};
-ghost use Rattle.fx_pulse.specs.Editing.{AreLast, IsEditable, IsOfSize, IsOver, IsShownScene, IsWhole, entries_after};
+ghost use Rattle.fx_pulse.specs.Editing.{AreLast, IsEditable, IsOfSize, IsOver, IsShownScene, IsSince, IsWhole, entries_after};
 ghost use Rattle.fx_shapes.specs.Rects.{IsNear};
 
 use crate::edits::{Last, edits_of};
@@ -22,8 +23,8 @@ use crate::flags::{disabled_flags, shown_flags};
 use fx_base::{Ledgers, Rect, Work};
 use fx_damage::Edit;
 use fx_picture::Picture;
-use fx_pulse_kept::KeptScene;
-use fx_pulse_touched::Scene;
+use fx_pulse_kept::{Brought, KeptScene};
+use fx_pulse_touched::{Scene, SceneLists};
 use std::alloc::{AllocError, Global};
 
 /// The next picture.
@@ -53,43 +54,70 @@ pub(crate) struct Made {
     pub next: Next,
 }
 
-/// The frame of a scene, in a window or in one as large as its root, by what is kept of the last scene. Where the
-/// frame before it shows the last scene, is as large, and the same nodes show, its picture is edited: entries are made
-/// for the nodes that were measured anew, that stand elsewhere, or that are disabled where they weren't or the other
-/// way round.
+/// The frame of a scene, in a window or in one as large as its root, by what is kept of the last scene, which this one
+/// becomes. Where the frame before it shows the last scene, is as large, and the same nodes show, its picture is
+/// edited: entries are made for the nodes that were measured anew, that stand elsewhere, or that are disabled where
+/// they weren't or the other way round.
 pub(crate) fn made_of<L: Ledgers>(
     alloc: Global,
-    scene: Scene<'_>,
+    scene: SceneLists,
     window: Option<(u32, u32)>,
     kept: &mut KeptScene,
     before: Option<Before<'_>>,
     picture: &Picture,
     work: &mut Work<L>,
 ) -> Result<Made, AllocError>
-    requires scene { IsScene (seen scene) }
+    requires scene { IsScene (scene_of scene) }
     requires before { IfSome before (λ b. (last : SceneValue) → kept.old.last ≡ Some last
         → IsShownScene last picture.now.entries b.shown.now) }
-    ensures frame { IfOk result (λ made. IsFrame (seen scene.entry) window made.width made.height made.rects.items
+    ensures frame { IfOk result (λ made. IsFrame (scene_of scene) window made.width made.height made.rects.items
         (entries_after made.next picture.now.entries)) }
     ensures over { IfOk result (λ made. IsOver picture.now.entries made.next) }
     ensures same_size { IfOk result (λ made. IsOfSize before.entry made.width made.height made.next) }
-    ensures shown { IfOk result (λ made. IsShownScene (seen scene.entry) (entries_after made.next picture.now.entries)
+    ensures shown { IfOk result (λ made. IsShownScene (scene_of scene) (entries_after made.next picture.now.entries)
         made.shown.items) }
     ensures size { IfOk result (λ made. root_size kept.new.layout ≡ (made.width, made.height)) }
-    ensures last { OnOk result (kept.new.last ≡ Some (seen scene.entry)) }
-    ensures placed { OnOk result (IsLayout (seen scene.entry).boxes (looks_of (seen scene.entry)) window
-        kept.new.layout) }
+    ensures last { OnOk result (kept.new.last ≡ Some (scene_of scene)) }
+    ensures placed { OnOk result (IsLayout scene.boxes (looks_of (scene_of scene)) window kept.new.layout) }
     ensures evaluated { OnOk result (work.new.evaluated ≡ work.old.evaluated) }
     ensures painted { OnOk result (work.new.painted ≡ work.old.painted) }
-    ensures few { OnOk result (AreFew kept.old.last (seen scene.entry) kept.old.layout kept.new.layout
+    ensures few { OnOk result (AreFew kept.old.last (scene_of scene) kept.old.layout kept.new.layout
         work.old.styled work.new.styled work.old.laid work.new.laid) }
-    ensures still { OnOk result (IsUntouched kept.old.last (seen scene.entry)
+    ensures still { OnOk result (IsUntouched kept.old.last (scene_of scene)
         → root_size kept.old.layout ≡ root_size kept.new.layout
         → (work.new.styled ≤ work.old.styled) × (work.new.laid ≤ work.old.laid)) }
-    ensures styled { OnOk result (work.new.styled ≤ work.old.styled + length scene.entry.styles.now) }
-    ensures laid { OnOk result (work.new.laid ≤ work.old.laid + 7 * length scene.entry.boxes.now) }
+    ensures styled { OnOk result (work.new.styled ≤ work.old.styled + length scene.styles) }
+    ensures laid { OnOk result (work.new.laid ≤ work.old.laid + 7 * length scene.boxes) }
 {
-    let brought = kept.update(alloc, scene, window, work)?;
+    let brought = kept.update(alloc, scene.scene(), window, work)?;
+    let made = made_by(alloc, scene.scene(), brought, kept, before, picture)?;
+    kept.keep(scene);
+    Ok(made)
+}
+
+/// The frame of a scene up to which all that is kept was brought.
+fn made_by(
+    alloc: Global,
+    scene: Scene<'_>,
+    brought: Brought,
+    kept: &KeptScene,
+    before: Option<Before<'_>>,
+    picture: &Picture,
+) -> Result<Made, AllocError>
+    requires looks { kept.now.styles.looks ≡ looks_of (seen scene) }
+    requires kept { AreOf (seen scene) kept.now.styles kept.now.layout }
+    requires size { brought.size ≡ root_size kept.now.layout }
+    requires since { IsSince before picture.now.entries (seen scene) brought.marks.items }
+    ensures frame { (window : Maybe (ℕ × ℕ))
+        → IsLayout scene.entry.boxes.now (looks_of (seen scene.entry)) window kept.now.layout
+        → IfOk result (λ made. IsFrame (seen scene.entry) window made.width made.height made.rects.items
+        (entries_after made.next picture.now.entries)) }
+    ensures over { IfOk result (λ made. IsOver picture.now.entries made.next) }
+    ensures same_size { IfOk result (λ made. IsOfSize before.entry made.width made.height made.next) }
+    ensures shown { IfOk result (λ made. IsShownScene (seen scene.entry)
+        (entries_after made.next picture.now.entries) made.shown.items) }
+    ensures size { IfOk result (λ made. root_size kept.now.layout ≡ (made.width, made.height)) }
+{
     let (width, height) = brought.size;
     let laid = Laid {
         boxes: scene.boxes,

@@ -12,5 +12,5 @@ mod pictures;
 mod renderer;
 
 pub use checking::is_scene;
-pub use fx_pulse_touched::Scene;
+pub use fx_pulse_touched::{Scene, SceneLists};
 pub use renderer::{Frame, Renderer};

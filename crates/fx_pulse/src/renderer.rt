@@ -13,7 +13,7 @@ ghost use Rattle.fx_pulse_kept.specs.Costs.{AreFew};
 ghost use Rattle.fx_pulse_kept.specs.Keeping.{no_layout};
 ghost use Rattle.fx_pulse_model.specs.Frames.{IsFrame, frame_damage, has_size};
 ghost use Rattle.fx_pulse_model.specs.Scenes.{IsScene, looks_of};
-ghost use Rattle.fx_pulse_touched.specs.Sights.{seen};
+ghost use Rattle.fx_pulse_touched.specs.Sights.{scene_of, seen};
 ghost use Rattle.fx_pulse_touched.specs.Touched.{IsUntouched};
 ghost use Rattle.fx_pulse.specs.Editing.{IsOver, IsShownScene, IsWhole, entries_after};
 ghost use Rattle.fx_pulse.specs.Rendering.{IsDrawn, IsDrawnBefore, IsShown, last_frame, surface_of};
@@ -27,7 +27,7 @@ use fx_canvas::Canvas;
 use fx_damage::damage;
 use fx_picture::Picture;
 use fx_pulse_kept::KeptScene;
-use fx_pulse_touched::Scene;
+use fx_pulse_touched::{Scene, SceneLists};
 use std::alloc::{AllocError, Global};
 use std::marker::Model;
 
@@ -103,17 +103,18 @@ impl Renderer {
     /// facts and the sheets are compared with those of the last scene for that. In a window as large as the last one,
     /// where the same nodes show, the last picture is edited: entries are made of those nodes alone, and of those that
     /// stand elsewhere, and the damage is found from these. The last scene in the last window leaves all as it is.
-    /// After want of memory the last picture still shows, and the next frame may be made afresh.
+    /// The scene is kept, and `take_spare` hands out the memory of one that was kept before. After want of memory the
+    /// last picture still shows, and the next frame may be made afresh.
     pub fn pulse<L: Ledgers>(
         &mut self,
         alloc: Global,
-        scene: Scene<'_>,
+        scene: SceneLists,
         window: Option<(u32, u32)>,
         work: &mut Work<L>,
     ) -> Result<Frame, AllocError>
-        requires scene { IsScene (seen scene) }
+        requires scene { IsScene (scene_of scene) }
         requires window { IfSome window (λ size. is_size size.0 size.1 ≡ true) }
-        ensures frame { IfOk result (λ frame. IsFrame (seen scene.entry) window frame.width frame.height
+        ensures frame { IfOk result (λ frame. IsFrame (scene_of scene) window frame.width frame.height
             self.new.rects self.new.picture) }
         ensures damage { IfOk result (λ frame. frame.damage.items
             ≡ frame_damage (last_frame self.old) self.new.picture frame.width frame.height) }
@@ -121,22 +122,23 @@ impl Renderer {
         ensures height { IfOk result (λ frame. (surface_of self.new.canvas).height ≡ frame.height) }
         ensures pixels { OnOk result (Shows (surface_of self.new.canvas) self.new.picture) }
         ensures err { OnErr result (self.new ≡ record self.old { kept = self.new.kept }) }
-        ensures last { OnOk result (self.new.kept.last ≡ Some (seen scene.entry)) }
+        ensures last { OnOk result (self.new.kept.last ≡ Some (scene_of scene)) }
         ensures size { IfOk result (λ frame. root_size self.new.kept.layout ≡ (frame.width, frame.height)) }
-        ensures placed { OnOk result (IsLayout (seen scene.entry).boxes (looks_of (seen scene.entry)) window
+        ensures placed { OnOk result (IsLayout scene.boxes (looks_of (scene_of scene)) window
             self.new.kept.layout) }
         ensures evaluated { OnOk result (work.new.evaluated ≡ work.old.evaluated) }
-        ensures few { OnOk result (AreFew self.old.kept.last (seen scene.entry) self.old.kept.layout
+        ensures few { OnOk result (AreFew self.old.kept.last (scene_of scene) self.old.kept.layout
             self.new.kept.layout work.old.styled work.new.styled work.old.laid work.new.laid) }
-        ensures still { OnOk result (IsUntouched self.old.kept.last (seen scene.entry)
+        ensures still { OnOk result (IsUntouched self.old.kept.last (scene_of scene)
             → root_size self.old.kept.layout ≡ root_size self.new.kept.layout
             → (work.new.styled ≤ work.old.styled) × (work.new.laid ≤ work.old.laid)) }
-        ensures styled { OnOk result (work.new.styled ≤ work.old.styled + length scene.entry.styles.now) }
-        ensures laid { OnOk result (work.new.laid ≤ work.old.laid + 7 * length scene.entry.boxes.now) }
+        ensures styled { OnOk result (work.new.styled ≤ work.old.styled + length scene.styles) }
+        ensures laid { OnOk result (work.new.laid ≤ work.old.laid + 7 * length scene.boxes) }
         ensures painted { IfOk result (λ frame. work.new.painted
             ≤ work.old.painted + sum_by (most_writes self.new.picture) frame.damage.items) }
     {
-        if self.is_drawn(scene, window) {
+        if self.is_drawn(scene.scene(), window) {
+            self.kept.spare(scene);
             return Ok(self.still_frame(alloc));
         }
         let drawn = self.drawn.take();
@@ -191,6 +193,13 @@ impl Renderer {
         ensures { IsShown self.now }
     {
         let _picture = &self.picture;
+    }
+
+    /// Lists of an earlier scene, on which nothing hangs any more: their memory serves again.
+    pub fn take_spare(&mut self, alloc: Global) -> SceneLists
+        ensures { self.new ≡ self.old }
+    {
+        self.kept.take_spare(alloc)
     }
 
     /// What is kept of the last scene.

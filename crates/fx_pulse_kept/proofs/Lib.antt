@@ -6,4 +6,3 @@ pub mod StillLemmas
 pub mod UntouchedLemmas
 pub mod MeasuringLemmas
 pub mod BroughtLemmas
-pub mod FollowLemmas

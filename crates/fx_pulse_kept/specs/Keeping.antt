@@ -1,6 +1,7 @@
 -- What is kept of the last scene from one frame to the next, and that it is what the scene gives from nothing.
-use Rattle.std.specs.Prelude.{◌≡◌, ℕ, [], length, slice_get, Option, Some, IfSome}
+use Rattle.std.specs.Prelude.{◌≡◌, ℕ, List, [], length, slice_get, Option, Some, None, IfSome}
 use Rattle.std.specs.Option.{option_map}
+use Rattle.fx_kinds.specs.declared.facts.BoxFacts.{BoxFacts}
 use Rattle.fx_kinds.specs.declared.facts.StyleFacts.{StyleFacts}
 use Rattle.fx_style.specs.Kept.{Kept as Styled, entry, entry_in}
 use Rattle.fx_style.specs.Rules.{style_of}
@@ -17,6 +18,11 @@ pub record Keeping : Type 0 where
 -- before the first scene
 abbrev pub no_layout : Laid
 no_layout = record { keys = []; children = []; widths = []; heights = []; across = []; down = []; rects = [] }
+
+-- the nodes of the scene, if there is one
+abbrev pub boxes_in : Option Scene → List BoxFacts
+boxes_in None = []
+boxes_in (Some scene) = scene.boxes
 
 -- each node has its key and its style from nothing
 pub record AreStyled (scene : Scene) (kept : Styled) : Type 0 where

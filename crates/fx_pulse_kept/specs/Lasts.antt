@@ -2,10 +2,8 @@
 use Rattle.std.specs.Prelude.{Option}
 use Rattle.std.specs.Option.{option_map}
 use Rattle.fx_pulse_model.specs.Scenes.{Scene}
-use Rattle.fx_pulse_kept.specs.declared.last.LastScene.{LastScene}
+use Rattle.fx_pulse_touched.specs.Sights.{scene_of}
+use Rattle.fx_pulse_touched.specs.declared.scenes.SceneLists.{SceneLists}
 
-abbrev pub scene_of : LastScene → Scene
-scene_of l = record { sheets = l.sheets; styles = l.styles; boxes = l.boxes; disabled = l.disabled }
-
-abbrev pub last_of : Option LastScene → Option Scene
+abbrev pub last_of : Option SceneLists → Option Scene
 last_of last = option_map scene_of last

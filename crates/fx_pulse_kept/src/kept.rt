@@ -1,23 +1,27 @@
 //! What is kept of the last scene.
-ghost use Rattle.std.specs.Prelude.{◌≡◌, ◌≤◌, ◌+◌, ◌*◌, ◌↔◌, [], IfOk, IsTrue, OnErr, OnOk, Option as Maybe, Some, None, length};
+ghost use Rattle.std.specs.Prelude.{◌≡◌, ◌≤◌, ◌+◌, ◌*◌, ◌↔◌, [], IfOk, IsTrue, OnOk, Option as Maybe, Some, None, length};
+ghost use Rattle.std.specs.Option.{option_map};
 ghost use Rattle.fx_layout.specs.Layouts.{IsLayout};
 ghost use Rattle.fx_layout.specs.Updates.{root_size};
 ghost use Rattle.fx_layout_sweeps.specs.Nodes.{parents};
 ghost use Rattle.fx_pulse_kept.specs.Costs.{AreFew, IsBrought};
-ghost use Rattle.fx_pulse_kept.specs.Keeping.{Agrees, no_layout};
+ghost use Rattle.fx_pulse_kept.specs.Keeping.{Agrees, AreOf, boxes_in, no_layout};
+ghost use Rattle.fx_pulse_kept.specs.Lasts.{last_of};
 ghost use Rattle.fx_pulse_kept.specs.Measuring.{AreOthersMarked};
 ghost use Rattle.fx_pulse_model.specs.Scenes.{IsScene, Scene as SceneValue, looks_of};
 ghost use Rattle.fx_pulse_touched.specs.Marks.{places_of, told};
-ghost use Rattle.fx_pulse_touched.specs.Sights.{seen};
+ghost use Rattle.fx_pulse_touched.specs.Sights.{scene_of, seen};
 ghost use Rattle.fx_pulse_touched.specs.Touched.{AreTouched, IsUntouched, is_restyled};
 ghost use Rattle.fx_style.specs.Rules.{IsUpdate, KeepsOthers, kept_of, needs, worked};
 
-use crate::last::{LastScene, lent, next_scene};
 use crate::measuring::measured_marks;
 use fx_base::{Ledgers, Rect, Work};
+use fx_kinds::BoxFacts;
 use fx_layout::Layouts;
 use fx_look::Look;
-use fx_pulse_touched::{Scene, Touched, is_same_scene, marked_below, marked_places, touched_since};
+use fx_pulse_touched::{
+    Scene, SceneLists, Touched, is_same_scene, marked_below, marked_places, touched_since,
+};
 use fx_select::RuleIndex;
 use fx_style::{Scene as Styled, Styles};
 use std::alloc::{AllocError, Global};
@@ -36,7 +40,9 @@ pub struct Brought {
 pub struct KeptScene {
     styles: Styles,
     layouts: Layouts,
-    last: Option<LastScene>,
+    last: Option<SceneLists>,
+    /// Facts that nothing hangs on any more: only their memory serves again.
+    spare: Option<SceneLists>,
 }
 
 impl Model for KeptScene {
@@ -60,6 +66,7 @@ impl KeptScene {
             styles: Styles::new(alloc),
             layouts: Layouts::new(alloc),
             last: None,
+            spare: None,
         }
     }
 
@@ -94,11 +101,22 @@ impl KeptScene {
         self.layouts.rects()
     }
 
-    /// Brings what is kept up to this scene in a window. The facts are compared with those of the last scene, place by
-    /// place, and so are the sheets. Styled anew are the nodes of which
-    /// the facts for style are others, and all below them; measured anew are those that are laid out by other facts or
-    /// another look, and all above them. All nodes are where there was no last scene, where other nodes stood or hung
-    /// elsewhere, or where the sheets are others. After want of memory nothing is kept: the next scene is made afresh.
+    /// The nodes of the last scene, if there is one, as their layout sees them.
+    pub fn boxes(&self) -> &[BoxFacts]
+        ensures { result.now ≡ boxes_in self.now.last }
+    {
+        match &self.last {
+            None => &[],
+            Some(last) => last.boxes.as_slice(),
+        }
+    }
+
+    /// Brings what is kept up to this scene in a window, and forgets the last scene: it is this one, once it is handed
+    /// to `keep`. The facts are compared with those of the last scene, place by place, and so are the sheets. Styled
+    /// anew are the nodes of which the facts for style are others, and all below them; measured anew are those that are
+    /// laid out by other facts or another look, and all above them. All nodes are where there was no last scene, where
+    /// other nodes stood or hung elsewhere, or where the sheets are others. After want of memory the next scene is made
+    /// afresh.
     pub fn update<L: Ledgers>(
         &mut self,
         alloc: Global,
@@ -112,8 +130,8 @@ impl KeptScene {
             (IsLayout scene.entry.boxes.now (looks_of (seen scene.entry)) window self.new.layout) }
         ensures size { IfOk result (λ told. told.size ≡ root_size self.new.layout) }
         ensures marks { IfOk result (λ told. AreOthersMarked self.old.last (seen scene.entry) told.marks.items) }
-        ensures last { OnOk result (self.new.last ≡ Some (seen scene.entry)) }
-        ensures err { OnErr result (self.new.last ≡ None) }
+        ensures kept { OnOk result (AreOf (seen scene.entry) self.new.styles self.new.layout) }
+        ensures last { self.new.last ≡ None }
         ensures evaluated { OnOk result (work.new.evaluated ≡ work.old.evaluated) }
         ensures painted { OnOk result (work.new.painted ≡ work.old.painted) }
         ensures still { OnOk result (IsUntouched self.old.last (seen scene.entry)
@@ -124,7 +142,6 @@ impl KeptScene {
     {
         let last = self.last.take();
         let touched = touched_since(alloc, lent(&last), scene)?;
-        let next = next_scene(alloc, last, scene, &touched)?;
         let told = bring_up(
             alloc,
             &mut self.styles,
@@ -134,8 +151,45 @@ impl KeptScene {
             window,
             work,
         )?;
-        self.last = Some(next);
+        self.spare = last;
         Ok(told)
+    }
+
+    /// Keeps the scene up to which all was brought as the last one.
+    pub fn keep(&mut self, scene: SceneLists)
+        requires { AreOf (scene_of scene) self.old.styles self.old.layout }
+        ensures styles { self.new.styles ≡ self.old.styles }
+        ensures layout { self.new.layout ≡ self.old.layout }
+        ensures last { self.new.last ≡ Some (scene_of scene) }
+    {
+        self.last = Some(scene);
+    }
+
+    /// Takes facts on which nothing hangs any more, so that their memory serves again.
+    pub fn spare(&mut self, facts: SceneLists)
+        ensures { self.new ≡ self.old }
+    {
+        self.spare = Some(facts);
+    }
+
+    /// Facts on which nothing hangs any more: those of the scene before the last one, if they are there.
+    pub fn take_spare(&mut self, alloc: Global) -> SceneLists
+        ensures { self.new ≡ self.old }
+    {
+        match self.spare.take() {
+            None => SceneLists::new(alloc),
+            Some(facts) => facts,
+        }
+    }
+}
+
+/// The scene of which something is kept, if there is one.
+fn lent(last: &Option<SceneLists>) -> Option<Scene<'_>>
+    ensures { option_map seen result ≡ last_of last.now }
+{
+    match last {
+        None => None,
+        Some(last) => Some(last.scene()),
     }
 }
 

@@ -2,9 +2,7 @@
 //! since is styled, measured and placed anew. What is kept is always what the scene gives from nothing.
 #![tactic(auto)]
 
-mod following;
 mod kept;
-mod last;
 mod measuring;
 
 pub use kept::{Brought, KeptScene};

@@ -5,8 +5,8 @@ ghost use Rattle.fx_canvas.specs.Surfaces.{is_size};
 ghost use Rattle.fx_css_types.specs.Limits.{AreWithinLimits};
 
 use crate::scenes::{label_box, label_style, pane_box, pane_style};
-use fx_base::{Ledgers, Work};
-use fx_pulse::{Renderer, Scene, is_scene};
+use fx_base::{Ledgers, List, Work};
+use fx_pulse::{Renderer, SceneLists, is_scene};
 use std::alloc::Global;
 use std::marker::Brand;
 use std::sync::ledger::Blank;
@@ -22,13 +22,11 @@ fn show<L: Ledgers>(
 ) -> Result<(u32, u32, usize), Fail>
     requires { IfSome window (λ size. is_size size.0 size.1 ≡ true) }
 {
-    let styles = [label_style(alloc, 1, None)?];
-    let boxes = [label_box(alloc, 1, None, text)?];
-    let scene = Scene {
-        sheets: &[],
-        styles: &styles,
-        boxes: &boxes,
-        disabled: &[false],
+    let scene = SceneLists {
+        sheets: List::new(alloc),
+        styles: List::from_vec(vec![in alloc; label_style(alloc, 1, None)?]?),
+        boxes: List::from_vec(vec![in alloc; label_box(alloc, 1, None, text)?]?),
+        disabled: List::from_vec(vec![in alloc; false]?),
     };
     show_scene(alloc, renderer, scene, window, work)
 }
@@ -40,13 +38,13 @@ fn show_in_pane<L: Ledgers>(
     text: &str,
     work: &mut Work<L>,
 ) -> Result<(u32, u32, usize), Fail> {
-    let styles = [pane_style(alloc, 1), label_style(alloc, 2, Some(0))?];
-    let boxes = [pane_box(alloc, 1), label_box(alloc, 2, Some(0), text)?];
-    let scene = Scene {
-        sheets: &[],
-        styles: &styles,
-        boxes: &boxes,
-        disabled: &[false, false],
+    let styles = vec![in alloc; pane_style(alloc, 1), label_style(alloc, 2, Some(0))?]?;
+    let boxes = vec![in alloc; pane_box(alloc, 1), label_box(alloc, 2, Some(0), text)?]?;
+    let scene = SceneLists {
+        sheets: List::new(alloc),
+        styles: List::from_vec(styles),
+        boxes: List::from_vec(boxes),
+        disabled: List::from_vec(vec![in alloc; false, false]?),
     };
     show_scene(alloc, renderer, scene, None, work)
 }
@@ -54,17 +52,18 @@ fn show_in_pane<L: Ledgers>(
 fn show_scene<L: Ledgers>(
     alloc: Global,
     renderer: &mut Renderer,
-    scene: Scene<'_>,
+    scene: SceneLists,
     window: Option<(u32, u32)>,
     work: &mut Work<L>,
 ) -> Result<(u32, u32, usize), Fail>
-    requires sheets { AreWithinLimits scene.sheets.now }
+    requires sheets { AreWithinLimits scene.sheets }
     requires window { IfSome window (λ size. is_size size.0 size.1 ≡ true) }
 {
-    if !is_scene(alloc, scene)? {
+    if !is_scene(alloc, scene.scene())? {
         return Err(Fail::from("this is no scene"));
     }
     let frame = renderer.pulse(alloc, scene, window, work)?;
+    let _spare = renderer.take_spare(alloc);
     Ok((frame.width, frame.height, frame.damage.len()))
 }
 

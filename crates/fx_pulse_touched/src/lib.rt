@@ -8,4 +8,4 @@ mod scenes;
 
 pub use comparing::{Touched, is_same_scene, touched_since};
 pub use marks::{mark_again, marked_above, marked_below, marked_places};
-pub use scenes::Scene;
+pub use scenes::{Scene, SceneLists};

@@ -1,18 +1,22 @@
 -- the world's scene was drawn, and its sizes were published
-use Rattle.std.proofs.Common.{ap, subst, sym}
+use Rattle.std.proofs.Common.{ap, subst, sym, ◌∙◌}
 use Rattle.fx_base.specs.declared.work.Work.{Work}
 use Rattle.fx_plain_work.specs.Works.{Counted, counted}
-use Rattle.fx_play_frames.specs.Drawn.{IsDrawWork}
+use Rattle.fx_pulse.specs.Rendering.{Rendering}
+use Rattle.fx_pulse_kept.specs.Keeping.{Keeping, boxes_in}
+use Rattle.fx_play_frames.specs.Drawn.{IsDrawWork, IsDrawnAs}
 use Rattle.fx_play_frames.proofs.DrawnLemmas.{drawn_whole}
 use Rattle.fx_play_frames.proofs.pulses.drawn.Goals as goal
 
 pub returns-clause-drawn : goal.returns-clause-drawn
 returns-clause-drawn g c =
-    drawn_whole c.args.stage.now c.read_facts.new.stage c.publish_sizes.new.stage c.in_ok-facts.facts c.args.renderer.now
-    c.draw.new.renderer (record { frame = c.in_ok-frame.frame; notices = c.in_ok-notices.notices }) c.as_slice.result.now c.rects.result.now c.in_ok-facts.ensures.facts
-    c.in_ok-facts.ensures.ok (c.in_ok-frame.ensures.drawn c.args.stage.now c.in_ok-facts.ensures.facts) c.as_slice.ensures c.rects.ensures c.in_ok-notices.ensures.published.0
-    c.in_ok-notices.ensures.published.1 c.args.work.now.evaluated c.read_facts.new.work.evaluated c.draw.new.work.evaluated
-    c.publish_sizes.new.work.evaluated c.in_ok-facts.ensures.cost c.in_ok-frame.ensures.evaluated c.in_ok-notices.ensures.few
+    drawn_whole c.args.stage.now c.refresh_facts.new.stage c.publish_sizes.new.stage c.refresh_facts.new.facts c.args.renderer.now
+    c.draw.new.renderer (record { frame = c.in_ok-frame.frame; notices = c.in_ok-notices.notices }) c.boxes.result.now c.rects.result.now c.in_ok-refresh_facts.ensures.facts
+    c.in_ok-refresh_facts.ensures.ok (subst (λ (r : Rendering). IsDrawnAs c.args.stage.now r c.draw.new.renderer c.in_ok-frame.frame) c.take_spare.ensures
+    (c.in_ok-frame.ensures.drawn c.args.stage.now c.in_ok-refresh_facts.ensures.facts))
+    (c.boxes.ensures ∙ (ap (λ (k : Keeping). boxes_in k.last) c.kept.ensures ∙ c.in_ok-frame.ensures.kept)) c.rects.ensures c.in_ok-notices.ensures.published.0
+    c.in_ok-notices.ensures.published.1 c.args.work.now.evaluated c.refresh_facts.new.work.evaluated c.draw.new.work.evaluated
+    c.publish_sizes.new.work.evaluated c.in_ok-refresh_facts.ensures.cost c.in_ok-frame.ensures.evaluated c.in_ok-notices.ensures.few
 
 pub returns-clause-work : goal.returns-clause-work
 returns-clause-work g c =
@@ -21,5 +25,7 @@ returns-clause-work g c =
     subst (λ (n : Counted). IsDrawWork c.args.stage.now c.args.renderer.now c.draw.new.renderer made
     (count c.args.work.now) n) (sym (ap count c.in_ok-notices.ensures.others))
     (subst (λ (n : Counted). IsDrawWork c.args.stage.now c.args.renderer.now c.draw.new.renderer made n
-    (count c.draw.new.work)) (ap count c.in_ok-facts.ensures.others)
-    (c.in_ok-frame.ensures.work c.args.stage.now c.in_ok-facts.ensures.facts))
+    (count c.draw.new.work)) (ap count c.in_ok-refresh_facts.ensures.others)
+    (subst (λ (r : Rendering). IsDrawWork c.args.stage.now r c.draw.new.renderer made
+    (count c.refresh_facts.new.work) (count c.draw.new.work)) c.take_spare.ensures
+    (c.in_ok-frame.ensures.work c.args.stage.now c.in_ok-refresh_facts.ensures.facts)))

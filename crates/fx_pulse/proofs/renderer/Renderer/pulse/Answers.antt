@@ -1,9 +1,12 @@
-use Rattle.std.proofs.Common.{ap, subst, sym, ◌∙◌, ◌≡◌, ◌≤◌}
-use Rattle.fx_layout.specs.Updates.{root_size}
+use Rattle.std.proofs.Common.{List, Some, ap, subst, sym, ◌∙◌, ◌≡◌, ◌≤◌}
+use Rattle.fx_layout.specs.Updates.{Kept as Laid, root_size}
+use Rattle.fx_picture.specs.declared.entries.Entry.{Entry}
+use Rattle.fx_pulse_kept.specs.Costs.{AreFew}
 use Rattle.fx_pulse_kept.specs.Keeping.{Keeping}
-use Rattle.fx_pulse_touched.specs.Sights.{seen}
+use Rattle.fx_pulse_touched.specs.Sights.{scene_of}
 use Rattle.fx_pulse_touched.specs.Touched.{IsUntouched}
 use Rattle.fx_pulse_model.specs.Frames.{frame_damage}
+use Rattle.fx_pulse_model.specs.Scenes.{Scene}
 use Rattle.fx_pulse.specs.Editing.{entries_after}
 use Rattle.fx_pulse.specs.Rendering.{IsCurrent, IsDrawn, Rendering, last_frame, surface_of}
 use Rattle.fx_pulse.proofs.CurrentLemmas.{no_work, undamaged, was_shown, whole_where_other}
@@ -37,28 +40,28 @@ show_first-requires-clause-whole g c =
 pub show_next-requires-clause-rises : goal.show_next-requires-clause-rises
 show_next-requires-clause-rises g c =
     let made = c.in_ok-made.made in
-    rises_of (seen c.args.scene) c.args.window made.width made.height made.rects.items
+    rises_of (scene_of c.args.scene) c.args.window made.width made.height made.rects.items
     (entries_after made.next c.self.inside.picture.entries)
     c.requires.scene c.in_ok-made.ensures.frame
 
 pub show_next-requires-clause-births : goal.show_next-requires-clause-births
 show_next-requires-clause-births g c =
     let made = c.in_ok-made.made in
-    births_of (seen c.args.scene) c.args.window made.width made.height made.rects.items
+    births_of (scene_of c.args.scene) c.args.window made.width made.height made.rects.items
     (entries_after made.next c.self.inside.picture.entries)
     c.requires.scene c.in_ok-made.ensures.frame
 
 pub show_first-requires-clause-rises : goal.show_first-requires-clause-rises
 show_first-requires-clause-rises g c =
     let made = c.in_ok-made.made in
-    rises_of (seen c.args.scene) c.args.window made.width made.height made.rects.items
+    rises_of (scene_of c.args.scene) c.args.window made.width made.height made.rects.items
     (entries_after made.next c.self.inside.picture.entries)
     c.requires.scene c.in_ok-made.ensures.frame
 
 pub show_first-requires-clause-births : goal.show_first-requires-clause-births
 show_first-requires-clause-births g c =
     let made = c.in_ok-made.made in
-    births_of (seen c.args.scene) c.args.window made.width made.height made.rects.items
+    births_of (scene_of c.args.scene) c.args.window made.width made.height made.rects.items
     (entries_after made.next c.self.inside.picture.entries)
     c.requires.scene c.in_ok-made.ensures.frame
 
@@ -67,7 +70,7 @@ returns-then-has_size-clause-still g c =
     both_ok c.show_next.result _ _ _
     (λ frame shown same untouched size.
     let few = c.in_ok-made.ensures.still
-    (subst (λ (v : Rendering). IsUntouched v.kept.last (seen c.args.scene)) (sym c.self.view_is) untouched)
+    (subst (λ (v : Rendering). IsUntouched v.kept.last (scene_of c.args.scene)) (sym c.self.view_is) untouched)
     (ap (λ (v : Rendering). root_size v.kept.layout) c.self.view_is
     ∙ (size ∙ ap (λ (k : Keeping). root_size k.layout) shown.kept)) in (
       subst (λ n. n ≤ c.args.work.now.styled) (sym (ap (λ w. w.styled) same)) few.0,
@@ -80,7 +83,7 @@ returns-clause-still g c =
     both_ok c.show_first.result _ _ _
     (λ frame shown same untouched size.
     let few = c.in_ok-made.ensures.still
-    (subst (λ (v : Rendering). IsUntouched v.kept.last (seen c.args.scene)) (sym c.self.view_is) untouched)
+    (subst (λ (v : Rendering). IsUntouched v.kept.last (scene_of c.args.scene)) (sym c.self.view_is) untouched)
     (ap (λ (v : Rendering). root_size v.kept.layout) c.self.view_is
     ∙ (size ∙ ap (λ (k : Keeping). root_size k.layout) shown.kept)) in (
       subst (λ n. n ≤ c.args.work.now.styled) (sym (ap (λ w. w.styled) same)) few.0,
@@ -93,14 +96,24 @@ returns-then-is_drawn-clause-damage g c =
     let r = c.args.self.now in
     let w = (surface_of r.canvas).width in
     let h = (surface_of r.canvas).height in
-    let drawn : IsDrawn r (seen c.args.scene) c.args.window = c.is_drawn.ensures.drawn c.if-is_drawn.true in
-    let is = sized (seen c.args.scene) c.args.window w h r.rects r.picture drawn.frame c.requires.window in
-    subst (λ n. c.still_frame.result.damage.items
-    ≡ frame_damage (last_frame r) r.picture n c.still_frame.result.height) (sym c.still_frame.ensures.width)
+    let drawn : IsDrawn r (scene_of c.args.scene) c.args.window =
+    subst (λ (s : Scene). IsDrawn r s c.args.window) c.scene.ensures (c.is_drawn.ensures.drawn c.if-is_drawn.true) in
+    let is = sized (scene_of c.args.scene) c.args.window w h r.rects r.picture drawn.frame c.requires.window in
+    subst (λ (l : List Entry). c.still_frame.result.damage.items
+    ≡ frame_damage (last_frame r) l c.still_frame.result.width c.still_frame.result.height)
+    (sym (ap (λ (v : Rendering). v.picture) c.self.view_is))
+    (subst (λ n. c.still_frame.result.damage.items
+    ≡ frame_damage (last_frame r) r.picture n c.still_frame.result.height)
+    (sym (c.still_frame.ensures.width ∙ ap (λ (v : Rendering). (surface_of v.canvas).width) c.self.view_is))
     (subst (λ n. c.still_frame.result.damage.items ≡ frame_damage (last_frame r) r.picture w n)
-    (sym c.still_frame.ensures.height) (c.still_frame.ensures.damage ∙ undamaged r is))
+    (sym (c.still_frame.ensures.height ∙ ap (λ (v : Rendering). (surface_of v.canvas).height) c.self.view_is))
+    (c.still_frame.ensures.damage ∙ undamaged r is)))
 
 pub returns-then-is_drawn-clause-few : goal.returns-then-is_drawn-clause-few
 returns-then-is_drawn-clause-few g c =
-    no_work c.args.self.now.kept.last (seen c.args.scene) c.args.self.now.kept.layout c.args.work.now.styled
-    c.args.work.now.laid (c.is_drawn.ensures.last c.if-is_drawn.true)
+    let kept = c.args.self.now.kept in
+    subst (λ (l : Laid). AreFew kept.last (scene_of c.args.scene) kept.layout l c.args.work.now.styled
+    c.args.work.now.styled c.args.work.now.laid c.args.work.now.laid)
+    (sym (ap (λ (k : Keeping). k.layout) c.spare.ensures ∙ ap (λ (v : Rendering). v.kept.layout) c.self.view_is))
+    (no_work kept.last (scene_of c.args.scene) kept.layout c.args.work.now.styled c.args.work.now.laid
+    (c.is_drawn.ensures.last c.if-is_drawn.true ∙ ap Some c.scene.ensures))

@@ -1,8 +1,31 @@
 //! Identifiers, as the names of nodes, properties, owners and actions are, and those of style sheets.
-ghost use Rattle.std.specs.Prelude.{◌≡◌};
-ghost use Rattle.std.specs.List.{list_all};
+ghost use Rattle.std.specs.Prelude.{◌≡◌, map};
+ghost use Rattle.std.specs.List.{list_all, range_with_len};
 ghost use Rattle.fx_text.specs.Classes.{is_identifier, is_letter, is_letter_or_digit};
 ghost use Rattle.fx_text.specs.Identifiers.{behind_dash, is_later, is_style_identifier, is_style_word};
+
+/// Whether a byte of each number may stand behind the first letter of an identifier.
+static LATER: [bool; 256] = [
+    false, false, false, false, false, false, false, false, false, false, false, false, false,
+    false, false, false, false, false, false, false, false, false, false, false, false, false,
+    false, false, false, false, false, false, false, false, false, false, false, false, false,
+    false, false, false, false, false, false, true, false, false, true, true, true, true, true,
+    true, true, true, true, true, false, false, false, false, false, false, false, true, true,
+    true, true, true, true, true, true, true, true, true, true, true, true, true, true, true, true,
+    true, true, true, true, true, true, true, true, false, false, false, false, true, false, true,
+    true, true, true, true, true, true, true, true, true, true, true, true, true, true, true, true,
+    true, true, true, true, true, true, true, true, true, false, false, false, false, false, false,
+    false, false, false, false, false, false, false, false, false, false, false, false, false,
+    false, false, false, false, false, false, false, false, false, false, false, false, false,
+    false, false, false, false, false, false, false, false, false, false, false, false, false,
+    false, false, false, false, false, false, false, false, false, false, false, false, false,
+    false, false, false, false, false, false, false, false, false, false, false, false, false,
+    false, false, false, false, false, false, false, false, false, false, false, false, false,
+    false, false, false, false, false, false, false, false, false, false, false, false, false,
+    false, false, false, false, false, false, false, false, false, false, false, false, false,
+    false, false, false, false, false, false, false, false, false, false, false, false, false,
+    false, false, false, false, false, false, false, false, false, false,
+];
 
 /// Is the text an ASCII letter or `_`, followed by letters, digits and `_` alone?
 pub fn is_identifier(text: &str) -> bool
@@ -74,8 +97,18 @@ fn all_later(text: &[u8]) -> bool
     text.iter().all(|byte| is_later(*byte))
 }
 
+/// Is the byte a letter, a digit, `_` or `-`?
 fn is_later(byte: u8) -> bool
     ensures { result ≡ is_later byte }
 {
-    is_letter_or_digit(byte) || byte == b'-'
+    match later_table().get(usize::from(byte)) {
+        Some(later) => *later,
+        None => false,
+    }
+}
+
+fn later_table() -> &'static [bool]
+    ensures { result.now ≡ map is_later (range_with_len 0 256) }
+{
+    &LATER
 }

@@ -2,7 +2,7 @@
 use Rattle.std.proofs.Common.{◌≡◌, ◌+◌, ◌<◌, get_or, ap, ◌∙◌, arith}
 use Rattle.std.proofs.lemmas.List.FromFn.{get_or-map-range_with_len}
 use Rattle.fx_text.specs.Identifiers.{is_later}
-use Rattle.fx_css_parts.proofs.texts.is_later.Goals as goal
+use Rattle.fx_text.proofs.identifiers.is_later.Goals as goal
 
 pub returns-in-Some : goal.returns-in-Some
 returns-in-Some c =

@@ -1,7 +1,7 @@
 //! The controls (JavaFX `Label` and `Button`): a text on one line, or wrapped at the width that the control has.
 //! They stand on the cells of texts.
 ghost use Rattle.std.specs.Prelude.{◌≡◌, ◌+◌, ◌*◌, ◌^◌, ◌≤◌, [], IfOk, IsTrue, OnErr, chars, length};
-ghost use Rattle.fx_boxes.specs.Controls.{IsControl, IsLineCount, OneControl, SameWidths, columns_in, control_heights, control_widths, is_given, line_heights, scale_of, text_widths};
+ghost use Rattle.fx_boxes.specs.Controls as spec;
 ghost use Rattle.fx_panes_parts.specs.Axes.{IsPaneAxis};
 ghost use Rattle.fx_panes_parts.specs.Lengths.{length_of};
 
@@ -27,7 +27,7 @@ pub fn measure<L: Ledgers>(
     _children: &[ChildSize],
     work: &mut Work<L>,
 ) -> Result<Sizes, AllocError>
-    ensures sizes { IfOk result (IsControl pane.now (control_widths pane.now).pref) }
+    ensures sizes { IfOk result (spec.IsControl pane.now (spec.control_widths pane.now).pref) }
     ensures memory { OnErr result (IsTrue pane.now.wrap) }
     ensures work { work.new ≡ record work.old { laid = work.old.laid + 1 } }
 {
@@ -42,7 +42,7 @@ pub fn wrapped<L: Ledgers>(
     w: i64,
     work: &mut Work<L>,
 ) -> Result<Sizes, AllocError>
-    ensures sizes { IfOk result (IsControl control.now (length_of w)) }
+    ensures sizes { IfOk result (spec.IsControl control.now (length_of w)) }
     ensures memory { OnErr result (IsTrue control.now.wrap) }
     ensures work { work.new ≡ record work.old { laid = work.old.laid + 1 } }
 {
@@ -68,12 +68,12 @@ pub fn place<L: Ledgers>(
 
 /// The sizes of a control are one list in each width, with the same widths in all.
 pub fn one_control()
-    ensures one { OneControl }
-    ensures widths { SameWidths }
+    ensures one { spec.OneControl }
+    ensures widths { spec.SameWidths }
 {}
 
 fn sizes_in(alloc: Global, control: &PaneFacts, w: u64) -> Result<Sizes, AllocError>
-    ensures sizes { IfOk result (IsControl control.now w) }
+    ensures sizes { IfOk result (spec.IsControl control.now w) }
     ensures memory { OnErr result (IsTrue control.now.wrap) }
 {
     let count = line_count(alloc, control, w)?;
@@ -81,7 +81,7 @@ fn sizes_in(alloc: Global, control: &PaneFacts, w: u64) -> Result<Sizes, AllocEr
 }
 
 fn line_count(alloc: Global, control: &PaneFacts, w: u64) -> Result<u64, AllocError>
-    ensures count { IfOk result (IsLineCount control.now w) }
+    ensures count { IfOk result (spec.IsLineCount control.now w) }
     ensures memory { OnErr result (IsTrue control.now.wrap) }
 {
     if !control.wrap {
@@ -93,7 +93,7 @@ fn line_count(alloc: Global, control: &PaneFacts, w: u64) -> Result<u64, AllocEr
 
 #[tactic(auto, unfolding(crate::specs::Controls::columns_in))]
 fn columns_in(control: &PaneFacts, w: u64) -> u64
-    ensures value { result ≡ columns_in control.now w }
+    ensures value { result ≡ spec.columns_in control.now w }
     ensures some { 1 ≤ result }
 {
     let room = content(&pane_axis(Axis::Across, control), w);
@@ -102,7 +102,7 @@ fn columns_in(control: &PaneFacts, w: u64) -> u64
 
 /// How much larger than the smallest the letters of a font size are.
 fn scale_of(size: i64) -> u64
-    ensures value { result ≡ scale_of size }
+    ensures value { result ≡ spec.scale_of size }
     ensures some { 1 ≤ result }
     ensures most { result ≤ 2 ^ 61 }
 {
@@ -117,7 +117,7 @@ fn scale_of(size: i64) -> u64
 /// isn't looked at.
 pub fn text_widths(across: &PaneAxis, font_size: i64, text: &str) -> Extent
     requires { IsPaneAxis across.now }
-    ensures { result ≡ text_widths across.now font_size (chars text.now) }
+    ensures { result ≡ spec.text_widths across.now font_size (chars text.now) }
 {
     let around = insets(across);
     if is_given(across.own) {
@@ -129,7 +129,7 @@ pub fn text_widths(across: &PaneAxis, font_size: i64, text: &str) -> Extent
 
 /// Is a preferred length given, so that none is to be computed?
 fn is_given(own: OwnLengths) -> bool
-    ensures { result ≡ is_given own.pref }
+    ensures { result ≡ spec.is_given own.pref }
 {
     own.pref >= 0
 }
@@ -137,7 +137,7 @@ fn is_given(own: OwnLengths) -> bool
 /// The heights of a control of so many lines in letters of this size.
 pub fn line_heights(down: &PaneAxis, font_size: i64, lines: u64) -> Extent
     requires { IsPaneAxis down.now }
-    ensures { result ≡ line_heights down.now font_size lines }
+    ensures { result ≡ spec.line_heights down.now font_size lines }
 {
     let letters = (LINE_HEIGHT * scale_of(font_size)).saturating_mul(lines);
     let height = insets(down).saturating_add(letters);
@@ -146,7 +146,7 @@ pub fn line_heights(down: &PaneAxis, font_size: i64, lines: u64) -> Extent
 
 #[tactic(auto, unfolding(crate::specs::Controls::control_widths))]
 fn widths(control: &PaneFacts) -> Extent
-    ensures { result ≡ control_widths control.now }
+    ensures { result ≡ spec.control_widths control.now }
 {
     text_widths(
         &pane_axis(Axis::Across, control),
@@ -157,7 +157,7 @@ fn widths(control: &PaneFacts) -> Extent
 
 #[tactic(auto, unfolding(crate::specs::Controls::control_heights))]
 fn heights(control: &PaneFacts, lines: u64) -> Extent
-    ensures { result ≡ control_heights control.now lines }
+    ensures { result ≡ spec.control_heights control.now lines }
 {
     line_heights(&pane_axis(Axis::Down, control), control.font_size, lines)
 }

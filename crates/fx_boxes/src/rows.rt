@@ -2,7 +2,7 @@
 //! It stands on the track rule, below the two panes.
 ghost use Rattle.std.specs.Prelude.{◌≡◌, ◌+◌, ◌*◌, ◌^◌, ◌<◌, ◌≤◌, List, ◌∷◌, IfOk, length, map, sum_by};
 ghost use Rattle.std.specs.Simd.Lanes.{zip2};
-ghost use Rattle.fx_boxes.specs.Rows.{beside_extent, beside_span, beside_spans, other, parts_of, rect_along, row_extent, row_spans, span_at, spans_by};
+ghost use Rattle.fx_boxes.specs.Rows as spec;
 ghost use Rattle.fx_panes_parts.specs.declared.axes.ChildAxis.{ChildAxis};
 ghost use Rattle.fx_panes_parts.specs.Axes.{IsChildAxis, IsPaneAxis, along, child_axis, content, gaps, pane_axis};
 ghost use Rattle.fx_panes_parts.specs.Parts.{greatest_of};
@@ -33,7 +33,7 @@ struct Needs {
 /// The sizes of a pane along the axis of its row.
 pub(crate) fn row_extent(axis: Axis, pane: &PaneFacts, children: &[ChildSize]) -> Extent
     requires { length children.now ≤ 4096 }
-    ensures { result ≡ row_extent (pane_axis axis pane.now) (along axis children.now) }
+    ensures { result ≡ spec.row_extent (pane_axis axis pane.now) (along axis children.now) }
 {
     let facts = pane_axis(axis, pane);
     let rest = insets(&facts) + gaps(facts.spacing, children.len());
@@ -43,7 +43,7 @@ pub(crate) fn row_extent(axis: Axis, pane: &PaneFacts, children: &[ChildSize]) -
 
 /// The sizes of a pane along the axis beside its row.
 pub(crate) fn beside_extent(axis: Axis, pane: &PaneFacts, children: &[ChildSize]) -> Extent
-    ensures { result ≡ beside_extent (pane_axis axis pane.now) (along axis children.now) }
+    ensures { result ≡ spec.beside_extent (pane_axis axis pane.now) (along axis children.now) }
 {
     let facts = pane_axis(axis, pane);
     let around = insets(&facts);
@@ -54,8 +54,8 @@ pub(crate) fn beside_extent(axis: Axis, pane: &PaneFacts, children: &[ChildSize]
 /// The minimum and the preferred lengths of all children together, with their margins.
 fn sums_along(axis: Axis, children: &[ChildSize]) -> Needs
     requires { length children.now ≤ 4096 }
-    ensures min { result.min ≡ sum_by (λ part. part.min) (parts_of (along axis children.now)) }
-    ensures pref { result.pref ≡ sum_by (λ part. part.pref) (parts_of (along axis children.now)) }
+    ensures min { result.min ≡ sum_by (λ part. part.min) (spec.parts_of (along axis children.now)) }
+    ensures pref { result.pref ≡ sum_by (λ part. part.pref) (spec.parts_of (along axis children.now)) }
     ensures most_min { result.min ≤ 2 ^ 32 * length children.now }
     ensures most_pref { result.pref ≤ 2 ^ 32 * length children.now }
 {
@@ -71,8 +71,8 @@ fn sums_along(axis: Axis, children: &[ChildSize]) -> Needs
 
 /// The greatest minimum and the greatest preferred length of the children with their margins, or 0.
 fn most_along(axis: Axis, children: &[ChildSize]) -> Needs
-    ensures min { result.min ≡ greatest_of (map (λ part. part.min) (parts_of (along axis children.now))) }
-    ensures pref { result.pref ≡ greatest_of (map (λ part. part.pref) (parts_of (along axis children.now))) }
+    ensures min { result.min ≡ greatest_of (map (λ part. part.min) (spec.parts_of (along axis children.now))) }
+    ensures pref { result.pref ≡ greatest_of (map (λ part. part.pref) (spec.parts_of (along axis children.now))) }
     ensures most_min { result.min < 2 ^ 32 }
     ensures most_pref { result.pref < 2 ^ 32 }
 {
@@ -98,9 +98,10 @@ pub(crate) fn row_rects(
     requires few { length children.now ≤ 4096 }
     requires along { length_along ≤ 100000 }
     requires beside { length_beside ≤ 100000 }
-    ensures { IfOk result (λ rects. rects.items ≡ zip2 (rect_along axis)
-        (row_spans (pane_axis axis pane.now) (along axis children.now) length_along)
-        (beside_spans (pane_axis (other axis) pane.now) (along (other axis) children.now) length_beside)) }
+    ensures { IfOk result (λ rects. rects.items ≡ zip2 (spec.rect_along axis)
+        (spec.row_spans (pane_axis axis pane.now) (along axis children.now) length_along)
+        (spec.beside_spans (pane_axis (spec.other axis) pane.now) (along (spec.other axis) children.now)
+        length_beside)) }
 {
     let facts = pane_axis(other(axis), pane);
     let parts = parts_along(alloc, axis, children)?;
@@ -116,7 +117,7 @@ pub(crate) fn row_rects(
 
 /// The parts of the children along an axis. They are gone over some six times, and are a tenth as long as children.
 fn parts_along(alloc: Global, axis: Axis, children: &[ChildSize]) -> Result<Vec<Part>, AllocError>
-    ensures { IfOk result (λ parts. parts.items ≡ parts_of (along axis children.now)) }
+    ensures { IfOk result (λ parts. parts.items ≡ spec.parts_of (along axis children.now)) }
 {
     let mut parts = Vec::with_capacity(alloc, children.len())?;
     for child in children {
@@ -130,8 +131,8 @@ pub(crate) fn row_for(pane: &PaneAxis, parts: &[Part], length_along: u64) -> Row
     requires pane { IsPaneAxis pane.now }
     requires few { length parts.now ≤ 4096 }
     requires long { length_along ≤ 100000 }
-    ensures spans { (children : List ChildAxis) → parts.now ≡ parts_of children
-        → spans_by result children ≡ row_spans pane.now children length_along }
+    ensures spans { (children : List ChildAxis) → parts.now ≡ spec.parts_of children
+        → spec.spans_by result children ≡ spec.row_spans pane.now children length_along }
     ensures at { result.at ≤ 2 ^ 18 }
     ensures spacing { result.spacing ≤ 100000 }
 {
@@ -153,8 +154,8 @@ impl Row {
         requires child { IsChildAxis child.now }
         requires at { self.old.at < 2 ^ 60 }
         requires spacing { self.old.spacing ≤ 100000 }
-        ensures next { (children : List ChildAxis) → spans_by self.old (child.now ∷ children)
-            ≡ result ∷ spans_by self.new children }
+        ensures next { (children : List ChildAxis) → spec.spans_by self.old (child.now ∷ children)
+            ≡ result ∷ spec.spans_by self.new children }
         ensures at { self.new.at ≤ self.old.at + 2 ^ 35 }
         ensures spacing { self.new.spacing ≡ self.old.spacing }
     {
@@ -169,7 +170,7 @@ impl Row {
 fn span_at(at: u64, child: &ChildAxis, outer_length: u64) -> Span
     requires at { at < 2 ^ 60 }
     requires child { IsChildAxis child.now }
-    ensures { result ≡ span_at at child.now outer_length }
+    ensures { result ≡ spec.span_at at child.now outer_length }
 {
     Span {
         start: pixels(at + child.before),
@@ -183,7 +184,7 @@ pub(crate) fn beside_span(pane: &PaneAxis, length_beside: u64, child: &ChildAxis
     requires pane { IsPaneAxis pane.now }
     requires long { length_beside ≤ 100000 }
     requires child { IsChildAxis child.now }
-    ensures { result ≡ beside_span pane.now length_beside child.now }
+    ensures { result ≡ spec.beside_span pane.now length_beside child.now }
 {
     let space = content(pane, length_beside);
     let room = space.saturating_sub(child.before + child.after);
@@ -197,7 +198,7 @@ pub(crate) fn beside_span(pane: &PaneAxis, length_beside: u64, child: &ChildAxis
 }
 
 fn rect_along(axis: Axis, along: Span, beside: Span) -> Rect
-    ensures { result ≡ rect_along axis along beside }
+    ensures { result ≡ spec.rect_along axis along beside }
 {
     match axis {
         Axis::Across => rect_of(along, beside),
@@ -206,7 +207,7 @@ fn rect_along(axis: Axis, along: Span, beside: Span) -> Rect
 }
 
 fn other(axis: Axis) -> Axis
-    ensures { result ≡ other axis }
+    ensures { result ≡ spec.other axis }
 {
     match axis {
         Axis::Across => Axis::Down,

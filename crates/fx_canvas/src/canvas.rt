@@ -3,7 +3,7 @@ ghost use Rattle.std.specs.Prelude.{◌≡◌, ◌↔◌, ◌<◌, ◌≤◌, �
 ghost use Rattle.std.specs.List.{list_all, sum_by};
 ghost use Rattle.fx_base.specs.Pixel.{white};
 ghost use Rattle.fx_canvas.specs.Painting.{is_met, most_writes, repainted, writes};
-ghost use Rattle.fx_canvas.specs.Surfaces.{IsSurface as IsWhole, begins, encloses, ends, is_size, lies_in, pixel_at, row_at, white_line, window};
+ghost use Rattle.fx_canvas.specs.Surfaces as spec;
 ghost use Rattle.fx_canvas.specs.declared.canvas.CanvasError.TheVariants.{Memory};
 ghost use Rattle.fx_row_text.specs.Rows.{row_text};
 
@@ -58,10 +58,10 @@ impl From<AllocError> for CanvasError {
 impl Canvas {
     /// A white canvas of so many columns and rows.
     pub fn new(alloc: Global, w: u32, h: u32) -> Result<Canvas, CanvasError>
-        ensures size { (result ≡ Err CanvasError.Size) ↔ (is_size w h ≡ false) }
+        ensures size { (result ≡ Err CanvasError.Size) ↔ (spec.is_size w h ≡ false) }
         ensures width { IfOk result (λ canvas. canvas.width ≡ w) }
         ensures height { IfOk result (λ canvas. canvas.height ≡ h) }
-        ensures white { IfOk result (λ canvas. (x y : ℕ) → x < w → y < h → pixel_at canvas.rows x y ≡ white) }
+        ensures white { IfOk result (λ canvas. (x y : ℕ) → x < w → y < h → spec.pixel_at canvas.rows x y ≡ white) }
     {
         if !is_size(w, h) {
             return Err(CanvasError::Size);
@@ -77,7 +77,7 @@ impl Canvas {
     /// Promises on its rows: there are as many as it is high, each as long as it is wide, and each pixel is of three
     /// bytes.
     pub fn laws(&self)
-        ensures { IsWhole self.now }
+        ensures { spec.IsSurface self.now }
     {
         let _width = self.width;
     }
@@ -100,7 +100,7 @@ impl Canvas {
 
     /// Whether all of the rectangles lie within the canvas, so that they can be painted anew.
     pub fn has_all(&self, rects: &[Rect]) -> bool
-        ensures { result ≡ list_all (lies_in self.now.width self.now.height) rects.now }
+        ensures { result ≡ list_all (spec.lies_in self.now.width self.now.height) rects.now }
     {
         rects
             .iter()
@@ -110,12 +110,13 @@ impl Canvas {
     /// Paints the rectangles anew: whitens each, and lays each shape of the picture over it in order. Each pixel that
     /// is written is counted; rows that no rectangle meets stay as they are, with their texts.
     pub fn repaint<L: Ledgers>(&mut self, picture: &Picture, damage: &[Rect], work: &mut Work<L>)
-        requires { list_all (lies_in self.old.width self.old.height) damage.now ≡ true }
+        requires { list_all (spec.lies_in self.old.width self.old.height) damage.now ≡ true }
         ensures width { self.new.width ≡ self.old.width }
         ensures height { self.new.height ≡ self.old.height }
-        ensures pixels { (x y : ℕ) → x < self.old.width → y < self.old.height → pixel_at self.new.rows x y
-            ≡ repainted picture.now.entries damage.now x y (pixel_at self.old.rows x y) }
-        ensures kept { (y : ℕ) → is_met damage.now y ≡ false → row_at self.new.rows y ≡ row_at self.old.rows y }
+        ensures pixels { (x y : ℕ) → x < self.old.width → y < self.old.height → spec.pixel_at self.new.rows x y
+            ≡ repainted picture.now.entries damage.now x y (spec.pixel_at self.old.rows x y) }
+        ensures kept { (y : ℕ) → is_met damage.now y ≡ false
+            → spec.row_at self.new.rows y ≡ spec.row_at self.old.rows y }
         ensures work { work.new ≡ record work.old {
           painted = work.old.painted + sum_by (writes picture.now.entries) damage.now;
         } }
@@ -132,7 +133,7 @@ impl Canvas {
     /// The pixels of a row, each 0x00RRGGBB, counted from the top.
     pub fn row(&self, y: u32) -> &[u32]
         requires { y < self.now.height }
-        ensures pixels { result.now ≡ (row_at self.now.rows y).pixels }
+        ensures pixels { result.now ≡ (spec.row_at self.now.rows y).pixels }
         ensures long { length result.now ≡ self.now.width }
         ensures narrow { length result.now ≤ 2048 }
     {
@@ -141,8 +142,8 @@ impl Canvas {
 
     /// Prints each row whose text is stale. Want of memory leaves some stale, and nothing else.
     pub fn refresh(&mut self) -> Result<(), AllocError>
-        ensures fresh { OnOk result ((y : ℕ) → y < self.old.height → (row_at self.new.rows y).stale ≡ false) }
-        ensures pixels { (y : ℕ) → (row_at self.new.rows y).pixels ≡ (row_at self.old.rows y).pixels }
+        ensures fresh { OnOk result ((y : ℕ) → y < self.old.height → (spec.row_at self.new.rows y).stale ≡ false) }
+        ensures pixels { (y : ℕ) → (spec.row_at self.new.rows y).pixels ≡ (spec.row_at self.old.rows y).pixels }
         ensures width { self.new.width ≡ self.old.width }
         ensures height { self.new.height ≡ self.old.height }
     {
@@ -152,27 +153,27 @@ impl Canvas {
     /// The text of a row, six hexadecimal digits a pixel, with a line feed.
     pub fn text(&self, y: u32) -> &[u8]
         requires within { y < self.now.height }
-        requires fresh { (row_at self.now.rows y).stale ≡ false }
-        ensures { result.now ≡ row_text (row_at self.now.rows y).pixels }
+        requires fresh { (spec.row_at self.now.rows y).stale ≡ false }
+        ensures { result.now ≡ row_text (spec.row_at self.now.rows y).pixels }
     {
         self.rows[y as usize].text()
     }
 }
 
 fn is_size(w: u32, h: u32) -> bool
-    ensures { result ≡ is_size w h }
+    ensures { result ≡ spec.is_size w h }
 {
     1 <= w && w <= MOST && 1 <= h && h <= MOST
 }
 
 fn lies_in(rect: Rect, width: u32, height: u32) -> bool
-    ensures { result ≡ lies_in width height rect }
+    ensures { result ≡ spec.lies_in width height rect }
 {
     encloses(window(width, height), bounds_of(rect))
 }
 
 fn window(width: u32, height: u32) -> Bounds
-    ensures { result ≡ window width height }
+    ensures { result ≡ spec.window width height }
 {
     Bounds {
         min_x: 0,
@@ -183,25 +184,25 @@ fn window(width: u32, height: u32) -> Bounds
 }
 
 fn encloses(outer: Bounds, inner: Bounds) -> bool
-    ensures { result ≡ encloses outer inner }
+    ensures { result ≡ spec.encloses outer inner }
 {
     begins(outer, inner) && ends(outer, inner)
 }
 
 fn begins(outer: Bounds, inner: Bounds) -> bool
-    ensures { result ≡ begins outer inner }
+    ensures { result ≡ spec.begins outer inner }
 {
     outer.min_x <= inner.min_x && outer.min_y <= inner.min_y
 }
 
 fn ends(outer: Bounds, inner: Bounds) -> bool
-    ensures { result ≡ ends outer inner }
+    ensures { result ≡ spec.ends outer inner }
 {
     inner.max_x <= outer.max_x && inner.max_y <= outer.max_y
 }
 
 fn white_rows(alloc: Global, width: usize, height: usize) -> Result<Vec<Row>, AllocError>
-    ensures { IfOk result (λ rows. rows.items ≡ replicate height (white_line width)) }
+    ensures { IfOk result (λ rows. rows.items ≡ replicate height (spec.white_line width)) }
 {
     let mut rows = Vec::with_capacity(alloc, height)?;
     for _ in 0..height {
@@ -211,8 +212,8 @@ fn white_rows(alloc: Global, width: usize, height: usize) -> Result<Vec<Row>, Al
 }
 
 fn refresh_all(rows: &mut [Row]) -> Result<(), AllocError>
-    ensures fresh { OnOk result ((y : ℕ) → y < length rows.old → (row_at rows.new y).stale ≡ false) }
-    ensures pixels { (y : ℕ) → (row_at rows.new y).pixels ≡ (row_at rows.old y).pixels }
+    ensures fresh { OnOk result ((y : ℕ) → y < length rows.old → (spec.row_at rows.new y).stale ≡ false) }
+    ensures pixels { (y : ℕ) → (spec.row_at rows.new y).pixels ≡ (spec.row_at rows.old y).pixels }
 {
     for row in rows.iter_mut() {
         row.refresh()?;

@@ -4,7 +4,7 @@ ghost use Rattle.std.specs.Prelude.{◌≡◌, ◌↔◌, ◌≤◌, ◌<◌, �
 ghost use Rattle.fx_base.specs.Pixel.{white};
 ghost use Rattle.fx_text.specs.Characters.{line_feed};
 ghost use Rattle.fx_delta.specs.Lines.{item_line};
-ghost use Rattle.fx_delta.specs.Pictures.{is_size};
+ghost use Rattle.fx_delta.specs.Pictures as spec;
 ghost use Rattle.fx_row_text.specs.Appending.{Appends};
 ghost use Rattle.fx_delta.specs.declared.views.ViewError.TheVariants.{Memory};
 
@@ -59,17 +59,15 @@ impl From<AllocError> for ViewError {
 
 /// Can a picture have so many columns and rows?
 pub fn is_size(width: u32, height: u32) -> bool
-    ensures { result ≡ is_size width height }
+    ensures { result ≡ spec.is_size width height }
 {
     1 <= width && width <= MOST && 1 <= height && height <= MOST
 }
 
 impl View {
-    ghost use Rattle.fx_delta.specs.Pictures.{Lies, begun, image, lies, no_picture, row_of, shows, start_of, with_pixels};
-
     /// A view before its first frame.
     pub fn new(alloc: Global) -> View
-        ensures { result ≡ no_picture }
+        ensures { result ≡ spec.no_picture }
     {
         View {
             width: 0,
@@ -80,8 +78,8 @@ impl View {
 
     /// Begins a frame of so many columns and rows. The picture is white where its size changes.
     pub fn begin(&mut self, alloc: Global, w: u32, h: u32) -> Result<(), ViewError>
-        ensures ok { OnOk result (self.new ≡ begun w h self.old) }
-        ensures size { (result ≡ Err ViewError.Size) ↔ (is_size w h ≡ false) }
+        ensures ok { OnOk result (self.new ≡ spec.begun w h self.old) }
+        ensures size { (result ≡ Err ViewError.Size) ↔ (spec.is_size w h ≡ false) }
         ensures err { OnErr result (self.new ≡ self.old) }
     {
         if !is_size(w, h) {
@@ -107,11 +105,11 @@ impl View {
         out: &mut Vec<u8>,
     ) -> Result<bool, AllocError>
         requires some { 1 ≤ length pixels.now }
-        requires within { Lies self.old x y (length pixels.now) }
-        ensures sent { IfOk result (λ sent. sent ≡ not (shows self.old x y pixels.now)) }
+        requires within { spec.Lies self.old x y (length pixels.now) }
+        ensures sent { IfOk result (λ sent. sent ≡ not (spec.shows self.old x y pixels.now)) }
         ensures out { IfOk result (λ sent. out.new.items ≡ out.old.items ++ (if sent
             then item_line (record { x = x; y = y; pixels = pixels.now }) ++ line_feed ∷ [] else [])) }
-        ensures shown { OnOk result (self.new ≡ with_pixels self.old x y pixels.now) }
+        ensures shown { OnOk result (self.new ≡ spec.with_pixels self.old x y pixels.now) }
         ensures err { OnErr result ((self.new ≡ self.old) × (out.new.items ≡ out.old.items)) }
     {
         if self.shows(x, y, pixels) {
@@ -126,7 +124,7 @@ impl View {
     /// The pixels of a row, counted from the top.
     pub fn row(&self, y: u32) -> &[u32]
         requires { y < self.now.height }
-        ensures { result.now ≡ row_of self.now y }
+        ensures { result.now ≡ spec.row_of self.now y }
     {
         let start = self.start_of(0, y);
         &self.pixels[start..start + self.width as usize]
@@ -134,8 +132,8 @@ impl View {
 
     /// Shows the pixels from column `x` of row `y` on, and sends nothing.
     pub fn put(&mut self, x: u32, y: u32, pixels: &[u32])
-        requires { Lies self.old x y (length pixels.now) }
-        ensures { self.new ≡ with_pixels self.old x y pixels.now }
+        requires { spec.Lies self.old x y (length pixels.now) }
+        ensures { self.new ≡ spec.with_pixels self.old x y pixels.now }
     {
         let start = self.start_of(x, y);
         replace(self.pixels.as_mut_slice(), start, pixels);
@@ -143,7 +141,7 @@ impl View {
 
     /// Whether so many pixels from column `x` of row `y` on lie within the picture.
     pub fn holds(&self, x: u32, y: u32, count: usize) -> bool
-        ensures { result ≡ lies self.now x y count }
+        ensures { result ≡ spec.lies self.now x y count }
     {
         y < self.height && x <= self.width && count <= (self.width - x) as usize
     }
@@ -159,7 +157,7 @@ impl View {
 
     /// Appends all rows as text.
     pub(crate) fn print(&self, out: &mut Vec<u8>) -> Result<(), AllocError>
-        ensures { Appends out.old.items out.new.items result (image self.now) }
+        ensures { Appends out.old.items out.new.items result (spec.image self.now) }
     {
         for y in 0..self.height {
             append_row(out, self.row(y))?;
@@ -168,8 +166,8 @@ impl View {
     }
 
     fn shows(&self, x: u32, y: u32, pixels: &[u32]) -> bool
-        requires { Lies self.now x y (length pixels.now) }
-        ensures { result ≡ shows self.now x y pixels.now }
+        requires { spec.Lies self.now x y (length pixels.now) }
+        ensures { result ≡ spec.shows self.now x y pixels.now }
     {
         let start = self.start_of(x, y);
         equal(&self.pixels[start..start + pixels.len()], pixels)
@@ -179,7 +177,7 @@ impl View {
     fn start_of(&self, x: u32, y: u32) -> usize
         requires across { x ≤ self.now.width }
         requires down { y < self.now.height }
-        ensures start { result ≡ start_of self.now x y }
+        ensures start { result ≡ spec.start_of self.now x y }
         ensures room { result + (self.now.width - x) ≤ length self.now.pixels }
     {
         y as usize * self.width as usize + x as usize

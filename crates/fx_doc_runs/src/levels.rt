@@ -3,8 +3,8 @@
 ghost use Rattle.std.specs.Prelude.{◌≡◌, true, nat_lt, OnOk, IsErrOf};
 ghost use Rattle.fx_doc_grammar.specs.Grammar.{fresh_level, one_sign, one_child, closed, first_shown};
 ghost use Rattle.fx_doc_grammar.specs.Characters.{class_of};
-ghost use Rattle.fx_doc_grammar.specs.Machine.{at, initial, Inside, open_element, close, with_sign, with_leaf, level_long, is_open, may_begin, stack_depth};
-ghost use Rattle.fx_doc_runs.specs.Views.{nodes_of, level_view, level_behind, head_view, stack_view, held_view, mode_view, open_name, Moves, view};
+ghost use Rattle.fx_doc_grammar.specs.Machine as machine;
+ghost use Rattle.fx_doc_runs.specs.Views as views;
 
 use crate::document::{Content, Element};
 use crate::modes::{Head, Held, Level, Mode, Open, Reader};
@@ -16,7 +16,8 @@ use std::mem;
 
 /// The reader goes on in this mode.
 pub fn goes(held: &Held, mode: Mode) -> Result<Option<Mode>, Halt>
-    ensures { Moves (at (held_view held.now) (mode_view (stack_view held.now.stack.items) mode)) held.now result }
+    ensures { views.Moves (machine.at (views.held_view held.now)
+        (views.mode_view (views.stack_view held.now.stack.items) mode)) held.now result }
 {
     let _held = held;
     Ok(Some(mode))
@@ -27,7 +28,7 @@ const DEPTH_LIMIT: usize = 128;
 
 impl Level {
     pub fn new(alloc: Global) -> Level
-        ensures { level_view result ≡ fresh_level }
+        ensures { views.level_view result ≡ fresh_level }
     {
         Level {
             content: Vec::new(alloc),
@@ -38,7 +39,7 @@ impl Level {
 
     /// Appends a character, which is written at that position, to the run.
     pub fn add_sign(&mut self, position: Position, c: char) -> Result<(), Halt>
-        ensures sign { OnOk result (level_view self.new ≡ one_sign position c (level_view self.old)) }
+        ensures sign { OnOk result (views.level_view self.new ≡ one_sign position c (views.level_view self.old)) }
         ensures refused { IsErrOf result Halt.Long → self.old.run.count ≡ 4096 }
     {
         self.run.push(c)?;
@@ -48,7 +49,7 @@ impl Level {
 
     /// Puts the run behind the content, unless it is blank, and begins another.
     pub fn end_run(&mut self, alloc: Global) -> Result<(), AllocError>
-        ensures { OnOk result (level_view self.new ≡ level_behind (closed (level_view self.old))) }
+        ensures { OnOk result (views.level_view self.new ≡ views.level_behind (closed (views.level_view self.old))) }
     {
         match self.first {
             None => {
@@ -61,7 +62,7 @@ impl Level {
 
     fn keep_run(&mut self, alloc: Global, position: Position) -> Result<(), AllocError>
         requires { self.old.first ≡ Some position }
-        ensures { OnOk result (level_view self.new ≡ level_behind (closed (level_view self.old))) }
+        ensures { OnOk result (views.level_view self.new ≡ views.level_behind (closed (views.level_view self.old))) }
     {
         let run = mem::replace(&mut self.run, Draft::new(alloc));
         self.first = None;
@@ -77,8 +78,8 @@ impl Level {
         head: Head,
         inner: Vec<Content>,
     ) -> Result<(), AllocError>
-        ensures { OnOk result (level_view self.new
-            ≡ one_child (level_view self.old) (head_view head) (nodes_of inner.items)) }
+        ensures { OnOk result (views.level_view self.new
+            ≡ one_child (views.level_view self.old) (views.head_view head) (views.nodes_of inner.items)) }
     {
         self.end_run(alloc)?;
         let Head {
@@ -111,21 +112,21 @@ fn shown_first(first: Option<Position>, position: Position, c: char) -> Option<P
 impl Held {
     /// Is an element open?
     pub fn is_within(&self) -> bool
-        ensures { result ≡ is_open (stack_view self.now.stack.items) }
+        ensures { result ≡ machine.is_open (views.stack_view self.now.stack.items) }
     {
         !self.stack.is_empty()
     }
 
     /// Are fewer elements open than may be where one begins?
     pub fn has_depth(&self) -> bool
-        ensures { result ≡ nat_lt (stack_depth (stack_view self.now.stack.items)) 128 }
+        ensures { result ≡ nat_lt (machine.stack_depth (views.stack_view self.now.stack.items)) 128 }
     {
         self.stack.len() < DEPTH_LIMIT
     }
 
     /// Is this the name of the innermost open element?
     pub fn is_open_name(&self, name: &str) -> bool
-        ensures { result ≡ true → open_name (stack_view self.now.stack.items) ≡ name.now }
+        ensures { result ≡ true → views.open_name (views.stack_view self.now.stack.items) ≡ name.now }
     {
         let Some(open) = self.stack.last() else {
             return false;
@@ -135,15 +136,17 @@ impl Held {
 
     /// May an element begin here: within another, or as the first?
     pub fn may_begin(&self) -> bool
-        ensures { result ≡ may_begin (held_view self.now) }
+        ensures { result ≡ machine.may_begin (views.held_view self.now) }
     {
         self.is_within() || self.level.content.is_empty()
     }
 
     /// Appends a character to the run at hand; white outside the elements is not kept.
     pub fn add_sign(&mut self, position: Position, c: char) -> Result<(), Halt>
-        ensures sign { OnOk result (held_view self.new ≡ with_sign position c (held_view self.old)) }
-        ensures refused { IsErrOf result Halt.Long → level_long (with_sign position c (held_view self.old)) ≡ true }
+        ensures sign { OnOk result (views.held_view self.new
+            ≡ machine.with_sign position c (views.held_view self.old)) }
+        ensures refused { IsErrOf result Halt.Long
+            → machine.level_long (machine.with_sign position c (views.held_view self.old)) ≡ true }
     {
         if !self.is_within() {
             return Ok(());
@@ -153,14 +156,16 @@ impl Held {
 
     /// Adds an element that has no content.
     pub fn add_leaf(&mut self, alloc: Global, head: Head) -> Result<(), AllocError>
-        ensures { OnOk result (held_view self.new ≡ with_leaf (held_view self.old) (head_view head)) }
+        ensures { OnOk result (views.held_view self.new
+            ≡ machine.with_leaf (views.held_view self.old) (views.head_view head)) }
     {
         self.level.add_child(alloc, head, Vec::new(alloc))
     }
 
     /// An element begins with this tag.
     pub fn open(&mut self, alloc: Global, head: Head) -> Result<(), AllocError>
-        ensures { OnOk result (held_view self.new ≡ open_element (held_view self.old) (head_view head)) }
+        ensures { OnOk result (views.held_view self.new
+            ≡ machine.open_element (views.held_view self.old) (views.head_view head)) }
     {
         let before = mem::replace(&mut self.level, Level::new(alloc));
         self.stack.push(Open { before, head })?;
@@ -169,7 +174,7 @@ impl Held {
 
     /// The innermost element ends.
     pub fn close(&mut self, alloc: Global) -> Result<Option<Mode>, Halt>
-        ensures { Moves (close (held_view self.old)) self.new result }
+        ensures { views.Moves (machine.close (views.held_view self.old)) self.new result }
     {
         let Some(open) = self.stack.pop() else {
             return Ok(None);
@@ -190,7 +195,7 @@ impl Held {
 impl Reader {
     /// The reader before a text.
     pub fn new(alloc: Global) -> Reader
-        ensures { view result ≡ initial }
+        ensures { views.view result ≡ machine.initial }
     {
         let held = Held {
             imports: Vec::new(alloc),

@@ -1,6 +1,6 @@
 -- The lines on timelines, one case a line.
 use Rattle.std.specs.Prelude.{ℕ, Bool, true, false, ◌&&◌, ◌==◌, not, nat_le, List, [], length, map, is_some, Option, Some, None, Result, Ok, Err}
-use Rattle.fx_anim.specs.Line.{Line, begun as line_begun, is_new, line_at, longest, new_line, sets_of, stopped, ticked, with_frame}
+use Rattle.fx_anim.specs.Line as timeline
 use Rattle.fx_base.specs.declared.keys.Name.{Name}
 use Rattle.fx_base.specs.declared.values.Value.{Value}
 use Rattle.fx_graph_model.specs.Refusals.{kind_at, read_only_in}
@@ -29,7 +29,7 @@ is_time_line other = false
 
 -- at most 256 timelines, of at most 1,024 key frames each
 
-abbrev pub with_room : List ℕ → Line → Clock → Result Clock Refusal
+abbrev pub with_room : List ℕ → timeline.Line → Clock → Result Clock Refusal
 with_room label line clock =
     unless (nat_le 256 (length clock.lines)) word.Full (Ok (with_timeline label line clock))
 
@@ -37,14 +37,14 @@ unfoldable pub added : List ℕ → List ℕ → Bool → Clock → Result Clock
 added label count back clock =
     and_then (or_word word.Value (count_of count)) (λ (cycles : Option ℕ).
     unless (is_some (place_of label clock)) word.Exists
-    (with_room label (new_line (record { count = cycles; reverse = back })) clock))
+    (with_room label (timeline.new_line (record { count = cycles; reverse = back })) clock))
 
 -- a key frame takes the place of one of its time and property
-abbrev pub keyed_at : ℕ → Frame → Clock → Line → Result Clock Refusal
+abbrev pub keyed_at : ℕ → Frame → Clock → timeline.Line → Result Clock Refusal
 keyed_at place frame clock line =
     unless line.playing word.Used
-    (unless (is_new frame line.frames && nat_le 1024 (length line.frames)) word.Full
-    (Ok (changed_at place (with_frame frame) clock)))
+    (unless (timeline.is_new frame line.frames && nat_le 1024 (length line.frames)) word.Full
+    (Ok (changed_at place (timeline.with_frame frame) clock)))
 
 unfoldable pub keyed : List ℕ → List ℕ → List (List ℕ) → List ℕ → Clock → World → Result Clock Refusal
 keyed label time path text clock world =
@@ -53,19 +53,19 @@ keyed label time path text clock world =
     unless (read_only_in world.store.entries name.0) word.ReadOnly
     (and_then (or_word word.Value (time_of 0 time)) (λ (at : ℕ).
     and_then (or_word word.Value (value_at (kind_at world.store.entries name.0) text)) (λ (value : Value).
-    keyed_at place (record { at = at; name = name; value = value }) clock (line_at clock.lines place))))))
+    keyed_at place (record { at = at; name = name; value = value }) clock (timeline.line_at clock.lines place))))))
 
 -- a timeline that doesn't play can be played only where it has a key frame behind its start
-abbrev pub is_empty : Line → Bool
-is_empty line = not line.playing && (longest line.frames == 0)
+abbrev pub is_empty : timeline.Line → Bool
+is_empty line = not line.playing && (timeline.longest line.frames == 0)
 
 unfoldable pub played : List ℕ → Clock → Result Clock Refusal
 played label clock =
     and_then (find clock label) (λ (place : ℕ).
-    unless (is_empty (line_at clock.lines place)) word.Value (Ok (changed_at place line_begun clock)))
+    unless (is_empty (timeline.line_at clock.lines place)) word.Value (Ok (changed_at place timeline.begun clock)))
 
 unfoldable pub halted : List ℕ → Clock → Result Clock Refusal
-halted label clock = and_then (find clock label) (λ (place : ℕ). Ok (changed_at place stopped clock))
+halted label clock = and_then (find clock label) (λ (place : ℕ). Ok (changed_at place timeline.stopped clock))
 
 -- the timelines behind a line, and how far the line has come
 pub record Passed : Type 0 where
@@ -75,8 +75,8 @@ pub record Passed : Type 0 where
 abbrev pub passed : ℕ → Clock → World → Passed
 passed ms clock world =
     record {
-      clock = record clock { lines = map (ticked ms) clock.lines };
-      course = all_animated (sets_of ms clock.lines) (begun world);
+      clock = record clock { lines = map (timeline.ticked ms) clock.lines };
+      course = all_animated (timeline.sets_of ms clock.lines) (begun world);
     }
 
 -- time passes for all that play
@@ -106,7 +106,7 @@ time_step number instruction clock world = passed_or_refused number clock world 
 
 -- how many expressions the line evaluates at most: only time that passes sets properties
 abbrev pub tick_cost : Option ℕ → Clock → World → ℕ
-tick_cost (Some ms) clock world = cost_of_sets (sets_of ms clock.lines) world
+tick_cost (Some ms) clock world = cost_of_sets (timeline.sets_of ms clock.lines) world
 tick_cost None clock world = 0
 
 unfoldable pub time_cost : Instruction → Clock → World → ℕ

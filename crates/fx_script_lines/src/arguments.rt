@@ -1,6 +1,7 @@
 //! What stands behind the first words of lines, up to the end of the line.
 //! Several first words share one arrangement; forms.rt says which.
-ghost use Rattle.fx_script_lines.specs.Taking.{Gives, alone, label, pair, path, quadruple, rest, reverse, triple, word};
+ghost use Rattle.fx_script_lines.specs.Taking as spec;
+ghost use Rattle.fx_script_lines.specs.Taking.{Gives};
 ghost use Rattle.fx_script_lines.specs.declared.shapes.Shape.TheVariants as shape;
 
 use crate::shapes::Shape;
@@ -11,7 +12,7 @@ use std::alloc::Global;
 
 impl Words<'_> {
     pub(crate) fn path_alone(&mut self, alloc: Global) -> Result<List<Text>, Stop>
-        ensures { Gives result (alone path self.old.left.now) }
+        ensures { Gives result (spec.alone spec.path self.old.left.now) }
     {
         let path = self.path(alloc)?;
         self.end()?;
@@ -20,7 +21,7 @@ impl Words<'_> {
 
     /// A word of this shape, and nothing behind it.
     pub fn word_alone(&mut self, alloc: Global, form: Shape) -> Result<Text, Stop>
-        ensures { Gives result (alone (word form) self.old.left.now) }
+        ensures { Gives result (spec.alone (spec.word form) self.old.left.now) }
     {
         let word = self.word(alloc, form)?;
         self.end()?;
@@ -28,7 +29,7 @@ impl Words<'_> {
     }
 
     pub(crate) fn rest_alone(&mut self, alloc: Global) -> Result<Str, Stop>
-        ensures { Gives result (alone rest self.old.left.now) }
+        ensures { Gives result (spec.alone spec.rest self.old.left.now) }
     {
         let rest = self.rest(alloc)?;
         self.end()?;
@@ -36,7 +37,7 @@ impl Words<'_> {
     }
 
     pub(crate) fn path_and_rest(&mut self, alloc: Global) -> Result<(List<Text>, Str), Stop>
-        ensures { Gives result (pair path rest self.old.left.now) }
+        ensures { Gives result (spec.pair spec.path spec.rest self.old.left.now) }
     {
         let path = self.path(alloc)?;
         let rest = self.rest(alloc)?;
@@ -45,7 +46,7 @@ impl Words<'_> {
     }
 
     pub(crate) fn two_paths(&mut self, alloc: Global) -> Result<(List<Text>, List<Text>), Stop>
-        ensures { Gives result (pair path path self.old.left.now) }
+        ensures { Gives result (spec.pair spec.path spec.path self.old.left.now) }
     {
         let one = self.path(alloc)?;
         let other = self.path(alloc)?;
@@ -58,7 +59,7 @@ impl Words<'_> {
         alloc: Global,
         form: Shape,
     ) -> Result<(List<Text>, Text), Stop>
-        ensures { Gives result (pair path (word form) self.old.left.now) }
+        ensures { Gives result (spec.pair spec.path (spec.word form) self.old.left.now) }
     {
         let path = self.path(alloc)?;
         let word = self.word(alloc, form)?;
@@ -72,7 +73,7 @@ impl Words<'_> {
         first: Shape,
         second: Shape,
     ) -> Result<(Text, Text), Stop>
-        ensures { Gives result (pair (word first) (word second) self.old.left.now) }
+        ensures { Gives result (spec.pair (spec.word first) (spec.word second) self.old.left.now) }
     {
         let one = self.word(alloc, first)?;
         let other = self.word(alloc, second)?;
@@ -86,7 +87,7 @@ impl Words<'_> {
         first: Shape,
         second: Shape,
     ) -> Result<(Text, Text, Str), Stop>
-        ensures { Gives result (triple (word first) (word second) rest self.old.left.now) }
+        ensures { Gives result (spec.triple (spec.word first) (spec.word second) spec.rest self.old.left.now) }
     {
         let one = self.word(alloc, first)?;
         let other = self.word(alloc, second)?;
@@ -99,7 +100,7 @@ impl Words<'_> {
         &mut self,
         alloc: Global,
     ) -> Result<(List<Text>, Text, Str), Stop>
-        ensures { Gives result (triple path (word shape.Any) rest self.old.left.now) }
+        ensures { Gives result (spec.triple spec.path (spec.word shape.Any) spec.rest self.old.left.now) }
     {
         let path = self.path(alloc)?;
         let word = self.word(alloc, Shape::Any)?;
@@ -113,7 +114,7 @@ impl Words<'_> {
         alloc: Global,
         second: Shape,
     ) -> Result<(List<Text>, Text, Text), Stop>
-        ensures { Gives result (triple path (word shape.Any) (word second) self.old.left.now) }
+        ensures { Gives result (spec.triple spec.path (spec.word shape.Any) (spec.word second) self.old.left.now) }
     {
         let path = self.path(alloc)?;
         let one = self.word(alloc, Shape::Any)?;
@@ -126,7 +127,7 @@ impl Words<'_> {
         &mut self,
         alloc: Global,
     ) -> Result<(List<Text>, List<Text>, Text), Stop>
-        ensures { Gives result (triple path path (word shape.Place) self.old.left.now) }
+        ensures { Gives result (spec.triple spec.path spec.path (spec.word shape.Place) self.old.left.now) }
     {
         let parent = self.path(alloc)?;
         let child = self.path(alloc)?;
@@ -139,7 +140,7 @@ impl Words<'_> {
         &mut self,
         alloc: Global,
     ) -> Result<(Text, List<Text>, Option<Text>), Stop>
-        ensures { Gives result (triple (word shape.Notice) path label self.old.left.now) }
+        ensures { Gives result (spec.triple (spec.word shape.Notice) spec.path spec.label self.old.left.now) }
     {
         let notice = self.word(alloc, Shape::Notice)?;
         let path = self.path(alloc)?;
@@ -152,7 +153,8 @@ impl Words<'_> {
         &mut self,
         alloc: Global,
     ) -> Result<(Text, List<Text>, Text, Option<Text>), Stop>
-        ensures { Gives result (quadruple (word shape.Notice) path (word shape.Identifier) label self.old.left.now) }
+        ensures { Gives result (spec.quadruple (spec.word shape.Notice) spec.path (spec.word shape.Identifier)
+            spec.label self.old.left.now) }
     {
         let notice = self.word(alloc, Shape::Notice)?;
         let path = self.path(alloc)?;
@@ -163,7 +165,8 @@ impl Words<'_> {
     }
 
     pub(crate) fn timeline_of(&mut self, alloc: Global) -> Result<(Text, Text, bool), Stop>
-        ensures { Gives result (triple (word shape.Identifier) (word shape.Count) reverse self.old.left.now) }
+        ensures { Gives result (spec.triple (spec.word shape.Identifier) (spec.word shape.Count) spec.reverse
+            self.old.left.now) }
     {
         let name = self.word(alloc, Shape::Identifier)?;
         let count = self.word(alloc, Shape::Count)?;
@@ -176,7 +179,8 @@ impl Words<'_> {
         &mut self,
         alloc: Global,
     ) -> Result<(Text, Text, List<Text>, Str), Stop>
-        ensures { Gives result (quadruple (word shape.Identifier) (word shape.Integer) path rest self.old.left.now) }
+        ensures { Gives result (spec.quadruple (spec.word shape.Identifier) (spec.word shape.Integer) spec.path
+            spec.rest self.old.left.now) }
     {
         let name = self.word(alloc, Shape::Identifier)?;
         let time = self.word(alloc, Shape::Integer)?;

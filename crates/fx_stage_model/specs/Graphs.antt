@@ -13,7 +13,7 @@ use Rattle.fx_kinds.specs.declared.classes.Class.TheVariants as class
 use Rattle.fx_kinds.specs.Classes.{takes_children}
 use Rattle.fx_tree.specs.declared.TreeError.{TreeError}
 use Rattle.fx_tree.specs.Refusals.{attach_refusal, is_full as is_full_of}
-use Rattle.fx_tree.specs.Scene.{Scene, after_attach, after_detach, after_drop, after_make, after_set_root, children_or_none, has, nothing, subtree}
+use Rattle.fx_tree.specs.Scene as scene
 use Rattle.fx_stage_types.specs.declared.answers.StageError.{StageError}
 use Rattle.fx_stage_types.specs.declared.answers.StageError.TheVariants.{Refused}
 use Rattle.fx_stage_types.specs.declared.edits.NodeEdit.{NodeEdit}
@@ -29,7 +29,7 @@ use Rattle.fx_stage_types.specs.Tables.{NodeTable, Paths, changed_data, data_of,
 -- sheets; and which nodes the pointer is over, which the button holds, from the outermost, which of these was pressed,
 -- and which has the focus.
 pub record Graph : Type 0 where
-  pub tree : Scene
+  pub tree : scene.Scene
   pub table : NodeTable
   pub handlers : HandlerMap
   pub paths : Paths
@@ -43,7 +43,7 @@ pub record Graph : Type 0 where
 abbrev pub bare : Graph
 bare =
     record {
-      tree = nothing;
+      tree = scene.nothing;
       table = nobody;
       handlers = unhandled;
       paths = [];
@@ -55,7 +55,7 @@ bare =
     }
 
 -- the scene graph of these parts
-abbrev pub graph_of : Scene → NodeTable → HandlerMap → Paths → List Sheet → List NodeKey → List NodeKey
+abbrev pub graph_of : scene.Scene → NodeTable → HandlerMap → Paths → List Sheet → List NodeKey → List NodeKey
     → Option NodeKey → Option NodeKey → Graph
 graph_of tree table handlers paths sheets hover pressed target focus =
     record {
@@ -81,7 +81,7 @@ make_refusal graph = if is_full_of_nodes graph then Some (Refused word.Full) els
 abbrev pub with_born : Class → ℕ → NodeKey → Graph → Graph
 with_born class first key graph =
     record graph {
-      tree = after_make graph.tree key;
+      tree = scene.after_make graph.tree key;
       table = map_of.insert graph.table key (born_data class first);
     }
 
@@ -102,7 +102,7 @@ root_class = codes "root"
 abbrev pub rooted : NodeKey → Graph → Graph
 rooted key graph =
     record graph {
-      tree = after_set_root graph.tree key;
+      tree = scene.after_set_root graph.tree key;
       table = changed_data key (edited (edit.AddClass root_class)) graph.table;
     }
 
@@ -162,7 +162,7 @@ place_in table pane children spot =
 
 abbrev pub place_of : Graph → NodeKey → Spot → ℕ
 place_of graph pane spot =
-    place_in graph.table (data_of graph.table pane) (children_or_none graph.tree.nodes pane) spot
+    place_in graph.table (data_of graph.table pane) (scene.children_or_none graph.tree.nodes pane) spot
 
 abbrev pub edge_at : Spot → Option ℕ
 edge_at (At place) = None
@@ -171,7 +171,7 @@ edge_at (On edge) = Some edge
 unfoldable pub attached : NodeKey → NodeKey → Spot → Graph → Graph
 attached pane child spot graph =
     record graph {
-      tree = after_attach graph.tree pane child (place_of graph pane spot);
+      tree = scene.after_attach graph.tree pane child (place_of graph pane spot);
       table = changed_data child (with_edge (edge_at spot)) graph.table;
     }
 
@@ -182,22 +182,22 @@ child_refusal pane child spot graph = attach_refusal graph.tree pane child (plac
 
 -- these keys but for those that are gone
 abbrev pub outside : List NodeKey → List NodeKey → List NodeKey
-outside gone keys = filter (λ (key : NodeKey). not (has gone key)) keys
+outside gone keys = filter (λ (key : NodeKey). not (scene.has gone key)) keys
 
 abbrev pub kept_outside : List NodeKey → Option NodeKey → Option NodeKey
 kept_outside gone None = None
-kept_outside gone (Some key) = if has gone key then None else Some key
+kept_outside gone (Some key) = if scene.has gone key then None else Some key
 
 -- a node and all below it have no parent, and aren't under the pointer, nor held by the button, nor in focus
 unfoldable pub detached : NodeKey → Graph → Graph
 detached key graph =
     record graph {
-      tree = after_detach graph.tree key;
+      tree = scene.after_detach graph.tree key;
       table = changed_data key (with_edge None) graph.table;
-      hover = outside (subtree graph.tree.nodes key) graph.hover;
-      pressed = outside (subtree graph.tree.nodes key) graph.pressed;
-      target = kept_outside (subtree graph.tree.nodes key) graph.target;
-      focus = kept_outside (subtree graph.tree.nodes key) graph.focus;
+      hover = outside (scene.subtree graph.tree.nodes key) graph.hover;
+      pressed = outside (scene.subtree graph.tree.nodes key) graph.pressed;
+      target = kept_outside (scene.subtree graph.tree.nodes key) graph.target;
+      focus = kept_outside (scene.subtree graph.tree.nodes key) graph.focus;
     }
 
 -- dropping a node
@@ -209,7 +209,7 @@ without_handlers keys handlers = fold after_forget handlers keys
 unfoldable pub dropped : NodeKey → List NodeKey → Graph → Graph
 dropped key keys graph =
     record graph {
-      tree = after_drop graph.tree key;
+      tree = scene.after_drop graph.tree key;
       table = without_data keys graph.table;
       handlers = without_handlers keys graph.handlers;
       paths = without_paths keys graph.paths;

@@ -1,2 +1,3 @@
 pub mod KeepingLemmas
 pub mod ChainLemmas
+pub mod RecodingLemmas

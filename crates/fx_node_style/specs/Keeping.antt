@@ -1,6 +1,6 @@
 -- The paints that look-ups find on a node.
 use Rattle.std.specs.Prelude.{ℕ, List, [], ◌∷◌, ◌++◌, codes, map, Option, Some, None}
-use Rattle.std.specs.List.{filter_map, flat_map}
+use Rattle.std.specs.List.{flat_map}
 use Rattle.fx_base.specs.declared.values.Value.TheVariants as value
 use Rattle.fx_look.specs.StyleRows.{style_named}
 use Rattle.fx_look.specs.declared.styles.CodeValue.{CodeValue}

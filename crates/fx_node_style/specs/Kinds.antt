@@ -7,7 +7,6 @@ use Rattle.fx_css_types.specs.declared.declarations.Paint.TheVariants as paint
 use Rattle.fx_base.specs.declared.geometry.Sides.{Sides}
 use Rattle.fx_base.specs.declared.values.Value.{Value}
 use Rattle.fx_base.specs.declared.values.Value.TheVariants as value
-use Rattle.fx_css_types.specs.declared.declarations.Declared.{Declared as DeclaredValue}
 use Rattle.fx_css_types.specs.declared.declarations.Declared.TheVariants as declared
 use Rattle.fx_css_types.specs.declared.declarations.FoundValue.{FoundValue}
 use Rattle.fx_css_types.specs.declared.declarations.FoundValue.TheVariants as found

@@ -1,5 +1,5 @@
 -- The value that wins a row of the style table.
-use Rattle.std.specs.Prelude.{◌≡◌, ℕ, ◌==◌, List, slice_get, find, Option, Some, None, option_and_then}
+use Rattle.std.specs.Prelude.{◌≡◌, ℕ, ◌==◌, List, slice_get, find, Option, option_and_then}
 use Rattle.std.specs.Option.{option_map}
 use Rattle.fx_look.specs.declared.styles.CodeValue.{CodeValue}
 use Rattle.fx_css_types.specs.declared.declarations.Declaration.{Declaration}

@@ -2,18 +2,22 @@
 //! values and the styles of its ancestors. Styles of whole scenes are made of it.
 #![tactic(auto)]
 
+mod copying;
 mod keeping;
 mod kinds;
 mod laws;
 mod looking;
 mod node_styles;
 mod paints;
+mod recoding;
 mod rooms;
 mod styling;
 mod values;
 
+pub use copying::write_copy;
 pub use laws::rows_are_named;
 pub use node_styles::NodeStyle;
+pub use recoding::{are_recoded, write_bound};
 pub use rooms::Room;
 pub use styling::{Ground, restyle, style_in};
 pub use values::Winning;

@@ -1,5 +1,4 @@
-use Rattle.std.proofs.Common.{◌≡◌, ◌++◌, List, sym, subst, ◌∙◌, ap}
-use Rattle.std.specs.Prelude.{All}
+use Rattle.std.proofs.Common.{◌++◌, List, ◌∙◌, ap}
 use Rattle.std.specs.List.{flat_map}
 use Rattle.fx_css_types.specs.declared.declarations.Declaration.{Declaration}
 use Rattle.fx_cascade.proofs.PassLemmas.{no_candidate}

@@ -1,6 +1,6 @@
 use Rattle.std.proofs.Common.{◌≡◌, ◌++◌, drop}
 use Rattle.std.specs.List.{flat_map}
-use Rattle.fx_node_style.specs.Keeping.{declared_names, named_paint, own_paints}
+use Rattle.fx_node_style.specs.Keeping.{declared_names, named_paint}
 use Rattle.fx_node_style.proofs.keeping.push_own.Given as goal
 
 abbrev pub invariant-loop-candidate : goal.invariant-loop-candidate

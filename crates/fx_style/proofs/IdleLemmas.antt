@@ -1,8 +1,7 @@
 -- Nodes that keep what they have where it stands.
-use Rattle.std.proofs.Common.{◌≡◌, ◌++◌, [], ◌<◌, ◌≤◌, ◌+◌, ℕ, zero, suc, Bool, true, false, List, Option, Some, None, length, refl, sym, ◌∙◌, ap, subst, arith}
+use Rattle.std.proofs.Common.{◌≡◌, [], ◌<◌, ◌≤◌, ◌+◌, ℕ, zero, suc, Bool, true, false, List, Option, Some, None, length, refl, sym, ◌∙◌, ap, subst, arith}
 use Rattle.std.specs.Prelude.{slice_get, option_and_then}
 use Rattle.std.specs.List.{filter_map}
-use Rattle.std.proofs.lemmas.Option.{slice_get_within}
 use Rattle.fx_css_types.specs.declared.sheets.SheetAt.{SheetAt}
 use Rattle.fx_kinds.specs.declared.facts.StyleFacts.{StyleFacts}
 use Rattle.fx_look.specs.declared.looks.Look.{Look}
@@ -28,7 +27,7 @@ pub record Idles (restyle : List ℕ) (looks : List Look) (rest : List Rest) (no
   pub in_rest : at < length rest
 
 abbrev turn_of : StyleFacts → ℕ → Turn
-turn_of node at = record { at = at; key = node.key; listed = false; stay = true; place = None }
+turn_of node at = record { at = at; key = node.key; listed = false; calm = false; stay = true; place = None }
 
 stays : (restyle : List ℕ) (looks : List Look) (rest : List Rest) (node : StyleFacts) (at : ℕ)
     → Idles restyle looks rest node at → Stays looks rest (turn_of node at)

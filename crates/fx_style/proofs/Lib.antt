@@ -12,3 +12,4 @@ pub mod CostLemmas
 pub mod ChainLaws
 pub mod OnceLemmas
 pub mod IdleLemmas
+pub mod RecodedLemmas

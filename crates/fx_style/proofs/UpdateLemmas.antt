@@ -70,7 +70,7 @@ slice_there (n ∷ ns) (suc j) within = slice_there ns j (omega (arith, within))
 abbrev pub now_of : List Look → List Rest → List Fresh → Now
 now_of looks rest fresh j = style_of_entry (planned_at looks rest fresh j)
 
-styles_below : (sheets : List SheetAt) (facts : List StyleFacts) (restyle : List ℕ) (kept : Now) (looks : List Look)
+pub styles_below : (sheets : List SheetAt) (facts : List StyleFacts) (restyle : List ℕ) (kept : Now) (looks : List Look)
     (rest : List Rest) (fresh : List Fresh) (at : ℕ) → at ≤ length facts
     → AreRightBelow sheets facts restyle kept looks rest fresh at
     → (j : ℕ) → j < at → now_of looks rest fresh j ≡ updated_style sheets facts restyle kept j

@@ -1,5 +1,5 @@
 -- What a node takes from the styles of its ancestors, the nearest first: of their paints just the lists with some.
-use Rattle.std.specs.Prelude.{ℕ, List, [], ◌∷◌, Option}
+use Rattle.std.specs.Prelude.{List, [], ◌∷◌, Option}
 use Rattle.std.specs.List.{flat_map}
 use Rattle.fx_css_types.specs.declared.sheets.SheetAt.{SheetAt}
 use Rattle.fx_kinds.specs.declared.facts.StyleFacts.{StyleFacts}

@@ -1,6 +1,7 @@
 pub mod Above
 pub mod Changes
 pub mod Kept
+pub mod Lasts
 pub mod Places
 pub mod Plans
 pub mod Rules

@@ -1,5 +1,5 @@
 -- An update on its way: what is kept, and what was made so far.
-use Rattle.std.specs.Prelude.{ℕ, ◌≡◌, ◌<◌, List, [], ◌∷◌, length, slice_get, slice_index_or, slice_set, Option, Some, None}
+use Rattle.std.specs.Prelude.{ℕ, ◌≡◌, ◌<◌, Bool, true, false, List, [], ◌∷◌, length, slice_get, slice_index_or, slice_set, Option, Some, None}
 use Rattle.std.specs.Option.{option_map}
 use Rattle.fx_node_style.specs.declared.node_styles.NodeStyle.{NodeStyle}
 use Rattle.fx_style.specs.declared.above.Plan.{Plan}
@@ -24,6 +24,11 @@ step_entry fresh (Some step) = option_map (λ (f : Fresh). f.entry) (slice_get f
 abbrev pub AreSteps : List Fresh → List (Option ℕ) → Type 0
 AreSteps fresh steps =
     (at : ℕ) → at < length steps → fresh_at fresh at ≡ step_entry fresh (slice_index_or steps at None)
+
+-- the draft where it was made a style, else none
+abbrev pub drafted : Bool → NodeStyle → Option NodeStyle
+drafted false draft = None
+drafted true draft = Some draft
 
 -- an entry for a place, if it has one
 abbrev pub made_fresh : ℕ → Option Entry → List Fresh

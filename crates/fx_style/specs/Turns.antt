@@ -23,10 +23,10 @@ pub record Stays (looks : List Look) (rest : List Rest) (turn : Turn) : Type 0 w
   pub kept : kept_under looks rest turn.key ≡ Some style
 
 -- what is left of a node is what is kept of it, unless it is to be styled anew
-abbrev pub IsLeft : List Look → List Rest → Turn → Left → Type 0
-IsLeft looks rest turn left.Stays = Stays looks rest turn
-IsLeft looks rest turn (left.Copied style) = (turn.listed ≡ false) × (kept_under looks rest turn.key ≡ Some style)
-IsLeft looks rest turn left.Nothing = needs_by turn.listed (kept_under looks rest turn.key) ≡ true
+abbrev pub IsLeft : List Look → List Rest → Turn → NodeStyle → Left → Type 0
+IsLeft looks rest turn draft left.Stays = Stays looks rest turn
+IsLeft looks rest turn draft left.Copied = (turn.listed ≡ false) × (kept_under looks rest turn.key ≡ Some draft)
+IsLeft looks rest turn draft left.Nothing = needs_by turn.listed (kept_under looks rest turn.key) ≡ true
 
 -- the places below one have their keys and their styles of the update
 pub record AreRightBelow (sheets : List SheetAt) (facts : List StyleFacts) (restyle : List ℕ)

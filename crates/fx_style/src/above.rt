@@ -15,9 +15,11 @@ use fx_look::Look;
 use fx_lookup::NamedPaint;
 use std::alloc::{AllocError, Global};
 
-/// What is kept, what was made of it so far, and which fresh entry each place has so far, if it has one.
+/// The places that are styled anew, what is kept, what was made of it so far, and which fresh entry each place has so
+/// far, if it has one.
 #[derive(Clone, Copy)]
 pub(crate) struct Plan<'a> {
+    pub listed: &'a [usize],
     pub looks: &'a [Look],
     pub rest: &'a [Rest],
     pub fresh: &'a [Fresh],

@@ -4,12 +4,14 @@
 
 mod above;
 mod checking;
+mod entries;
 mod kept;
 mod laws;
 mod making;
 mod marks;
 mod memory;
 mod putting;
+mod recoding;
 mod same;
 mod styles;
 

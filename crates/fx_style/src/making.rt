@@ -1,5 +1,5 @@
 //! The entries that an update makes anew, before anything that is kept is changed.
-ghost use Rattle.std.specs.Prelude.{◌≡◌, ◌++◌, ◌∷◌, ◌+◌, ◌<◌, ◌≤◌, [], ℕ, Option as Maybe, Some, None, true, false, IfOk, IsTrue, OnOk, is_some, length, map, slice_get, slice_index_or};
+ghost use Rattle.std.specs.Prelude.{◌≡◌, ◌++◌, ◌∷◌, ◌+◌, ◌<◌, ◌≤◌, [], ℕ, Option as Maybe, Some, None, true, false, IfOk, IfSome, IsTrue, OnOk, is_some, length, map, slice_get, slice_index_or};
 ghost use Rattle.std.specs.List.{filter_map};
 ghost use Rattle.std.specs.Option.{option_copied, option_map};
 ghost use Rattle.fx_kinds.specs.declared.facts.StyleFacts.{StyleFacts as Facts};
@@ -8,30 +8,35 @@ ghost use Rattle.fx_select.specs.Chains.{ParentsStandBefore, chain};
 ghost use Rattle.fx_style.specs.Above.{node_under};
 ghost use Rattle.fx_base.specs.Answers.{or_else};
 ghost use Rattle.fx_style.specs.Kept.{HaveDifferentKeys, entry, entry_in, fresh_at, is_among, kept_at, kept_under, place_of_key, style_of_entry};
+ghost use Rattle.fx_style.specs.Lasts.{AreStylesOf};
 ghost use Rattle.fx_style.specs.Turns.{AreRightBelow, IsLeft};
 ghost use Rattle.fx_style.specs.Places.{parent_at, places_up};
-ghost use Rattle.fx_style.specs.Plans.{AreSteps, made_fresh, plan_style, put_step};
+ghost use Rattle.fx_style.specs.Plans.{AreSteps, drafted, made_fresh, plan_style, put_step};
 ghost use Rattle.fx_style.specs.Rules as spec;
 
 use crate::above::{Plan, look_up, paints_up, parent_at};
-use crate::kept::{Entry, Fresh, Rest, place_of_key, stands_at};
+use crate::entries::Entries;
+use crate::kept::{Rest, place_of_key, stands_at};
 use crate::marks::marked;
-use crate::memory::{Memory, taken_room};
+use crate::memory::{Memory, taken_entries};
+use crate::recoding::{copy_rewritten, is_calm, is_recoded};
 use fx_base::{Ledgers, NodeKey, Work};
 use fx_css_types::{Candidate, SheetAt, sheets_within_limits_are_short};
 use fx_kinds::{StyleFacts, initial_alignment};
 use fx_look::Look;
 use fx_lookup::NamedPaint;
-use fx_node_style::{Ground, NodeStyle, style_in};
+use fx_node_style::{Ground, NodeStyle, restyle, write_copy};
 use fx_select::RuleIndex;
 use std::alloc::{AllocError, Global};
 
-/// The nodes of a scene in their order, and its sheets with their index.
+/// The nodes of a scene in their order, and its sheets with their index. With them perhaps the facts of which the
+/// styles are kept, by the same sheets: nodes that differ from these in bound lengths alone cost less.
 #[derive(Clone, Copy)]
 pub struct Scene<'a> {
     pub index: &'a RuleIndex,
     pub sheets: &'a [SheetAt],
     pub facts: &'a [StyleFacts],
+    pub last: Option<&'a [StyleFacts]>,
 }
 
 /// Finds the rules that match a node, in the place of those that were found before.
@@ -53,15 +58,16 @@ fn find_rules(
         .find_matched(alloc, scene.sheets, scene.facts, at, found)
 }
 
-fn node_at(facts: &[StyleFacts], at: usize) -> &StyleFacts
+pub(crate) fn node_at(facts: &[StyleFacts], at: usize) -> &StyleFacts
     requires { at < length facts.now }
     ensures { slice_get facts.now at ≡ Some result.now }
 {
     &facts[at]
 }
 
-/// The style of a node from nothing, by the rules that match it, its parent's look and the paints of its ancestors.
-fn node_style<L: Ledgers>(
+/// Makes the draft the style of a node from nothing, by the rules that match it, its parent's look and the paints of
+/// its ancestors.
+fn draft_style<L: Ledgers>(
     alloc: Global,
     scene: Scene<'_>,
     at: usize,
@@ -69,17 +75,16 @@ fn node_style<L: Ledgers>(
     above: &[&[NamedPaint]],
     memory: &mut Memory,
     work: &mut Work<L>,
-) -> Result<NodeStyle, AllocError>
+) -> Result<(), AllocError>
     requires before { ParentsStandBefore scene.facts.now }
     requires there { at < length scene.facts.now }
     requires sheets { spec.AreIndexed scene.index.now scene.sheets.now }
     requires codes { spec.HaveRows scene.facts.now }
-    ensures style { IfOk result (λ made. made ≡ node_under scene.entry.sheets.now (chain scene.entry.facts.now at)
+    ensures style { OnOk result (memory.new.draft ≡ node_under scene.entry.sheets.now (chain scene.entry.facts.now at)
         (option_copied parent.entry) (map (λ n. n.now) above.now)) }
     ensures cost { OnOk result (work.new ≡ record work.old { styled = work.old.styled + 1 }) }
 {
     find_rules(alloc, scene, at, &mut memory.found)?;
-    let room = taken_room(&mut memory.rooms, alloc);
     let node = node_at(scene.facts, at);
     let ground = Ground {
         sheets: scene.sheets,
@@ -89,78 +94,127 @@ fn node_style<L: Ledgers>(
         parent,
         above,
     };
-    style_in(alloc, room, ground, work)
+    restyle(alloc, &mut memory.draft, &mut memory.winners, ground, work)?;
+    Ok(())
 }
 
-/// The style of a node from nothing, by what its ancestors have by now.
-fn style_anew<L: Ledgers>(
+/// Makes the draft the style of a node from nothing, by the rules that match it and by what its ancestors have by now.
+fn style_by_rules<L: Ledgers>(
     alloc: Global,
     scene: Scene<'_>,
     plan: Plan<'_>,
     at: usize,
     memory: &mut Memory,
     work: &mut Work<L>,
-) -> Result<NodeStyle, AllocError>
+) -> Result<(), AllocError>
     requires before { ParentsStandBefore scene.facts.now }
     requires there { at < length scene.facts.now }
     requires long { length plan.steps.now ≡ length scene.facts.now }
     requires plan { AreSteps plan.fresh.now plan.steps.now }
     requires sheets { spec.AreIndexed scene.index.now scene.sheets.now }
     requires codes { spec.HaveRows scene.facts.now }
-    ensures style { IfOk result (λ made. made ≡ spec.anew scene.entry.sheets.now scene.entry.facts.now at
+    ensures style { OnOk result (memory.new.draft ≡ spec.anew scene.entry.sheets.now scene.entry.facts.now at
         (filter_map (plan_style plan.entry) (places_up scene.entry.facts.now (parent_at scene.entry.facts.now at)))) }
     ensures cost { OnOk result (work.new ≡ record work.old { styled = work.old.styled + 1 }) }
 {
     let parent = parent_at(scene.facts, at);
     let look = look_up(scene.facts, plan, parent);
     let paints = paints_up(alloc, scene.facts, plan, parent)?;
-    node_style(alloc, scene, at, look, paints.as_slice(), memory, work)
+    draft_style(alloc, scene, at, look, paints.as_slice(), memory, work)?;
+    Ok(())
 }
 
-/// A copy of the style that is kept at a place.
-fn copied_style(
+/// Makes the draft the style of a node from nothing, by what its ancestors have by now: by what is kept of it where just
+/// lengths that bindings give are others, else by the rules that match it.
+fn style_anew<L: Ledgers>(
+    alloc: Global,
+    scene: Scene<'_>,
+    plan: Plan<'_>,
+    turn: Turn,
+    memory: &mut Memory,
+    work: &mut Work<L>,
+) -> Result<(), AllocError>
+    requires before { ParentsStandBefore scene.facts.now }
+    requires there { turn.at < length scene.facts.now }
+    requires long { length plan.steps.now ≡ length scene.facts.now }
+    requires plan { AreSteps plan.fresh.now plan.steps.now }
+    requires sheets { spec.AreIndexed scene.index.now scene.sheets.now }
+    requires codes { spec.HaveRows scene.facts.now }
+    requires last { IfSome (option_copied scene.last) (AreStylesOf scene.sheets.now scene.facts.now plan.listed.now
+        plan.looks.now plan.rest.now) }
+    requires right { AreRightBelow scene.sheets.now scene.facts.now plan.listed.now
+        (kept_at plan.looks.now plan.rest.now scene.facts.now) plan.looks.now plan.rest.now plan.fresh.now turn.at }
+    requires calm { turn.calm ≡ true → (p : ℕ) → parent_at scene.facts.now turn.at ≡ Some p
+        → is_among plan.listed.now p ≡ false }
+    ensures style { OnOk result (memory.new.draft
+        ≡ spec.anew scene.entry.sheets.now scene.entry.facts.now turn.at (filter_map (plan_style plan.entry)
+        (places_up scene.entry.facts.now (parent_at scene.entry.facts.now turn.at)))) }
+    ensures cost { OnOk result (work.new ≡ record work.old { styled = work.old.styled + 1 }) }
+{
+    if turn.calm && is_recoded(scene.last, scene.facts, turn.at) {
+        let codes = node_at(scene.facts, turn.at).codes.as_slice();
+        let draft = &mut memory.draft;
+        if copy_rewritten(alloc, plan.looks, plan.rest, turn.at, codes, draft)? {
+            work.styled.tick();
+            return Ok(());
+        }
+    }
+    style_by_rules(alloc, scene, plan, turn.at, memory, work)
+}
+
+/// Copies the style that is kept at a place into the draft, if there is one.
+pub(crate) fn copy_style(
     alloc: Global,
     looks: &[Look],
     rest: &[Rest],
     place: usize,
-) -> Result<Option<NodeStyle>, AllocError>
-    ensures { IfOk result (λ copy. copy ≡ style_of_entry (entry_in looks.now rest.now place)) }
+    draft: &mut NodeStyle,
+) -> Result<bool, AllocError>
+    ensures { IfOk result (λ copied. drafted copied draft.new ≡ style_of_entry (entry_in looks.now rest.now place)) }
 {
     match (looks.get(place), rest.get(place)) {
-        (Some(look), Some(rest)) => Ok(Some(NodeStyle {
-            look: look.copy(alloc)?,
-            paints: rest.paints.copy(alloc)?,
-        })),
-        _ => Ok(None),
+        (Some(look), Some(rest)) => {
+            write_copy(alloc, &mut draft.look, look)?;
+            draft.paints = rest.paints.copy(alloc)?;
+            Ok(true)
+        }
+        _ => Ok(false),
     }
 }
 
-/// What an update does with a node of this key: is it listed, may what is kept stay in its place, and where does its
-/// key stand?
+/// What an update does with a node of this key: is it listed, is its parent not, may what is kept stay in its place, and
+/// where does its key stand?
 #[derive(Clone, Copy)]
 pub(crate) struct Turn {
     pub at: usize,
     pub key: NodeKey,
     pub listed: bool,
+    pub calm: bool,
     pub stay: bool,
     pub place: Option<usize>,
 }
 
 /// What is left of a node for an update.
-#[derive(Drop)]
+#[derive(Clone, Copy)]
 pub(crate) enum Left {
     /// It stays where it is.
     Stays,
-    /// It moves to another place.
-    Copied(NodeStyle),
+    /// It moves to another place: its style is copied into the draft.
+    Copied,
     /// It is to be styled anew.
     Nothing,
 }
 
-fn left_of(alloc: Global, looks: &[Look], rest: &[Rest], turn: Turn) -> Result<Left, AllocError>
+fn left_of(
+    alloc: Global,
+    looks: &[Look],
+    rest: &[Rest],
+    turn: Turn,
+    draft: &mut NodeStyle,
+) -> Result<Left, AllocError>
     requires place { turn.place ≡ place_of_key rest.now turn.key }
     requires stay { turn.stay ≡ true → (turn.at < length looks.now) × (turn.at < length rest.now) }
-    ensures { IfOk result (IsLeft looks.now rest.now turn) }
+    ensures { IfOk result (IsLeft looks.now rest.now turn draft.new) }
 {
     if turn.listed {
         return Ok(Left::Nothing);
@@ -171,13 +225,14 @@ fn left_of(alloc: Global, looks: &[Look], rest: &[Rest], turn: Turn) -> Result<L
     if turn.stay && place == turn.at {
         return Ok(Left::Stays);
     }
-    match copied_style(alloc, looks, rest, place)? {
-        Some(style) => Ok(Left::Copied(style)),
-        None => Ok(Left::Nothing),
+    let copied = copy_style(alloc, looks, rest, place, draft)?;
+    if copied {
+        return Ok(Left::Copied);
     }
+    Ok(Left::Nothing)
 }
 
-/// The style of a node after the update, or none where it is kept in its place.
+/// Makes the draft the style of a node after the update, unless that is kept in its place. Is the draft its style?
 fn remade<L: Ledgers>(
     alloc: Global,
     scene: Scene<'_>,
@@ -185,7 +240,7 @@ fn remade<L: Ledgers>(
     turn: Turn,
     memory: &mut Memory,
     work: &mut Work<L>,
-) -> Result<Option<NodeStyle>, AllocError>
+) -> Result<bool, AllocError>
     requires before { ParentsStandBefore scene.facts.now }
     requires there { turn.at < length scene.facts.now }
     requires long { length plan.steps.now ≡ length scene.facts.now }
@@ -194,48 +249,56 @@ fn remade<L: Ledgers>(
     requires codes { spec.HaveRows scene.facts.now }
     requires place { turn.place ≡ place_of_key plan.rest.now turn.key }
     requires stay { turn.stay ≡ true → (turn.at < length plan.looks.now) × (turn.at < length plan.rest.now) }
-    ensures style { IfOk result (λ made.
-        or_else (option_map (entry turn.key) made) (entry_in plan.entry.looks.now plan.entry.rest.now turn.at)
+    requires last { IfSome (option_copied scene.last) (AreStylesOf scene.sheets.now scene.facts.now plan.listed.now
+        plan.looks.now plan.rest.now) }
+    requires right { AreRightBelow scene.sheets.now scene.facts.now plan.listed.now
+        (kept_at plan.looks.now plan.rest.now scene.facts.now) plan.looks.now plan.rest.now plan.fresh.now turn.at }
+    requires calm { turn.calm ≡ true → (p : ℕ) → parent_at scene.facts.now turn.at ≡ Some p
+        → is_among plan.listed.now p ≡ false }
+    ensures style { IfOk result (λ made. or_else (option_map (entry turn.key) (drafted made memory.new.draft))
+        (entry_in plan.entry.looks.now plan.entry.rest.now turn.at)
         ≡ Some (entry turn.key
         (spec.renewed_by turn.listed (kept_under plan.entry.looks.now plan.entry.rest.now turn.key)
         (spec.anew scene.entry.sheets.now scene.entry.facts.now turn.at
         (filter_map (plan_style plan.entry)
         (places_up scene.entry.facts.now (parent_at scene.entry.facts.now turn.at))))))) }
-    ensures made { IfOk result (λ made. turn.stay ≡ false → is_some made ≡ true) }
+    ensures made { IfOk result (λ made. turn.stay ≡ false → is_some (drafted made memory.new.draft) ≡ true) }
     ensures cost { OnOk result (work.new ≡ record work.old {
       styled = work.old.styled
           + spec.ticks (spec.needs_by turn.listed (kept_under plan.entry.looks.now plan.entry.rest.now turn.key));
     }) }
 {
-    match left_of(alloc, plan.looks, plan.rest, turn)? {
-        Left::Stays => Ok(None),
-        Left::Copied(style) => Ok(Some(style)),
-        Left::Nothing => Ok(Some(style_anew(alloc, scene, plan, turn.at, memory, work)?)),
+    match left_of(alloc, plan.looks, plan.rest, turn, &mut memory.draft)? {
+        Left::Stays => Ok(false),
+        Left::Copied => Ok(true),
+        Left::Nothing => {
+            style_anew(alloc, scene, plan, turn, memory, work)?;
+            Ok(true)
+        }
     }
 }
 
-/// Puts what was made of a node behind the fresh entries, and its step to its place.
+/// Puts the draft, if it was made a style for the node, behind the fresh entries, and its step to its place.
 fn push_made(
-    fresh: &mut Vec<Fresh>,
+    alloc: Global,
+    fresh: &mut Entries,
     steps: &mut Vec<Option<usize>>,
-    at: usize,
-    key: NodeKey,
-    made: Option<NodeStyle>,
+    turn: Turn,
+    made: bool,
+    draft: &mut NodeStyle,
 ) -> Result<(), AllocError>
-    requires { at < length steps.old.items }
-    ensures fresh { OnOk result (fresh.new.items ≡ fresh.old.items ++ made_fresh at (option_map (entry key) made)) }
+    requires { turn.at < length steps.old.items }
+    ensures fresh { OnOk result (fresh.new
+        ≡ fresh.old ++ made_fresh turn.at (option_map (entry turn.key) (drafted made draft.old))) }
     ensures steps { OnOk result (steps.new.items
-        ≡ put_step steps.old.items at (option_map (entry key) made) (length fresh.old.items)) }
+        ≡ put_step steps.old.items turn.at (option_map (entry turn.key) (drafted made draft.old)) (length fresh.old)) }
 {
-    match made {
-        Some(style) => {
-            steps[at] = Some(fresh.len());
-            let entry = Entry { key, style };
-            fresh.push(Fresh { at, entry })?;
-            Ok(())
-        }
-        None => Ok(()),
+    if !made {
+        return Ok(());
     }
+    steps[turn.at] = Some(fresh.len());
+    fresh.push(alloc, turn.at, turn.key, draft)?;
+    Ok(())
 }
 
 fn next_guess(place: Option<usize>, guess: usize) -> usize {
@@ -289,18 +352,20 @@ pub(crate) fn made<L: Ledgers>(
     restyle: &[usize],
     memory: &mut Memory,
     work: &mut Work<L>,
-) -> Result<Vec<Fresh>, AllocError>
+) -> Result<Entries, AllocError>
     requires before { ParentsStandBefore scene.facts.now }
     requires sheets { spec.AreIndexed scene.index.now scene.sheets.now }
     requires codes { spec.HaveRows scene.facts.now }
     requires keys { HaveDifferentKeys old.rest.now }
     requires stay { old.stay ≡ true
         → (length old.looks.now ≡ length scene.facts.now) × (length old.rest.now ≡ length scene.facts.now) }
+    requires last { IfSome (option_copied scene.last) (AreStylesOf scene.sheets.now scene.facts.now restyle.now
+        old.looks.now old.rest.now) }
     ensures right { IfOk result (λ fresh. AreRightBelow scene.entry.sheets.now scene.entry.facts.now restyle.now
         (kept_at old.entry.looks.now old.entry.rest.now scene.entry.facts.now) old.entry.looks.now old.entry.rest.now
-        fresh.items (length scene.entry.facts.now)) }
+        fresh (length scene.entry.facts.now)) }
     ensures all { IfOk result (λ fresh. old.entry.stay ≡ false → (at : ℕ) → at < length scene.entry.facts.now
-        → is_some (fresh_at fresh.items at) ≡ true) }
+        → is_some (fresh_at fresh at) ≡ true) }
     ensures cost { OnOk result (work.new ≡ record work.old {
       styled = work.old.styled + spec.worked
           (spec.needs restyle.now (kept_at old.entry.looks.now old.entry.rest.now scene.entry.facts.now))
@@ -309,10 +374,10 @@ pub(crate) fn made<L: Ledgers>(
 {
     let facts = scene.facts;
     let marks = marked(alloc, restyle, facts.len())?;
+    let mut fresh = taken_entries(memory, alloc, facts.len());
     if are_idle(old, marks.as_slice(), facts) {
-        return Ok(Vec::new(alloc));
+        return Ok(fresh);
     }
-    let mut fresh = Vec::with_capacity(alloc, restyle.len().min(facts.len()))?;
     let mut steps = vec![in alloc; None; facts.len()]?;
     let mut guess = 0;
     for (at, node) in facts.iter().enumerate() {
@@ -327,17 +392,19 @@ pub(crate) fn made<L: Ledgers>(
             at,
             key: node.key,
             listed,
+            calm: is_calm(marks.as_slice(), node.parent),
             stay: old.stay,
             place,
         };
         let plan = Plan {
+            listed: restyle,
             looks: old.looks,
             rest: old.rest,
             fresh: fresh.as_slice(),
             steps: steps.as_slice(),
         };
-        let style = remade(alloc, scene, plan, turn, memory, work)?;
-        push_made(&mut fresh, &mut steps, at, node.key, style)?;
+        let made = remade(alloc, scene, plan, turn, memory, work)?;
+        push_made(alloc, &mut fresh, &mut steps, turn, made, &mut memory.draft)?;
     }
     Ok(fresh)
 }

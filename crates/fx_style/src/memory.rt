@@ -1,14 +1,21 @@
 //! Memory that serves again, within an update and from one to the next.
+ghost use Rattle.std.specs.Prelude.{◌≡◌, []};
 
+use crate::entries::Entries;
+use fx_cascade::Winners;
 use fx_css_types::Candidate;
 use fx_node_style::{NodeStyle, Room};
 use std::alloc::Global;
+use std::mem;
 
-/// The list of the rules that match a node, and the memory of styles that are gone. What stands in them doesn't matter.
+/// The list of the rules that match a node, the table of its winners, its style while it is made, and entries that are
+/// gone. What stands in them doesn't matter.
 #[derive(Drop)]
 pub(crate) struct Memory {
     pub found: Vec<Candidate>,
-    pub rooms: Vec<Room>,
+    pub winners: Winners,
+    pub draft: NodeStyle,
+    pub gone: Entries,
 }
 
 impl Memory {
@@ -16,22 +23,18 @@ impl Memory {
     pub fn new(alloc: Global) -> Memory {
         Memory {
             found: Vec::new(alloc),
-            rooms: Vec::new(alloc),
+            winners: Winners::new(alloc),
+            draft: Room::new(alloc).into_style(),
+            gone: Entries::new(alloc),
         }
     }
 }
 
-/// Room for a style: that of one that is gone, if any is left.
-pub(crate) fn taken_room(rooms: &mut Vec<Room>, alloc: Global) -> Room {
-    match rooms.pop() {
-        Some(room) => room,
-        None => Room::new(alloc),
-    }
-}
-
-/// Keeps the memory of a style that is gone, where there are fewer than so many and it can be noted.
-pub(crate) fn keep_room(rooms: &mut Vec<Room>, most: usize, style: NodeStyle) {
-    if rooms.len() < most {
-        let _noted = rooms.push(Room::of(style));
-    }
+/// The entries that are gone, as memory for at most so many new ones.
+pub(crate) fn taken_entries(memory: &mut Memory, alloc: Global, most: usize) -> Entries
+    ensures { result ≡ [] }
+{
+    let mut entries = mem::replace(&mut memory.gone, Entries::new(alloc));
+    entries.restart(most);
+    entries
 }

@@ -1,66 +1,56 @@
-//! Fresh entries put in their places, which can't fail: only noting the memory that serves again may take some.
-ghost use Rattle.std.specs.Prelude.{◌≡◌, IfOk, IsTrue, OnOk, Some, length, map, slice_get, slice_set};
+//! Fresh entries put in their places, which can't fail.
+ghost use Rattle.std.specs.Prelude.{◌≡◌, ◌≤◌, IfOk, IsTrue, OnOk, Some, length, map, slice_get, slice_set, take};
 ghost use Rattle.std.specs.Option.{option_copied};
 ghost use Rattle.fx_style.specs.Kept.{put_looks, put_rest, rest_of};
 ghost use Rattle.fx_style.specs.Changes.{IsNoted, NamesChanges};
 
-use crate::kept::{Entry, Fresh, Rest};
-use crate::memory::keep_room;
+use crate::kept::{Fresh, Rest};
 use crate::same::is_same_look;
-use fx_base::{Color, List, NodeKey, Sides};
+use fx_base::{List, NodeKey};
 use fx_look::Look;
 use fx_lookup::NamedPaint;
 use fx_node_style::{NodeStyle, Room};
 use std::alloc::{AllocError, Global};
 use std::mem;
 
-/// Puts each entry in its place, and keeps the memory of what stood there.
-pub(crate) fn put_all(
-    looks: &mut [Look],
-    rest: &mut [Rest],
-    fresh: Vec<Fresh>,
-    rooms: &mut Vec<Room>,
-)
-    ensures looks { looks.new ≡ put_looks looks.old fresh.items }
-    ensures rest { rest.new ≡ put_rest rest.old fresh.items }
+/// Puts each of the first so many entries in its place, and takes what stood there.
+pub(crate) fn put_all(looks: &mut [Look], rest: &mut [Rest], fresh: &mut [Fresh], count: usize)
+    requires { count ≤ length fresh.old }
+    ensures looks { looks.new ≡ put_looks looks.old (take count fresh.old) }
+    ensures rest { rest.new ≡ put_rest rest.old (take count fresh.old) }
 {
-    for one in fresh {
-        put_one(looks, rest, one, rooms);
+    for place in 0..count {
+        put_one(looks, rest, &mut fresh[place]);
     }
 }
 
-fn put_one(looks: &mut [Look], rest: &mut [Rest], one: Fresh, rooms: &mut Vec<Room>)
-    ensures looks { looks.new ≡ slice_set looks.old one.at one.entry.style.look }
-    ensures rest { rest.new ≡ slice_set rest.old one.at (rest_of one.entry) }
+fn put_one(looks: &mut [Look], rest: &mut [Rest], one: &mut Fresh)
+    ensures looks { looks.new ≡ slice_set looks.old one.old.at one.old.entry.style.look }
+    ensures rest { rest.new ≡ slice_set rest.old one.old.at (rest_of one.old.entry) }
 {
-    let Fresh { at, entry } = one;
-    let Entry { key, style } = entry;
-    let NodeStyle { look, paints } = style;
-    let look = put_look(looks, at, look);
-    let paints = put_paints(rest, at, Rest { key, paints });
-    keep_room(rooms, looks.len(), NodeStyle { look, paints });
+    let at = one.at;
+    put_look(looks, at, &mut one.entry.style.look);
+    put_rest(rest, at, one.entry.key, &mut one.entry.style.paints);
 }
 
-/// Puts the look in its place, and gives what stood there, or the look where there is no such place.
-fn put_look(looks: &mut [Look], at: usize, look: Look) -> Look
-    ensures { looks.new ≡ slice_set looks.old at look }
+/// Puts the look in its place, and takes what stood there, if there is such a place.
+fn put_look(looks: &mut [Look], at: usize, look: &mut Look)
+    ensures { looks.new ≡ slice_set looks.old at look.old }
 {
     if at < looks.len() {
-        return mem::replace(&mut looks[at], look);
+        mem::swap(&mut looks[at], look);
     }
-    look
 }
 
-/// Puts the rest in its place, and gives the paints that stood there, or its own where there is no such place.
-fn put_paints(rest: &mut [Rest], at: usize, one: Rest) -> List<NamedPaint>
-    ensures { rest.new ≡ slice_set rest.old at one }
+/// Puts the key and the paints in their place, and takes the paints that stood there, if there is such a place.
+fn put_rest(rest: &mut [Rest], at: usize, key: NodeKey, paints: &mut List<NamedPaint>)
+    ensures { rest.new ≡ slice_set rest.old at (record { key = key; paints = paints.old }) }
 {
     if at < rest.len() {
-        let Rest { paints, .. } = mem::replace(&mut rest[at], one);
-        return paints;
+        let one = &mut rest[at];
+        one.key = key;
+        mem::swap(&mut one.paints, paints);
     }
-    let Rest { paints, .. } = one;
-    paints
 }
 
 /// The places of the entries.
@@ -140,39 +130,6 @@ pub(crate) fn blank_rest(alloc: Global, count: usize) -> Result<Vec<Rest>, Alloc
 }
 
 fn blank_look(alloc: Global) -> Look {
-    let none = Sides {
-        top: 0,
-        right: 0,
-        bottom: 0,
-        left: 0,
-    };
-    Look {
-        padding: none,
-        alignment: 0,
-        spacing: 0,
-        hgap: 0,
-        vgap: 0,
-        fill_width: true,
-        fill_height: true,
-        min_width: 0,
-        min_height: 0,
-        pref_width: 0,
-        pref_height: 0,
-        max_width: 0,
-        max_height: 0,
-        background_color: List::new(alloc),
-        background_insets: List::new(alloc),
-        border_color: List::new(alloc),
-        border_width: List::new(alloc),
-        border_insets: List::new(alloc),
-        text_fill: Color {
-            r: 0,
-            g: 0,
-            b: 0,
-            a: 0,
-        },
-        font_size: 0,
-        wrap_text: false,
-        visibility: true,
-    }
+    let NodeStyle { look, .. } = Room::new(alloc).into_style();
+    look
 }

@@ -1,15 +1,18 @@
 //! The looks of all nodes, kept from one update to the next.
-ghost use Rattle.std.specs.Prelude.{◌≡◌, ◌+◌, ◌<◌, [], ℕ, false, true, IfOk, OnErr, OnOk, is_some, length, map};
+ghost use Rattle.std.specs.Prelude.{◌≡◌, ◌+◌, ◌<◌, [], ℕ, false, true, IfOk, IfSome, OnErr, OnOk, is_some, length, map};
+ghost use Rattle.std.specs.Option.{option_copied};
 ghost use Rattle.fx_select.specs.Chains.{ParentsStandBefore};
 ghost use Rattle.fx_style.specs.Changes.{NamesChanges};
 ghost use Rattle.fx_style.specs.Kept.{AreDifferent, HaveDifferentKeys, fresh_at, kept_at, put_looks, put_rest};
+ghost use Rattle.fx_style.specs.Lasts.{AreStylesOf};
 ghost use Rattle.fx_style.specs.Rules.{AreIndexed, HaveRows, IsUpdate, KeepsOthers, kept_of, needs, worked};
 ghost use Rattle.fx_style.specs.Turns.{ArePut, AreRightBelow, HaveKeysOf};
 
+use crate::entries::Entries;
 use crate::kept::{Fresh, Rest};
 use crate::making::{Old, Scene, made};
 use crate::memory::Memory;
-use crate::putting::{blank_looks, blank_rest, changed_places, places_of, put_all};
+use crate::putting::{blank_looks, blank_rest, changed_places, places_of};
 use fx_base::{Ledgers, Work};
 use fx_kinds::StyleFacts;
 use fx_look::Look;
@@ -78,6 +81,8 @@ impl Styles {
         requires keys { AreDifferent scene.facts.now }
         requires sheets { AreIndexed scene.index.now scene.sheets.now }
         requires codes { HaveRows scene.facts.now }
+        requires last { IfSome (option_copied scene.last) (AreStylesOf scene.sheets.now scene.facts.now restyle.now
+            self.old.looks self.old.rest) }
         ensures styles { OnOk result
             (IsUpdate scene.entry.sheets.now scene.entry.facts.now restyle.now self.old self.new) }
         ensures changed { OnOk result (KeepsOthers self.old self.new) }
@@ -111,6 +116,8 @@ impl Styles {
         requires keys { AreDifferent scene.facts.now }
         requires sheets { AreIndexed scene.index.now scene.sheets.now }
         requires codes { HaveRows scene.facts.now }
+        requires last { IfSome (option_copied scene.last) (AreStylesOf scene.sheets.now scene.facts.now restyle.now
+            self.old.looks self.old.rest) }
         ensures styles { OnOk result
             (IsUpdate scene.entry.sheets.now scene.entry.facts.now restyle.now self.old self.new) }
         ensures changed { OnOk result (KeepsOthers self.old self.new) }
@@ -141,17 +148,19 @@ impl Styles {
         restyle: &[usize],
         memory: &mut Memory,
         work: &mut Work<L>,
-    ) -> Result<Vec<Fresh>, AllocError>
+    ) -> Result<Entries, AllocError>
         requires before { ParentsStandBefore scene.facts.now }
         requires sheets { AreIndexed scene.index.now scene.sheets.now }
         requires codes { HaveRows scene.facts.now }
         requires stay { stay ≡ true → (length self.now.looks ≡ length scene.facts.now)
             × (length self.now.rest ≡ length scene.facts.now) }
+        requires last { IfSome (option_copied scene.last) (AreStylesOf scene.sheets.now scene.facts.now restyle.now
+            self.now.looks self.now.rest) }
         ensures right { IfOk result (λ fresh. AreRightBelow scene.entry.sheets.now scene.entry.facts.now restyle.now
-            (kept_of self.now scene.entry.facts.now) self.now.looks self.now.rest fresh.items
+            (kept_of self.now scene.entry.facts.now) self.now.looks self.now.rest fresh
             (length scene.entry.facts.now)) }
         ensures all { IfOk result (λ fresh. stay ≡ false → (at : ℕ) → at < length scene.entry.facts.now
-            → is_some (fresh_at fresh.items at) ≡ true) }
+            → is_some (fresh_at fresh at) ≡ true) }
         ensures cost { OnOk result (work.new ≡ record work.old {
           styled = work.old.styled
               + worked (needs restyle.now (kept_of self.now scene.entry.facts.now)) (length scene.entry.facts.now);
@@ -183,17 +192,17 @@ impl Styles {
         alloc: Global,
         facts: &[StyleFacts],
         stay: bool,
-        fresh: Vec<Fresh>,
+        fresh: Entries,
         changed: Vec<usize>,
         memory: Memory,
     ) -> Result<(), AllocError>
         requires stay { stay ≡ true → (length self.old.looks ≡ length facts.now)
             × (length self.old.rest ≡ length facts.now) }
         requires keys { AreDifferent facts.now }
-        requires all { stay ≡ false → (at : ℕ) → at < length facts.now → is_some (fresh_at fresh.items at) ≡ true }
-        requires right { HaveKeysOf facts.now self.old.looks self.old.rest fresh.items }
-        ensures put { OnOk result (ArePut self.old self.new fresh.items (length facts.now)) }
-        ensures looks { OnOk result (stay ≡ true → self.new.looks ≡ put_looks self.old.looks fresh.items) }
+        requires all { stay ≡ false → (at : ℕ) → at < length facts.now → is_some (fresh_at fresh at) ≡ true }
+        requires right { HaveKeysOf facts.now self.old.looks self.old.rest fresh }
+        ensures put { OnOk result (ArePut self.old self.new fresh (length facts.now)) }
+        ensures looks { OnOk result (stay ≡ true → self.new.looks ≡ put_looks self.old.looks fresh) }
         ensures changed { OnOk result (self.new.changed ≡ changed.items) }
         ensures err { OnErr result (self.new ≡ self.old) }
     {
@@ -214,23 +223,19 @@ impl Styles {
 fn put_in(
     mut looks: Vec<Look>,
     mut rest: Vec<Rest>,
-    fresh: Vec<Fresh>,
+    mut fresh: Entries,
     changed: Vec<usize>,
     mut memory: Memory,
 ) -> Styles
-    requires keys { HaveDifferentKeys (put_rest rest.items fresh.items) }
+    requires keys { HaveDifferentKeys (put_rest rest.items fresh) }
     ensures { result ≡ record {
-      looks = put_looks looks.items fresh.items;
-      rest = put_rest rest.items fresh.items;
+      looks = put_looks looks.items fresh;
+      rest = put_rest rest.items fresh;
       changed = changed.items;
     } }
 {
-    put_all(
-        looks.as_mut_slice(),
-        rest.as_mut_slice(),
-        fresh,
-        &mut memory.rooms,
-    );
+    fresh.put(looks.as_mut_slice(), rest.as_mut_slice());
+    memory.gone = fresh;
     Styles {
         looks,
         rest,

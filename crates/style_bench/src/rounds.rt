@@ -32,10 +32,10 @@ pub struct Rounds {
 }
 
 /// Does it, and gives a checksum.
-pub fn play<L: Ledgers>(
+pub fn play<'a, L: Ledgers>(
     alloc: Global,
-    sheets: &[SheetAt],
-    facts: &[StyleFacts],
+    sheets: &'a [SheetAt],
+    facts: &'a [StyleFacts],
     rounds: Rounds,
     work: &mut Work<L>,
 ) -> anyhow::Result<usize>
@@ -45,11 +45,7 @@ pub fn play<L: Ledgers>(
         bail!("the nodes aren't those of a scene");
     }
     let index = RuleIndex::build(alloc, sheets)?;
-    let scene = Scene {
-        index: &index,
-        sheets,
-        facts,
-    };
+    let scene = scene_of(&index, sheets, facts);
     match rounds.task {
         Task::Search => Ok(search(alloc, scene, rounds.count)?),
         Task::Style => Ok(style(alloc, scene, rounds.count, work)?),
@@ -57,13 +53,27 @@ pub fn play<L: Ledgers>(
     }
 }
 
+/// The scene of these lists, of which no styles are kept by other facts.
+fn scene_of<'a>(index: &'a RuleIndex, sheets: &'a [SheetAt], facts: &'a [StyleFacts]) -> Scene<'a>
+    ensures index { result.index.now ≡ index.now }
+    ensures lists { (result.sheets.now ≡ sheets.now) × (result.facts.now ≡ facts.now) }
+    ensures last { result.last ≡ None }
+{
+    Scene {
+        index,
+        sheets,
+        facts,
+        last: None,
+    }
+}
+
 /// Styles all nodes that have code values by one list of facts and then by the other, so many times, and gives a
 /// checksum.
-pub fn play_labels<L: Ledgers>(
+pub fn play_labels<'a, L: Ledgers>(
     alloc: Global,
-    sheets: &[SheetAt],
-    narrow: &[StyleFacts],
-    wide: &[StyleFacts],
+    sheets: &'a [SheetAt],
+    narrow: &'a [StyleFacts],
+    wide: &'a [StyleFacts],
     count: u64,
     work: &mut Work<L>,
 ) -> anyhow::Result<usize>
@@ -76,18 +86,14 @@ pub fn play_labels<L: Ledgers>(
         bail!("the wide labels aren't those of a scene");
     }
     let index = RuleIndex::build(alloc, sheets)?;
-    let scene = Scene {
-        index: &index,
-        sheets,
-        facts: narrow,
-    };
+    let scene = scene_of(&index, sheets, narrow);
     Ok(alternate(alloc, scene, wide, count, work)?)
 }
 
-fn alternate<L: Ledgers>(
+fn alternate<'a, L: Ledgers>(
     alloc: Global,
-    scene: Scene<'_>,
-    wide: &[StyleFacts],
+    scene: Scene<'a>,
+    wide: &'a [StyleFacts],
     count: u64,
     work: &mut Work<L>,
 ) -> Result<usize, AllocError>
@@ -95,6 +101,7 @@ fn alternate<L: Ledgers>(
     requires keys { AreDifferent scene.facts.now }
     requires sheets { AreIndexed scene.index.now scene.sheets.now }
     requires codes { HaveRows scene.facts.now }
+    requires last { scene.last ≡ None }
     requires wide_before { ParentsStandBefore wide.now }
     requires wide_keys { AreDifferent wide.now }
     requires wide_codes { HaveRows wide.now }
@@ -103,6 +110,7 @@ fn alternate<L: Ledgers>(
         index: scene.index,
         sheets: scene.sheets,
         facts: wide,
+        last: None,
     };
     let places = coded(alloc, wide)?;
     let mut styles = Styles::new(alloc);
@@ -151,6 +159,7 @@ fn style<L: Ledgers>(
     requires keys { AreDifferent scene.facts.now }
     requires sheets { AreIndexed scene.index.now scene.sheets.now }
     requires codes { HaveRows scene.facts.now }
+    requires last { scene.last ≡ None }
 {
     let mut all = Vec::new(alloc);
     for at in 0..scene.facts.len() {
@@ -174,6 +183,7 @@ fn keep<L: Ledgers>(
     requires keys { AreDifferent scene.facts.now }
     requires sheets { AreIndexed scene.index.now scene.sheets.now }
     requires codes { HaveRows scene.facts.now }
+    requires last { scene.last ≡ None }
 {
     let mut styles = Styles::new(alloc);
     for _ in 0..count {

@@ -1,5 +1,5 @@
 //! Sheets, nodes and what is kept of them, and what a line makes of them.
-ghost use Rattle.std.specs.Prelude.{◌≡◌, IfOk};
+ghost use Rattle.std.specs.Prelude.{◌≡◌, IfOk, None};
 ghost use Rattle.fx_select.specs.Chains.{ParentsStandBefore};
 ghost use Rattle.fx_style.specs.Kept.{AreDifferent};
 ghost use Rattle.fx_style.specs.Rules.{AreIndexed, HaveRows};
@@ -129,13 +129,22 @@ fn update<L: Ledgers>(
         bail!("the nodes aren't those of a scene");
     }
     let index = RuleIndex::build(alloc, lists.sheets)?;
-    let scene = Scene {
-        index: &index,
+    styles.update(alloc, scene_of(&index, lists), restyle, work)?;
+    Ok(())
+}
+
+/// The scene of these lists, of which no styles are kept by other facts.
+fn scene_of<'a>(index: &'a RuleIndex, lists: Lists<'a>) -> Scene<'a>
+    ensures index { result.index.now ≡ index.now }
+    ensures lists { (result.sheets.now ≡ lists.entry.sheets.now) × (result.facts.now ≡ lists.entry.facts.now) }
+    ensures last { result.last ≡ None }
+{
+    Scene {
+        index,
         sheets: lists.sheets,
         facts: lists.facts,
-    };
-    styles.update(alloc, scene, restyle, work)?;
-    Ok(())
+        last: None,
+    }
 }
 
 /// Puts the sheet that a line lists behind the others.

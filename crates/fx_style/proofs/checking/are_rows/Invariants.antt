@@ -1,5 +1,5 @@
 -- those so far are of rows
-use Rattle.std.proofs.Common.{All, take}
+use Rattle.std.proofs.Common.{take}
 use Rattle.fx_cascade.specs.Tables.{AreRows}
 use Rattle.fx_style.proofs.checking.are_rows.Given as goal
 

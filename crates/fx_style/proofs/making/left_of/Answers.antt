@@ -1,5 +1,5 @@
-use Rattle.std.proofs.Common.{sym, ◌∙◌, ap}
-use Rattle.std.proofs.Common.{Some}
+use Rattle.std.proofs.Common.{Bool, Some, sym, ◌∙◌, ap}
+use Rattle.fx_style.specs.Plans.{drafted}
 use Rattle.fx_style.proofs.TurnLemmas.{kept_found, nothing_needs, nowhere_needs, stays_here}
 use Rattle.fx_style.proofs.making.left_of.Goals as goal
 
@@ -14,14 +14,16 @@ returns-then-place-turn c =
     stays_here c.args.looks.now c.args.rest.now c.args.turn c.if-turn.false c.if-turn-2.true
     (sym c.requires.place ∙ c.in-Some.is ∙ ap Some c.if-place-turn.true) there.0 there.1
 
-pub returns-in-Some-2 : goal.returns-in-Some-2
-returns-in-Some-2 c = (
+pub returns-then-copied : goal.returns-then-copied
+returns-then-copied c = (
   c.if-turn.false,
   kept_found c.args.looks.now c.args.rest.now c.args.turn.key c.in-Some.place (sym c.requires.place ∙ c.in-Some.is)
-      ∙ sym c.in_ok-style.ensures ∙ c.in-Some-2.is,
+      ∙ sym c.in_ok-copied.ensures
+      ∙ ap (λ (b : Bool). drafted b c.copy_style.new.draft) c.if-copied.true,
 )
 
-pub returns-in-None : goal.returns-in-None
-returns-in-None c =
+pub returns : goal.returns
+returns c =
     nothing_needs c.args.looks.now c.args.rest.now c.args.turn.key c.args.turn.listed c.in-Some.place
-    (sym c.requires.place ∙ c.in-Some.is) (sym c.in_ok-style.ensures ∙ c.in-None.is)
+    (sym c.requires.place ∙ c.in-Some.is)
+    (sym c.in_ok-copied.ensures ∙ ap (λ (b : Bool). drafted b c.copy_style.new.draft) c.if-copied.false)

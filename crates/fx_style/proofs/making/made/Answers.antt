@@ -1,4 +1,4 @@
-use Rattle.std.proofs.Common.{◌≡◌, ◌++◌, ◌∷◌, [], ◌<◌, ◌+◌, ℕ, Bool, true, false, List, Option, Some, None, get_or, length, refl, sym, ◌∙◌, ap, subst, inl, inr, arith, add_assoc}
+use Rattle.std.proofs.Common.{◌≡◌, ◌++◌, ◌<◌, ◌+◌, ℕ, Bool, true, false, List, Option, Some, None, get_or, length, refl, sym, ◌∙◌, ap, subst, inl, inr, arith, add_assoc}
 use Rattle.std.specs.Prelude.{slice_get, is_some, option_and_then}
 use Rattle.std.specs.List.{filter_map}
 use Rattle.std.specs.Option.{option_map}
@@ -11,13 +11,14 @@ use Rattle.fx_style.specs.declared.kept.Entry.{Entry}
 use Rattle.fx_style.specs.declared.kept.Fresh.{Fresh}
 use Rattle.fx_style.specs.Kept.{entry, fresh_at, is_among, kept_at, kept_under, place_of_key}
 use Rattle.fx_style.specs.Places.{parent_at, places_up}
-use Rattle.fx_style.specs.Plans.{AreSteps, made_fresh, put_step}
+use Rattle.fx_style.specs.Plans.{AreSteps, drafted, made_fresh, put_step}
 use Rattle.fx_style.specs.Rules.{anew, needs, needs_by, renewed_by, ticks, worked}
 use Rattle.fx_style.specs.Turns.{AreRightBelow}
 use Rattle.fx_style.proofs.CostLemmas.{worked_more}
 use Rattle.fx_style.proofs.FreshLemmas.{AreFew, few_more, fresh-here, fresh-other, long_more, steps_more}
 use Rattle.fx_look.specs.declared.looks.Look.{Look}
 use Rattle.fx_style.specs.declared.kept.Rest.{Rest}
+use Rattle.fx_style.proofs.RecodedLemmas.{parent_is}
 use Rattle.fx_style.proofs.IdleLemmas.{Idles, all_idle, idle_cost, idle_right}
 use Rattle.fx_style.proofs.TurnLemmas.{get_there}
 use Rattle.fx_style.proofs.UpdateLemmas.{now_of, right_more}
@@ -56,13 +57,13 @@ loop-at-preserved g c =
     let rest = c.args.old.rest.now in
     let kept = kept_at looks rest facts in
     let at = c.loop-at.at in
-    let fs = c.loop-at.fresh.items in
+    let fs = c.loop-at.fresh in
     let ss = c.loop-at.steps.items in
     let node = c.index-facts-at.result in
-    let made = c.in_ok-style.style in
+    let made = drafted c.in_ok-made.made c.remade.new.memory.draft in
     let o = option_map (entry node.key) made in
     let inv = c.loop-at.invariant in
-    let fresh : c.push_made.new.fresh.items ≡ fs ++ made_fresh at o = c.in_ok-push_made.ensures.fresh in
+    let fresh : c.push_made.new.fresh ≡ fs ++ made_fresh at o = c.in_ok-push_made.ensures.fresh in
     let steps : c.push_made.new.steps.items ≡ put_step ss at o (length fs) = c.in_ok-push_made.ensures.steps in
     let there : at < length ss = subst (λ (n : ℕ). at < n) (sym inv.long) c.loop-at-test.true in
     let is : slice_get facts at ≡ Some node =
@@ -78,9 +79,9 @@ loop-at-preserved g c =
     let up = places_up facts (parent_at facts at) in
     record {
       long = ap length steps ∙ long_more ss at o (length fs) ∙ inv.long;
-      steps = both AreSteps c.push_made.new.fresh.items (fs ++ made_fresh at o) c.push_made.new.steps.items
+      steps = both AreSteps c.push_made.new.fresh (fs ++ made_fresh at o) c.push_made.new.steps.items
           (put_step ss at o (length fs)) fresh steps (steps_more fs ss at o inv.steps inv.few none);
-      few = both AreFew c.push_made.new.fresh.items (fs ++ made_fresh at o) c.push_made.new.steps.items
+      few = both AreFew c.push_made.new.fresh (fs ++ made_fresh at o) c.push_made.new.steps.items
           (put_step ss at o (length fs)) fresh steps (few_more fs ss at o there inv.few);
       low = λ k past.
           ap (λ (l : List Fresh). fresh_at l k) fresh
@@ -88,10 +89,10 @@ loop-at-preserved g c =
           ∙ inv.low k (omega arith);
       right = subst (λ (l : List Fresh). AreRightBelow sheets facts restyle kept looks rest l (at + 1)) (sym fresh)
           (right_more sheets facts restyle kept looks rest fs at node made c.requires.before is none inv.right
-          (c.in_ok-style.ensures.style
+          (c.in_ok-made.ensures.style
           ∙ ap (λ (l : List Fresh). Some (entry node.key (renewed_by c.index-listed.result.now
           (kept_under looks rest node.key) (anew sheets facts at (filter_map (now_of looks rest l) up)))))
-          c.as_slice-in-loop-at.ensures.value
+          c.as_slice-in-loop-at-2.ensures
           ∙ ap (λ (b : Bool). Some (entry node.key (renewed_by b (kept_under looks rest node.key)
           (anew sheets facts at (filter_map (now_of looks rest fs) up))))) listed
           ∙ ap (λ (k : Option NodeStyle). Some (entry node.key (renewed_by (is_among restyle at) k
@@ -99,8 +100,8 @@ loop-at-preserved g c =
       all = λ off k below.
           ap (λ (l : List Fresh). is_some (fresh_at l k)) fresh
           ∙ all_more fs at o none (inv.all off)
-          (made_some (entry node.key) made (c.in_ok-style.ensures.made off)) k below;
-      cost = c.in_ok-style.ensures.cost
+          (made_some (entry node.key) made (c.in_ok-made.ensures.made off)) k below;
+      cost = c.in_ok-made.ensures.cost
           ∙ ap (λ (b : Bool). record c.loop-at.work {
             styled = c.loop-at.work.styled + ticks (needs_by b (kept_under looks rest node.key));
           }) listed
@@ -113,6 +114,32 @@ loop-at-preserved g c =
           ∙ ap (λ (n : ℕ). c.args.work.now.styled + n) (worked_more (needs restyle kept) at (at + 1) refl));
     }
 
+-- the parent of a node of the list stands within it
+pub is_calm-requires : goal.is_calm-requires
+is_calm-requires g c = λ p up.
+    let facts = c.args.scene.facts.now in
+    let at = c.loop-at.at in
+    let node = c.index-facts-at.result in
+    let is : slice_get facts at ≡ Some node =
+    slice_get_read facts (length facts) at node refl c.loop-at-test.true c.index-facts-at.is in
+    let less : p < at = c.requires.before at p node is up in
+    let long : length c.as_slice-in-loop-at.result.now ≡ length facts =
+    ap length c.as_slice-in-loop-at.ensures.value ∙ c.in_ok-marks.ensures.long in
+    omega (arith, less, long, c.loop-at-test.true)
+
+pub remade-requires-clause-calm : goal.remade-requires-clause-calm
+remade-requires-clause-calm g c = λ calm p up.
+    let facts = c.args.scene.facts.now in
+    let at = c.loop-at.at in
+    let node = c.index-facts-at.result in
+    let is : slice_get facts at ≡ Some node =
+    slice_get_read facts (length facts) at node refl c.loop-at-test.true c.index-facts-at.is in
+    let above = sym (parent_is facts at node is) ∙ up in
+    let less : p < at = c.requires.before at p node is above in
+    sym (c.in_ok-marks.ensures.marks p (omega (arith, less, c.loop-at-test.true)))
+    ∙ ap (λ (l : List Bool). get_or l p false) (sym c.as_slice-in-loop-at.ensures.value)
+    ∙ c.is_calm.ensures calm p above
+
 pub loop-at-preserved-then-is_idle : goal.loop-at-preserved-then-is_idle
 loop-at-preserved-then-is_idle g c =
     let facts = c.args.scene.facts.now in
@@ -121,7 +148,7 @@ loop-at-preserved-then-is_idle g c =
     let rest = c.args.old.rest.now in
     let kept = kept_at looks rest facts in
     let at = c.loop-at.at in
-    let fs = c.loop-at.fresh.items in
+    let fs = c.loop-at.fresh in
     let node = c.index-facts-at.result in
     let inv = c.loop-at.invariant in
     let idle = c.is_idle.ensures c.if-is_idle.true in
@@ -181,7 +208,7 @@ returns-then-are_idle-clause-right g c =
     (λ at within. ap (λ (l : List Bool). get_or l at false) c.as_slice.ensures.value
     ∙ c.in_ok-marks.ensures.marks at within) c.requires.stay (c.are_idle.ensures c.if-are_idle.true) in
     subst (λ (l : List Fresh). AreRightBelow sheets facts restyle (kept_at looks rest facts) looks rest l (length facts))
-    (sym c.new.ensures.items)
+    (sym c.taken_entries-fresh.ensures)
     (all_idle sheets facts restyle looks rest c.requires.before idles (length facts) (omega arith)).0
 
 pub returns-then-are_idle-clause-all : goal.returns-then-are_idle-clause-all

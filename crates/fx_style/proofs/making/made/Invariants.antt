@@ -12,12 +12,12 @@ invariant-loop-at g l =
     let kept = kept_at l.old.looks.now l.old.rest.now l.scene.facts.now in
     record {
       long : length l.steps.items ≡ length l.scene.facts.now;
-      steps : AreSteps l.fresh.items l.steps.items;
-      few : AreFew l.fresh.items l.steps.items;
-      low : (k : ℕ) → l.at ≤ k → fresh_at l.fresh.items k ≡ None;
+      steps : AreSteps l.fresh l.steps.items;
+      few : AreFew l.fresh l.steps.items;
+      low : (k : ℕ) → l.at ≤ k → fresh_at l.fresh k ≡ None;
       right : AreRightBelow l.scene.sheets.now l.scene.facts.now l.restyle kept l.old.looks.now l.old.rest.now
-          l.fresh.items l.at;
-      all : l.old.stay ≡ false → (k : ℕ) → k < l.at → is_some (fresh_at l.fresh.items k) ≡ true;
+          l.fresh l.at;
+      all : l.old.stay ≡ false → (k : ℕ) → k < l.at → is_some (fresh_at l.fresh k) ≡ true;
       cost : l.work ≡ record l.initial.work {
         styled = l.initial.work.styled + worked (needs l.restyle kept) l.at;
       };

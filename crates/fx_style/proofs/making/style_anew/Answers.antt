@@ -1,36 +1,38 @@
-use Rattle.std.proofs.Common.{◌≡◌, ℕ, List, Bor, Option, map, ◌∙◌, ap}
-use Rattle.std.proofs.lemmas.Result.{IfOk-weaker}
-use Rattle.std.specs.List.{filter_map}
-use Rattle.std.specs.Option.{option_copied}
-use Rattle.fx_look.specs.declared.looks.Look.{Look}
-use Rattle.fx_lookup.specs.declared.named.NamedPaint.{NamedPaint}
-use Rattle.fx_select.specs.Chains.{chain}
+use Rattle.std.proofs.Common.{◌≡◌, ◌∙◌, IfSome, List, Some, ap, option_map, subst, sym}
+use Rattle.fx_look.specs.declared.styles.CodeValue.{CodeValue}
+use Rattle.fx_kinds.specs.declared.facts.StyleFacts.{StyleFacts}
 use Rattle.fx_node_style.specs.declared.node_styles.NodeStyle.{NodeStyle}
-use Rattle.fx_node_style.specs.Styling.{look_above}
-use Rattle.fx_style.specs.Above.{node_under, some_paints}
-use Rattle.fx_style.specs.Places.{parent_at, places_up}
-use Rattle.fx_style.specs.Plans.{plan_style}
-use Rattle.fx_style.specs.Rules.{chain_style}
-use Rattle.fx_style.proofs.BareLemmas.{node-same}
+use Rattle.fx_style.specs.Kept.{entry_in, style_of_entry}
+use Rattle.fx_style.specs.Lasts.{AreStylesOf, rewritten}
+use Rattle.fx_style.specs.Plans.{drafted}
+use Rattle.fx_style.proofs.RecodedLemmas.{rewritten_is}
 use Rattle.fx_style.proofs.making.style_anew.Goals as goal
 
-pub returns-clause-style : goal.returns-clause-style
-returns-clause-style g c =
-    let facts = c.args.scene.facts.now in
+the_style : (a b : NodeStyle) → Some a ≡ Some b → a ≡ b
+the_style a b e = cc
+
+the_node : (a b : StyleFacts) → Some a ≡ Some b → a ≡ b
+the_node a b e = cc
+
+pub returns-then-branch-clause-style : goal.returns-then-branch-clause-style
+returns-then-branch-clause-style g c =
     let sheets = c.args.scene.sheets.now in
-    let nodes = chain facts c.args.at in
-    let up : Option ℕ → List NodeStyle = λ p. filter_map (plan_style c.args.plan) (places_up facts p) in
-    let above : List NodeStyle = up (parent_at facts c.args.at) in
-    let paints : List (List NamedPaint) = map (λ (n : Bor (List NamedPaint)). n.now) c.as_slice.result.now in
-    IfOk-weaker c.node_style.result
-    (λ made. made ≡ node_under sheets nodes (option_copied c.look_up-look.result) paints)
-    (λ made. made ≡ chain_style sheets nodes above)
-    (λ made is.
-    is
-    ∙ ap (λ (l : Option Look). node_under sheets nodes l paints)
-    (c.look_up-look.ensures ∙ ap (λ (p : Option ℕ). look_above (up p)) c.parent_at-parent.ensures)
-    ∙ ap (λ (ps : List (List NamedPaint)). node_under sheets nodes (look_above above) ps)
-    (ap (map (λ (n : Bor (List NamedPaint)). n.now)) c.as_slice.ensures.value ∙ c.in_ok-paints.ensures
-    ∙ ap (λ (p : Option ℕ). some_paints (up p)) c.parent_at-parent.ensures)
-    ∙ node-same sheets nodes above)
-    c.node_style.ensures.style
+    let facts = c.args.scene.facts.now in
+    let listed = c.args.plan.listed.now in
+    let looks = c.args.plan.looks.now in
+    let rest = c.args.plan.rest.now in
+    let at = c.args.turn.at in
+    let r = c.is_recoded.ensures c.if-is_recoded.true in
+    let are : AreStylesOf sheets facts listed looks rest r.olds =
+    subst (λ o. IfSome o (AreStylesOf sheets facts listed looks rest)) r.given c.requires.last in
+    let node : c.node_at.result.now ≡ r.node =
+    the_node c.node_at.result.now r.node (sym c.node_at.ensures ∙ r.is) in
+    let codes : c.as_slice-codes.result.now ≡ r.node.codes =
+    c.as_slice-codes.ensures ∙ ap (λ (n : StyleFacts). n.codes) node in
+    let kept = style_of_entry (entry_in looks rest at) in
+    the_style c.copy_rewritten.new.draft _
+    (sym (ap (λ b. drafted b c.copy_rewritten.new.draft) c.if-branch.true)
+    ∙ (c.in_ok-copy_rewritten.ensures
+    ∙ (ap (λ (l : List CodeValue). option_map (rewritten l) kept) codes
+    ∙ rewritten_is sheets facts r.olds listed looks rest c.args.plan.fresh.now c.requires.before are at r.old r.node
+    r.was r.is r.differs (c.requires.calm c.if-turn.true) c.requires.right)))

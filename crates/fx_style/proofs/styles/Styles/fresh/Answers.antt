@@ -16,7 +16,7 @@ returns-clause-right g c =
     let rest : c.as_slice-2.result.now ≡ c.args.self.now.rest =
     c.as_slice-2.ensures.value ∙ ap (λ (k : Kept). k.rest) c.self.view_is in
     subst (λ (ls : List Look). IfOk c.made.result (λ fresh. AreRightBelow sheets facts restyle
-    (kept_at ls c.args.self.now.rest facts) ls c.args.self.now.rest fresh.items (length facts))) looks
+    (kept_at ls c.args.self.now.rest facts) ls c.args.self.now.rest fresh (length facts))) looks
     (subst (λ (rs : List Rest). IfOk c.made.result (λ fresh. AreRightBelow sheets facts restyle
-    (kept_at c.as_slice.result.now rs facts) c.as_slice.result.now rs fresh.items (length facts))) rest
+    (kept_at c.as_slice.result.now rs facts) c.as_slice.result.now rs fresh (length facts))) rest
     c.made.ensures.right)

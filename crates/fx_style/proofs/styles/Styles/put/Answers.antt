@@ -7,7 +7,7 @@ use Rattle.fx_style.proofs.styles.Styles.put.Goals as goal
 pub put_in-requires : goal.put_in-requires
 put_in-requires c =
     let old = c.args.self.now in
-    let fresh = c.args.fresh.items in
+    let fresh = c.args.fresh in
     let is = c.old.view_is ∙ c.replace-old.ensures.value in
     let there = c.requires.stay c.if-stay.true in
     record {
@@ -20,7 +20,7 @@ put_in-requires c =
 pub returns-then-stay-clause-put : goal.returns-then-stay-clause-put
 returns-then-stay-clause-put c =
     let old = c.args.self.now in
-    let fresh = c.args.fresh.items in
+    let fresh = c.args.fresh in
     let is = c.old.view_is ∙ c.replace-old.ensures.value in
     let there = c.requires.stay c.if-stay.true in
     put_there c.args.facts.now old c.put_in.result c.old.inside.looks.items c.old.inside.rest.items fresh
@@ -33,7 +33,7 @@ returns-then-stay-clause-put c =
 pub put_in-requires-2 : goal.put_in-requires-2
 put_in-requires-2 c =
     let old = c.args.self.now in
-    let fresh = c.args.fresh.items in
+    let fresh = c.args.fresh in
     let looks = c.in_ok-looks.looks.items in
     let rest = c.in_ok-rest.rest.items in
     record {
@@ -45,7 +45,7 @@ put_in-requires-2 c =
 pub returns-clause-put : goal.returns-clause-put
 returns-clause-put c =
     let old = c.args.self.now in
-    let fresh = c.args.fresh.items in
+    let fresh = c.args.fresh in
     let looks = c.in_ok-looks.looks.items in
     let rest = c.in_ok-rest.rest.items in
     put_there c.args.facts.now old c.put_in-2.result looks rest fresh c.args.changed.items c.in_ok-looks.ensures

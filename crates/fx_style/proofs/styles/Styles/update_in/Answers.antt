@@ -12,7 +12,7 @@ put-requires-clause-right g c =
     let old = c.args.self.now in
     let facts = c.args.scene.facts.now in
     right_keys c.args.scene.sheets.now facts c.args.restyle.now
-    (kept_of old facts) old.looks old.rest c.in_ok-fresh.fresh.items
+    (kept_of old facts) old.looks old.rest c.in_ok-fresh.fresh
     c.in_ok-fresh.ensures.right
 
 pub returns-clause-styles : goal.returns-clause-styles
@@ -20,16 +20,16 @@ returns-clause-styles g c =
     let old = c.args.self.now in
     ok_then c.put.result
     (λ put. update_done c.args.scene.sheets.now c.args.scene.facts.now c.args.restyle.now old c.put.new.self
-    c.in_ok-fresh.fresh.items
+    c.in_ok-fresh.fresh
     c.in_ok-fresh.ensures.right put)
     c.put.ensures.put
 
 pub returns-clause-changed : goal.returns-clause-changed
 returns-clause-changed g c =
-    let fresh = c.in_ok-fresh.fresh.items in
+    let fresh = c.in_ok-fresh.fresh in
     let places = c.in_ok-changed.changed.items in
     let stay = c.stays-stay.result in
-    let seen : c.as_slice.result.now ≡ fresh = c.as_slice.ensures.value in
+    let seen : c.as_slice.result.now ≡ fresh = c.as_slice.ensures in
     ok_both c.put.result
     (λ (p : ArePut c.args.self.now c.put.new.self fresh (length c.args.scene.facts.now) ×
     (c.put.new.self.changed ≡ places)) looks.

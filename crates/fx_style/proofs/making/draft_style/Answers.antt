@@ -1,5 +1,4 @@
 use Rattle.std.proofs.Common.{◌≡◌, ◌∷◌, ℕ, List, Bor, Option, map, sym, ◌∙◌, ap}
-use Rattle.std.proofs.lemmas.Result.{IfOk-weaker}
 use Rattle.std.specs.Option.{option_copied}
 use Rattle.fx_look.specs.declared.looks.Look.{Look}
 use Rattle.fx_look.specs.declared.styles.CodeValue.{CodeValue}
@@ -13,7 +12,7 @@ use Rattle.fx_select.proofs.ChainLemmas.{upward-some}
 use Rattle.fx_node_style.specs.Styling.{style_under}
 use Rattle.fx_style.specs.Above.{node_under}
 use Rattle.fx_style.specs.Rules.{matching_nodes}
-use Rattle.fx_style.proofs.making.node_style.Goals as goal
+use Rattle.fx_style.proofs.making.draft_style.Goals as goal
 
 by_nodes : (sheets : List SheetAt) (nodes : List StyleFacts) (node : StyleFacts) (up : List StyleFacts)
     (look : Option Look) (paints : List (List NamedPaint)) → nodes ≡ node ∷ up
@@ -32,12 +31,7 @@ returns-clause-style g c =
     let node = c.node_at-node.result.now in
     let look : Option Look = option_copied c.args.parent in
     let paints : List (List NamedPaint) = map (λ (n : Bor (List NamedPaint)). n.now) c.args.above.now in
-    IfOk-weaker c.style_in.result
-    (λ made. made
-    ≡ style_under sheets c.as_slice.result.now c.as_slice-2.result.now c.initial_alignment.result look paints)
-    (λ made. made ≡ node_under sheets nodes look paints)
-    (λ made is.
-    is
+    c.in_ok-restyle.ensures.style
     ∙ ap (λ (m : List Candidate). style_under sheets m c.as_slice-2.result.now c.initial_alignment.result look paints)
     (c.as_slice.ensures.value ∙ c.in_ok-find_rules.ensures)
     ∙ ap (λ (v : List CodeValue). style_under sheets (matching_nodes sheets nodes) v c.initial_alignment.result look
@@ -45,5 +39,4 @@ returns-clause-style g c =
     ∙ ap (λ (n : ℕ). style_under sheets (matching_nodes sheets nodes) node.codes n look paints)
     c.initial_alignment.ensures
     ∙ by_nodes sheets nodes node (upward facts node.parent) look paints
-    (upward-some facts c.requires.before c.args.at node c.node_at-node.ensures))
-    c.style_in.ensures.style
+    (upward-some facts c.requires.before c.args.at node c.node_at-node.ensures)

@@ -7,7 +7,7 @@ use Rattle.fx_picture.specs.declared.edges.Bounds.{Bounds}
 use Rattle.fx_picture.specs.declared.entries.Entry.{Entry}
 use Rattle.fx_picture.specs.Entries.{HasDistinctBirths, entry_with}
 use Rattle.fx_picture.proofs.BoundsLemmas.{both_true}
-use Rattle.fx_damage.specs.Changes.{changed_nows, changed_olds, if_changed, is_kept}
+use Rattle.fx_damage.specs.Changes.{begins_kept, changed_nows, changed_olds, if_changed, is_kept}
 use Rattle.fx_damage.specs.Damage.{boxes_at, boxes_of, changed_boxes, cut_to, stays}
 use Rattle.fx_damage.proofs.BoxLemmas.{same_boxes}
 use Rattle.fx_damage.proofs.FindingLemmas.{none_parts, number_gone}
@@ -151,6 +151,14 @@ pub nows_more : (done more : List Entry) (es fs : List Entry) (i : ℕ) (e f : E
     → more ≡ done ++ if_changed e f f → more ++ changed_nows (drop (i + 1) es) (drop (i + 1) fs) ≡ done ++ changed_nows (drop i es) (drop i fs)
 nows_more done more es fs i e f p q left right made =
     pair_step changed_nows (λ a b. if_changed a b b) (λ a b as' bs. refl) done more es fs i e f p q left right made
+
+pub begins_at : (es fs : List Entry) (i : ℕ) (e f : Entry) → i < length es → i < length fs → e ≡ get_or es i e → f ≡ get_or fs i f
+    → begins_kept (drop i es) (drop i fs) ≡ is_kept e f
+begins_at es fs i e f p q left right =
+    ap (λ l. begins_kept l (drop i fs)) (one es i e p left) ∙ ap (begins_kept (e ∷ drop (i + 1) es)) (one fs i f q right)
+
+pub pair_added : (done more : List Entry) (e f g : Entry) → is_kept e f ≡ false → more ≡ done ++ g ∷ [] → more ≡ done ++ if_changed e f g
+pair_added done more e f g changed made = rw changed made
 
 behind : (xs : List Entry) (i : ℕ) → take (length xs - i) (drop i xs) ≡ drop i xs
 behind xs i = take_all (length xs - i) (drop i xs) (omega (arith, length-drop i xs))

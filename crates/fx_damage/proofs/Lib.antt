@@ -8,3 +8,4 @@ pub mod ChangeLemmas
 pub mod OrderLemmas
 pub mod EditLemmas
 pub mod CheckLemmas
+pub mod NearLemmas

@@ -1,5 +1,5 @@
 -- The entries of two pictures, place by place, without those of nodes that have one place in both and stay there.
-use Rattle.std.specs.Prelude.{Bool, ◌&&◌, ◌==◌, List, [], ◌∷◌, ◌++◌, Some, map, if◌then◌else◌}
+use Rattle.std.specs.Prelude.{Bool, false, ◌&&◌, ◌==◌, List, [], ◌∷◌, ◌++◌, Some, map, if◌then◌else◌}
 use Rattle.std.specs.Borrow.{Bor}
 use Rattle.fx_damage.specs.Damage.{stays}
 use Rattle.fx_picture.specs.declared.entries.Entry.{Entry}
@@ -7,6 +7,12 @@ use Rattle.fx_picture.specs.declared.entries.Entry.{Entry}
 -- one node, which stays
 abbrev pub is_kept : Entry → Entry → Bool
 is_kept e f = e.key.birth == f.key.birth && stays (Some e) (Some f)
+
+-- whether both begin with one node, which stays
+abbrev pub begins_kept : List Entry → List Entry → Bool
+begins_kept [] fs = false
+begins_kept (e ∷ es) [] = false
+begins_kept (e ∷ es) (f ∷ fs) = is_kept e f
 
 -- an entry, if what stands at its place in both pictures isn't one node that stays
 abbrev pub if_changed : Entry → Entry → Entry → List Entry

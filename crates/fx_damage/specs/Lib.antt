@@ -3,4 +3,5 @@ pub mod Changes
 pub mod Damage
 pub mod Edits
 pub mod Laws
+pub mod Near
 pub mod Windows

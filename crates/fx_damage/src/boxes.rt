@@ -1,14 +1,17 @@
 //! The boxes of nodes, each cut to the window.
-ghost use Rattle.std.specs.Prelude.{◌≡◌, ◌++◌, ◌∷◌, [], IfOk, OnOk, Some, None, map};
+ghost use Rattle.std.specs.Prelude.{◌≡◌, ◌++◌, ◌∷◌, [], IfOk, IfSome, OnOk, Some, None, map};
 ghost use Rattle.std.specs.Option.{option_copied};
 ghost use Rattle.fx_damage.specs.Births.{RisesStrictly, birth_numbers};
 ghost use Rattle.fx_damage.specs.Changes.{lent};
 ghost use Rattle.fx_damage.specs.Damage.{box_of, boxes_of, changed_boxes, cut_to, stays, two_boxes};
+ghost use Rattle.fx_damage.specs.Near.{wide};
+ghost use Rattle.fx_damage.specs.Windows.{IsInWindow};
 ghost use Rattle.fx_picture.specs.Bounds.{hull_of};
 ghost use Rattle.fx_picture.specs.Entries.{HasDistinctBirths};
 ghost use Rattle.fx_picture.specs.Shapes.{bounds};
 
 use crate::changes::{add_changed, stays};
+use crate::near::{Edges, common, is_vacant, near_box, near_window, same_edges, widened};
 use crate::ordering::{next_birth, sort_by_birth, take_with};
 use fx_picture::{Bounds, Entry, Shape, bounds, is_empty, joined, meeting, same_bounds};
 use std::alloc::{AllocError, Global};
@@ -30,6 +33,7 @@ pub(crate) fn changed_boxes(
 ) -> Result<Vec<Bounds>, AllocError>
     requires olds { HasDistinctBirths olds.now }
     requires nows { HasDistinctBirths nows.now }
+    requires window { IsInWindow window }
     ensures { IfOk result (λ boxes. boxes.items ≡ cut_to window (changed_boxes olds.now nows.now)) }
 {
     let mut changed_olds = Vec::new(alloc);
@@ -48,6 +52,7 @@ pub(crate) fn boxes_between(
 ) -> Result<Vec<Bounds>, AllocError>
     requires olds { HasDistinctBirths (lent olds.items) }
     requires nows { HasDistinctBirths (lent nows.items) }
+    requires window { IsInWindow window }
     ensures { IfOk result (λ boxes. boxes.items
         ≡ cut_to window (changed_boxes (lent olds.entry.items) (lent nows.entry.items))) }
 {
@@ -73,6 +78,7 @@ fn merged_boxes(
 ) -> Result<Vec<Bounds>, AllocError>
     requires olds { RisesStrictly (birth_numbers (lent olds.now)) }
     requires nows { RisesStrictly (birth_numbers (lent nows.now)) }
+    requires window { IsInWindow window }
     ensures { IfOk result (λ boxes. boxes.items ≡ cut_to window (changed_boxes (lent olds.now) (lent nows.now))) }
 {
     let mut boxes = Vec::new(alloc);
@@ -93,13 +99,71 @@ fn add_boxes(
     now: Option<&Entry>,
     window: Bounds,
 ) -> Result<(), AllocError>
+    requires { IsInWindow window }
     ensures { OnOk result (boxes.new.items
         ≡ boxes.old.items ++ cut_to window (boxes_of (option_copied old.entry) (option_copied now.entry))) }
 {
     if both_stay(old, now) {
         return Ok(());
     }
-    add_two(boxes, box_of(old), box_of(now), window)
+    add_both(boxes, old, now, window)
+}
+
+/// The same of a node that changed. Nearly all are near, so that 64 bits hold their edges.
+fn add_both(
+    boxes: &mut Vec<Bounds>,
+    old: Option<&Entry>,
+    now: Option<&Entry>,
+    window: Bounds,
+) -> Result<(), AllocError>
+    requires { IsInWindow window }
+    ensures { OnOk result (boxes.new.items ≡ boxes.old.items
+        ++ cut_to window (two_boxes (box_of (option_copied old.entry)) (box_of (option_copied now.entry)))) }
+{
+    match near_boxes(old, now) {
+        Some((old_box, now_box)) => add_near(boxes, old_box, now_box, near_window(window)),
+        None => add_two(boxes, box_of(old), box_of(now), window),
+    }
+}
+
+/// Both boxes, unless one is far away.
+fn near_boxes(old: Option<&Entry>, now: Option<&Entry>) -> Option<(Edges, Edges)>
+    ensures old { IfSome result (λ pair. wide pair.0 ≡ box_of (option_copied old.entry)) }
+    ensures now { IfSome result (λ pair. wide pair.1 ≡ box_of (option_copied now.entry)) }
+{
+    let old_box = near_box(old)?;
+    let now_box = near_box(now)?;
+    Some((old_box, now_box))
+}
+
+/// Adds two near boxes, or one if they are the same.
+fn add_near(
+    boxes: &mut Vec<Bounds>,
+    old: Edges,
+    now: Edges,
+    window: Edges,
+) -> Result<(), AllocError>
+    ensures { OnOk result (boxes.new.items
+        ≡ boxes.old.items ++ cut_to (wide window) (two_boxes (wide old) (wide now))) }
+{
+    add_near_cut(boxes, old, window)?;
+    if same_edges(old, now) {
+        return Ok(());
+    }
+    add_near_cut(boxes, now, window)?;
+    Ok(())
+}
+
+/// Adds a near box, cut to the window, unless nothing is left of it.
+fn add_near_cut(boxes: &mut Vec<Bounds>, edges: Edges, window: Edges) -> Result<(), AllocError>
+    ensures { OnOk result (boxes.new.items ≡ boxes.old.items ++ cut_to (wide window) (wide edges ∷ [])) }
+{
+    let cut = common(window, edges);
+    if is_vacant(cut) {
+        return Ok(());
+    }
+    boxes.push(widened(cut))?;
+    Ok(())
 }
 
 fn both_stay(old: Option<&Entry>, now: Option<&Entry>) -> bool

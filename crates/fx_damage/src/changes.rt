@@ -1,7 +1,7 @@
 //! The entries of nodes that may have changed: those that don't have one place in both pictures, or don't stay there.
-ghost use Rattle.std.specs.Prelude.{◌≡◌, ◌≤◌, ◌++◌, ◌↔◌, IsTrue, OnOk, Some, drop, length, nat_eq};
+ghost use Rattle.std.specs.Prelude.{◌≡◌, ◌≤◌, ◌++◌, ◌∷◌, [], ◌↔◌, IsTrue, OnOk, Some, drop, false, length, nat_eq};
 ghost use Rattle.std.specs.Cmp.Lexicographic.{pointwise};
-ghost use Rattle.fx_damage.specs.Changes.{changed_nows, changed_olds, if_changed, is_kept, lent};
+ghost use Rattle.fx_damage.specs.Changes.{begins_kept, changed_nows, changed_olds, if_changed, is_kept, lent};
 ghost use Rattle.fx_damage.specs.Damage.{stays};
 
 use fx_base::{List, Same};
@@ -21,7 +21,7 @@ pub(crate) fn add_changed<'a>(
     let both = before.len().min(after.len());
     let mut place = next_changed(before, after, 0);
     while place < both {
-        add_if_changed(olds, nows, &before[place], &after[place])?;
+        add_pair(olds, nows, &before[place], &after[place])?;
         place = next_changed(before, after, place + 1);
     }
     add_all(olds, &before[both..])?;
@@ -40,6 +40,7 @@ fn next_changed(before: &[Entry], after: &[Entry], from: usize) -> usize
         ≡ changed_olds (drop from before.now) (drop from after.now) }
     ensures nows { changed_nows (drop result before.now) (drop result after.now)
         ≡ changed_nows (drop from before.now) (drop from after.now) }
+    ensures changed { begins_kept (drop result before.now) (drop result after.now) ≡ false }
 {
     let both = before.len().min(after.len());
     for place in from..both {
@@ -63,6 +64,19 @@ pub(crate) fn add_if_changed<'a>(
     if is_kept(old, now) {
         return Ok(());
     }
+    add_pair(olds, nows, old, now)
+}
+
+/// Adds an old entry and a new one.
+fn add_pair<'a>(
+    olds: &mut Vec<&'a Entry>,
+    nows: &mut Vec<&'a Entry>,
+    old: &'a Entry,
+    now: &'a Entry,
+) -> Result<(), AllocError>
+    ensures olds { OnOk result (lent olds.new.items ≡ lent olds.old.items ++ old.now ∷ []) }
+    ensures nows { OnOk result (lent nows.new.items ≡ lent nows.old.items ++ now.now ∷ []) }
+{
     olds.push(old)?;
     nows.push(now)?;
     Ok(())

@@ -3,6 +3,7 @@ ghost use Rattle.std.specs.Prelude.{◌≡◌, ◌<◌, IfOk, OnOk, Some, ◌++�
 ghost use Rattle.fx_damage.specs.Changes.{changed_nows, changed_olds, lent};
 ghost use Rattle.fx_damage.specs.Damage.{changed_boxes, cut_to, damage};
 ghost use Rattle.fx_damage.specs.Edits.{AreEdits, edited, entries_of, replaced};
+ghost use Rattle.fx_damage.specs.Windows.{IsInWindow};
 ghost use Rattle.fx_picture.specs.Entries.{HasDistinctBirths};
 
 use crate::boxes::boxes_between;
@@ -49,6 +50,7 @@ fn edited_boxes(
     requires edits { AreEdits edits.now (length olds.now) }
     requires old { HasDistinctBirths olds.now }
     requires new { HasDistinctBirths (edited edits.now olds.now) }
+    requires window { IsInWindow window }
     ensures { IfOk result (λ boxes. boxes.items
         ≡ cut_to window (changed_boxes olds.now (edited edits.now olds.now))) }
 {

@@ -8,6 +8,7 @@ mod boxes;
 mod changes;
 mod checks;
 mod edits;
+mod near;
 mod ordering;
 mod rects;
 

@@ -1,7 +1,7 @@
 -- what changed at the next places, and what stands in one of the pictures alone
-use Rattle.std.proofs.Common.{◌∙◌, ◌++◌, ap, arith}
+use Rattle.std.proofs.Common.{◌∙◌, ◌++◌, ap, arith, sym}
 use Rattle.fx_damage.specs.Changes.{lent}
-use Rattle.fx_damage.proofs.ChangeLemmas.{nows_end, nows_more, olds_end, olds_more}
+use Rattle.fx_damage.proofs.ChangeLemmas.{begins_at, nows_end, nows_more, olds_end, olds_more, pair_added}
 use Rattle.fx_damage.proofs.changes.add_changed.Goals as goal
 
 pub loop-place-init : goal.loop-place-init
@@ -12,6 +12,7 @@ loop-place-init c =
       ap (λ l. lent c.args.olds.now.items ++ l) c.next_changed-place.ensures.olds,
       ap (λ l. lent c.args.nows.now.items ++ l) c.next_changed-place.ensures.nows,
       omega arith,
+      c.next_changed-place.ensures.changed,
     )
 
 pub loop-place-preserved : goal.loop-place-preserved
@@ -24,14 +25,18 @@ loop-place-preserved c =
     let left = c.next_changed-place-in-loop-place.ensures.before in
     let right = c.next_changed-place-in-loop-place.ensures.after in
     let e = c.index-before-place.result in
-    let f = c.index-after-place.result in (
-      ap (λ l. lent c.add_if_changed.new.olds.items ++ l) c.next_changed-place-in-loop-place.ensures.olds
-          ∙ (olds_more (lent c.loop-place.olds.items) (lent c.add_if_changed.new.olds.items) before after i e f (omega arith) (omega arith)
-          c.index-before-place.is c.index-after-place.is c.in_ok-add_if_changed.ensures.olds ∙ c.loop-place.invariant.0),
-      ap (λ l. lent c.add_if_changed.new.nows.items ++ l) c.next_changed-place-in-loop-place.ensures.nows
-          ∙ (nows_more (lent c.loop-place.nows.items) (lent c.add_if_changed.new.nows.items) before after i e f (omega arith) (omega arith)
-          c.index-before-place.is c.index-after-place.is c.in_ok-add_if_changed.ensures.nows ∙ c.loop-place.invariant.1),
+    let f = c.index-after-place.result in
+    let changed = sym (begins_at before after i e f (omega arith) (omega arith) c.index-before-place.is c.index-after-place.is) ∙ c.loop-place.invariant.3 in
+    let old = pair_added (lent c.loop-place.olds.items) (lent c.add_pair.new.olds.items) e f e changed c.in_ok-add_pair.ensures.olds in
+    let now = pair_added (lent c.loop-place.nows.items) (lent c.add_pair.new.nows.items) e f f changed c.in_ok-add_pair.ensures.nows in (
+      ap (λ l. lent c.add_pair.new.olds.items ++ l) c.next_changed-place-in-loop-place.ensures.olds
+          ∙ (olds_more (lent c.loop-place.olds.items) (lent c.add_pair.new.olds.items) before after i e f (omega arith) (omega arith)
+          c.index-before-place.is c.index-after-place.is old ∙ c.loop-place.invariant.0),
+      ap (λ l. lent c.add_pair.new.nows.items ++ l) c.next_changed-place-in-loop-place.ensures.nows
+          ∙ (nows_more (lent c.loop-place.nows.items) (lent c.add_pair.new.nows.items) before after i e f (omega arith) (omega arith)
+          c.index-before-place.is c.index-after-place.is now ∙ c.loop-place.invariant.1),
       omega arith,
+      c.next_changed-place-in-loop-place.ensures.changed,
     )
 
 pub returns-clause-olds : goal.returns-clause-olds

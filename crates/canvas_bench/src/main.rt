@@ -12,7 +12,7 @@ use changes::{damaged, edited};
 use fx_base::{Ledgers, Rect, Work};
 use fx_canvas::Canvas;
 use fx_picture::Picture;
-use pictures::{Change, filled, lettered, nothing};
+use pictures::{Change, Letters, filled, lettered, nothing};
 use std::alloc::Global;
 use std::env;
 use std::marker::Brand;
@@ -24,7 +24,7 @@ enum Task {
     White,
     Fill,
     Blend,
-    Letters,
+    Lettered(Letters),
     Damage(Change),
     Edits(Change),
 }
@@ -35,12 +35,31 @@ const SIDE: u32 = 1000;
 /// How many nodes show, where no word says so.
 const COUNT: u32 = 4000;
 
+/// Letters of which each bit is four pixels wide, two, and one.
+const LARGE: Letters = Letters {
+    scale: 4,
+    lines: 42,
+    texts: 1,
+};
+
+const SMALL: Letters = Letters {
+    scale: 2,
+    lines: 84,
+    texts: 2,
+};
+
+const TINY: Letters = Letters {
+    scale: 1,
+    lines: 168,
+    texts: 4,
+};
+
 fn main(rt: HostRuntime) -> anyhow::Result<()> {
     let mut words = env::args(&rt)?;
     let _program = words.next();
     let (Some(task), Some(rounds)) = (words.next(), words.next()) else {
         bail!(
-            "usage: canvas_bench white|fill|blend|letters|damage|edits|falling|falling-edits ROUNDS [COUNT]"
+            "usage: canvas_bench white|fill|blend|letters|small-letters|tiny-letters|damage|edits|falling|falling-edits ROUNDS [COUNT]"
         );
     };
     let rounds = rounds.as_str().parse::<u32>()?;
@@ -69,7 +88,9 @@ fn task_of(word: &str, count: u32) -> Task {
         "falling-edits" => Task::Edits(all_falling(count)),
         "fill" => Task::Fill,
         "blend" => Task::Blend,
-        "letters" => Task::Letters,
+        "letters" => Task::Lettered(LARGE),
+        "small-letters" => Task::Lettered(SMALL),
+        "tiny-letters" => Task::Lettered(TINY),
         _ => Task::White,
     }
 }
@@ -108,7 +129,12 @@ fn start<L: Ledgers>(
         Task::Edits(change) => edited(alloc, change, rounds),
         Task::Fill => painted_often(alloc, &filled(alloc, 255)?, rounds, &mut work),
         Task::Blend => painted_often(alloc, &filled(alloc, 128)?, rounds, &mut work),
-        Task::Letters => painted_often(alloc, &lettered(alloc)?, rounds, &mut work),
+        Task::Lettered(letters) => painted_often(
+            alloc,
+            &lettered(alloc, letters)?,
+            rounds,
+            &mut work,
+        ),
         Task::White => painted_often(alloc, &nothing(alloc), rounds, &mut work),
     }
 }

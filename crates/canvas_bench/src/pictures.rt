@@ -26,23 +26,41 @@ pub fn filled(alloc: Global, opacity: u8) -> Result<Picture, AllocError> {
     picture_of(alloc, shapes)
 }
 
-/// Lines of letters all over the window, each bit of a letter four pixels wide.
-pub fn lettered(alloc: Global) -> anyhow::Result<Picture> {
+/// How large letters are.
+#[derive(Clone, Copy)]
+pub struct Letters {
+    /// How many pixels a bit of a letter is wide.
+    pub scale: u8,
+    /// How many lines the window has, and how many texts a line has.
+    pub lines: u8,
+    pub texts: u8,
+}
+
+/// Lines of letters all over the window.
+pub fn lettered(alloc: Global, letters: Letters) -> anyhow::Result<Picture> {
     let mut shapes = Vec::new(alloc);
-    for line in 0..42u8 {
-        shapes.push(Shape::Letters {
-            x: 0,
-            y: i64::from(line) * 24,
-            scale: 4,
-            text: Text::from_str(
-                alloc,
-                "The quick brown fox jumps over the lazy dog 0123456789 & THEN",
-            )?,
-            clip: WINDOW,
-            color: color(255),
-        })?;
+    for line in 0..letters.lines {
+        for text in 0..letters.texts {
+            shapes.push(line_of(alloc, letters.scale, line, text)?)?;
+        }
     }
     Ok(picture_of(alloc, shapes)?)
+}
+
+/// A text of 61 letters, so many lines down and so many texts to the right.
+fn line_of(alloc: Global, scale: u8, line: u8, text: u8) -> anyhow::Result<Shape> {
+    let scale = i64::from(scale);
+    Ok(Shape::Letters {
+        x: i64::from(text) * 244 * scale,
+        y: i64::from(line) * 6 * scale,
+        scale,
+        text: Text::from_str(
+            alloc,
+            "The quick brown fox jumps over the lazy dog 0123456789 & THEN",
+        )?,
+        clip: WINDOW,
+        color: color(255),
+    })
 }
 
 fn color(opacity: u8) -> Color {

@@ -2,5 +2,8 @@ pub mod SpanLemmas
 pub mod DotLemmas
 pub mod CutLemmas
 pub mod LetterLemmas
-pub mod Bits
+pub mod RunLemmas
 pub mod ShapeLemmas
+pub mod LineLemmas
+pub mod GlyphLemmas
+pub mod PixelLemmas

@@ -2,6 +2,7 @@
 use Rattle.std.specs.Prelude.{◌≡◌, ◌<◌, ◌≤◌, ℕ, ℤ, pos, Bool, ◌&&◌, ◌||◌, ◌+◌, ◌-◌, ◌*◌, ◌/◌, ◌+ℤ◌, ◌-ℤ◌, List, count_by, length, nat_le, nat_lt, slice_index, if◌then◌else◌}
 use Rattle.std.specs.List.{range_with_len}
 use Rattle.fx_base.specs.Pixel.{blended}
+use Rattle.fx_base.specs.declared.color.Color.{Color}
 use Rattle.fx_pens.specs.declared.runs.Bits.{Bits}
 use Rattle.fx_pens.specs.declared.spans.Pen.{Pen}
 use Rattle.fx_cells.specs.Columns.{cell_width, cells_of}
@@ -31,6 +32,10 @@ pub record IsPen (pen : Pen) (row : List ℕ) : Type 0 where
   pub some : 0 < pen.scale
   pub most : pen.scale ≤ 9223372036854775807
   pub near : pen.right ≤ 65536
+
+-- a colour laid over any pixel gives this one
+abbrev pub IsInk : Color → ℕ → Type 0
+IsInk color pixel = (under : ℕ) → blended color under ≡ pixel
 
 -- one bit of a glyph: a scale of columns from here on
 abbrev pub bit_dots : Pen → ℤ → ℕ → Bool

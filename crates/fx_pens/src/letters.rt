@@ -1,101 +1,136 @@
-//! One row of letters, painted by runs: a bit of a glyph is as many columns as the letters' scale.
-ghost use Rattle.std.specs.Prelude.{◌≡◌, ◌≤◌, ◌^◌, ◌+ℤ◌, ◌≤ℤ◌, ◌<◌, ◌*◌, ◌/◌, pos, negsuc, chars, true};
-ghost use Rattle.fx_pens.specs.Dots.{IsLaid, IsPen, bits_of, char_dots, line_dots, row_dots};
-ghost use Rattle.fx_cells.specs.Columns.{cell_width};
+//! One row of letters. Where they begin far off or are huge, each bit is cut to the row by itself.
+ghost use Rattle.std.specs.Prelude.{◌≡◌, ◌≤◌, ◌^◌, ◌+ℤ◌, ◌≤ℤ◌, ◌<◌, ◌*◌, ◌/◌, pos, negsuc, chars, true, IfSome};
+ghost use Rattle.fx_pens.specs.Dots.{IsInk, IsLaid, IsPen, char_dots, line_dots, row_dots};
 
-use crate::runs::{Bits, lay_runs};
-use crate::spans::{Pen, cut, lay_bit};
+use crate::characters::{bits_of, width_of};
+use crate::near::{is_near, lay_near};
+use crate::runs::Bits;
+use crate::spans::{Pen, ink, lay_bit};
 use fx_base::{Steps, Text};
 use fx_cells::glyph;
 use std::sync::ledger::Ledger;
-use unicode_width::UnicodeWidthChar;
 
 /// Paints the row of a text whose first cell begins at this column.
 pub(crate) fn lay_line<P: Ledger>(
     row: &mut [u32],
-    pen: Pen,
+    pen: &Pen,
     first: i64,
     text: &str,
     painted: &mut Steps<P>,
 )
-    requires { IsPen pen row.old }
-    ensures { IsLaid pen (line_dots pen first (chars text.now)) row.old row.new painted.old painted.new }
+    requires { IsPen pen.now row.old }
+    ensures { IsLaid pen.now (line_dots pen.now first (chars text.now)) row.old row.new painted.old painted.new }
 {
     let line = pen.below / pen.scale;
     if line >= 5 {
         return;
     }
+    let ink = ink(pen.color);
+    if is_near(pen, first) {
+        lay_near(row, pen, ink, line, first, text, painted);
+    } else {
+        lay_far(row, pen, ink, line, first, text, painted);
+    }
+}
+
+/// The same where the columns of the first cell, or of a bit, may be any.
+#[inline(never)]
+fn lay_far<P: Ledger>(
+    row: &mut [u32],
+    pen: &Pen,
+    ink: Option<u32>,
+    line: u64,
+    first: i64,
+    text: &str,
+    painted: &mut Steps<P>,
+)
+    requires pen { IsPen pen.now row.old }
+    requires ink { IfSome ink (IsInk pen.now.color) }
+    requires line { line ≡ pen.now.below / pen.now.scale }
+    requires low { line < 5 }
+    ensures { IsLaid pen.now (line_dots pen.now first (chars text.now)) row.old row.new painted.old painted.new }
+{
     let mut start = i128::from(first);
     for c in text.chars() {
         if start >= pen.right as i128 {
             return;
         }
-        lay_character(row, pen, line, start, c, painted);
+        lay_character(row, pen, ink, line, start, c, painted);
         start = behind(start, pen.scale, 4 * width_of(c));
     }
 }
 
 /// Paints this row of the glyph of a character whose first cell begins at this column.
-fn lay_character<P: Ledger>(
+#[inline(never)]
+pub(crate) fn lay_character<P: Ledger>(
     row: &mut [u32],
-    pen: Pen,
+    pen: &Pen,
+    ink: Option<u32>,
     line: u64,
     start: i128,
     c: char,
     painted: &mut Steps<P>,
 )
-    requires pen { IsPen pen row.old }
-    requires line { line ≡ pen.below / pen.scale }
+    requires pen { IsPen pen.now row.old }
+    requires ink { IfSome ink (IsInk pen.now.color) }
+    requires line { line ≡ pen.now.below / pen.now.scale }
     requires low { line < 5 }
     requires least { negsuc (2 ^ 70) ≤ℤ start }
     requires most { start ≤ℤ pos (2 ^ 70) }
-    ensures { IsLaid pen (char_dots pen start c) row.old row.new painted.old painted.new }
+    ensures { IsLaid pen.now (char_dots pen.now start c) row.old row.new painted.old painted.new }
 {
     if width_of(c) == 0 {
         return;
     }
     let bits = bits_of(glyph(c), line);
-    if is_within(pen, start) {
-        lay_runs(row, pen, cut(pen, start), bits, painted);
-    } else {
-        lay_bits(row, pen, start, bits, painted);
-    }
-}
-
-/// Whether all three bits lie in the pen's columns.
-fn is_within(pen: Pen, start: i128) -> bool
-    requires scale { pen.scale ≤ 9223372036854775807 }
-    requires least { negsuc (2 ^ 70) ≤ℤ start }
-    requires most { start ≤ℤ pos (2 ^ 70) }
-    ensures left { result ≡ true → pos pen.left ≤ℤ start }
-    ensures right { result ≡ true → (start +ℤ pos (3 * pen.scale)) ≤ℤ pos pen.right }
-{
-    pen.left as i128 <= start && behind(start, pen.scale, 3) <= pen.right as i128
+    lay_bits(row, pen, ink, start, bits, painted);
 }
 
 /// Whether all three bits lie before the pen's columns.
-fn is_before(pen: Pen, start: i128) -> bool
-    requires scale { pen.scale ≤ 9223372036854775807 }
+fn is_before(pen: &Pen, start: i128) -> bool
+    requires scale { pen.now.scale ≤ 9223372036854775807 }
     requires least { negsuc (2 ^ 70) ≤ℤ start }
     requires most { start ≤ℤ pos (2 ^ 70) }
-    ensures { result ≡ true → (start +ℤ pos (3 * pen.scale)) ≤ℤ pos pen.left }
+    ensures { result ≡ true → (start +ℤ pos (3 * pen.now.scale)) ≤ℤ pos pen.now.left }
 {
     behind(start, pen.scale, 3) <= pen.left as i128
 }
 
 /// Paints the bits of a glyph's row that begins at this column, each cut to the pen's columns.
-fn lay_bits<P: Ledger>(row: &mut [u32], pen: Pen, start: i128, bits: Bits, painted: &mut Steps<P>)
-    requires pen { IsPen pen row.old }
+fn lay_bits<P: Ledger>(
+    row: &mut [u32],
+    pen: &Pen,
+    ink: Option<u32>,
+    start: i128,
+    bits: Bits,
+    painted: &mut Steps<P>,
+)
+    requires pen { IsPen pen.now row.old }
+    requires ink { IfSome ink (IsInk pen.now.color) }
     requires least { negsuc (2 ^ 70) ≤ℤ start }
     requires most { start ≤ℤ pos (2 ^ 70) }
-    ensures { IsLaid pen (row_dots pen start bits) row.old row.new painted.old painted.new }
+    ensures { IsLaid pen.now (row_dots pen.now start bits) row.old row.new painted.old painted.new }
 {
     if is_before(pen, start) {
         return;
     }
-    lay_bit(row, pen, start, bits.left, painted);
-    lay_bit(row, pen, behind(start, pen.scale, 1), bits.middle, painted);
-    lay_bit(row, pen, behind(start, pen.scale, 2), bits.right, painted);
+    lay_bit(row, pen, ink, start, bits.left, painted);
+    lay_bit(
+        row,
+        pen,
+        ink,
+        behind(start, pen.scale, 1),
+        bits.middle,
+        painted,
+    );
+    lay_bit(
+        row,
+        pen,
+        ink,
+        behind(start, pen.scale, 2),
+        bits.right,
+        painted,
+    );
 }
 
 /// So many scales behind a column.
@@ -109,26 +144,4 @@ fn behind(start: i128, scale: u64, count: u64) -> i128
     ensures high { result ≤ℤ pos (2 ^ 100) }
 {
     start + i128::from(count) * i128::from(scale)
-}
-
-/// The cells of one character.
-fn width_of(c: char) -> u64
-    ensures width { result ≡ cell_width c }
-    ensures bound { result ≤ 3 }
-{
-    c.width().unwrap_or(0) as u64
-}
-
-/// The bits of a row of a glyph.
-#[tactic(auto, using(crate::proofs::Bits::left_bit, crate::proofs::Bits::middle_bit, crate::proofs::Bits::right_bit))]
-fn bits_of(glyph: u16, row: u64) -> Bits
-    requires { row < 5 }
-    ensures { result ≡ bits_of glyph row }
-{
-    let three = u64::from(glyph) >> (12 - 3 * row);
-    Bits {
-        left: three / 4 % 2 == 1,
-        middle: three / 2 % 2 == 1,
-        right: three % 2 == 1,
-    }
 }

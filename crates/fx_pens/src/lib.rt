@@ -2,7 +2,10 @@
 //! counted. It stands on the picture, below the canvas.
 #![tactic(auto)]
 
+mod characters;
 mod letters;
+mod near;
+mod pixels;
 mod runs;
 mod shapes;
 mod spans;

@@ -5,7 +5,7 @@ ghost use Rattle.fx_pens.specs.Shapes.{AreColumns, LieWithin, plain_pen};
 ghost use Rattle.fx_picture.specs.Shapes.{bounds, color_of, holds, whole};
 
 use crate::letters::lay_line;
-use crate::spans::{Columns, Pen, lay_span};
+use crate::spans::{Columns, Pen, ink, lay_span};
 use fx_base::{Color, Steps};
 use fx_picture::Shape;
 use std::sync::ledger::Ledger;
@@ -41,7 +41,7 @@ pub fn lay_shape<P: Ledger>(
                 below: below(y, *first),
                 color: *color,
             };
-            lay_line(row, pen, *x, text.as_str(), painted);
+            lay_line(row, &pen, *x, text.as_str(), painted);
         }
     }
 }
@@ -58,7 +58,7 @@ fn lay_all<P: Ledger>(row: &mut [u32], part: Columns, color: Color, painted: &mu
         below: 0,
         color,
     };
-    lay_span(row, pen, part.left, part.right, painted);
+    lay_span(row, &pen, ink(color), part.left, part.right, painted);
 }
 
 /// A scale, which is one at least.

@@ -1,9 +1,8 @@
 //! One colour over a part of a row.
-ghost use Rattle.std.specs.Prelude.{◌≡◌, ◌≤◌, ◌+ℤ◌, ◌≤ℤ◌, ◌&&◌, ◌+◌, ◌-◌, ℕ, pos, negsuc, ◌^◌};
-ghost use Rattle.std.specs.Prelude.{length, map, replicate, true};
+ghost use Rattle.std.specs.Prelude.{◌≡◌, ◌≤◌, ◌+ℤ◌, ◌≤ℤ◌, ◌&&◌, ◌+◌, ◌-◌, ℕ, pos, negsuc, ◌^◌, IfSome, length, map, replicate};
 ghost use Rattle.fx_base.specs.Pixel.{blended, pixel_of};
 ghost use Rattle.fx_lanes.specs.Blending.{packed_color};
-ghost use Rattle.fx_pens.specs.Dots.{IsLaid, IsPen, bit_dots, is_in};
+ghost use Rattle.fx_pens.specs.Dots.{IsInk, IsLaid, IsPen, bit_dots, is_in};
 
 use fx_base::{Color, Steps};
 use fx_lanes::{blend_row, fill};
@@ -32,48 +31,52 @@ pub struct Columns {
 #[inline(always)]
 pub(crate) fn lay_span<P: Ledger>(
     row: &mut [u32],
-    pen: Pen,
+    pen: &Pen,
+    ink: Option<u32>,
     from: usize,
     to: usize,
     painted: &mut Steps<P>,
 )
-    requires pen { IsPen pen row.old }
-    requires left { pen.left ≤ from }
+    requires pen { IsPen pen.now row.old }
+    requires ink { IfSome ink (IsInk pen.now.color) }
+    requires left { pen.now.left ≤ from }
     requires rises { from ≤ to }
-    requires right { to ≤ pen.right }
-    ensures { IsLaid pen (is_in from to) row.old row.new painted.old painted.new }
+    requires right { to ≤ pen.now.right }
+    ensures { IsLaid pen.now (is_in from to) row.old row.new painted.old painted.new }
 {
-    lay_color(&mut row[from..to], pen.color);
+    lay_color(&mut row[from..to], pen.color, ink);
     painted.add((to - from) as u64);
 }
 
 /// Paints one bit of a glyph that begins at this column, if the bit is set.
 pub(crate) fn lay_bit<P: Ledger>(
     row: &mut [u32],
-    pen: Pen,
+    pen: &Pen,
+    ink: Option<u32>,
     start: i128,
     set: bool,
     painted: &mut Steps<P>,
 )
-    requires pen { IsPen pen row.old }
+    requires pen { IsPen pen.now row.old }
+    requires ink { IfSome ink (IsInk pen.now.color) }
     requires least { negsuc (2 ^ 100) ≤ℤ start }
     requires most { start ≤ℤ pos (2 ^ 100) }
-    ensures { IsLaid pen (λ x. set && bit_dots pen start x) row.old row.new painted.old painted.new }
+    ensures { IsLaid pen.now (λ x. set && bit_dots pen.now start x) row.old row.new painted.old painted.new }
 {
     if set {
         let from = cut(pen, start);
         let to = cut(pen, behind(start, pen.scale));
-        lay_span(row, pen, from, to, painted);
+        lay_span(row, pen, ink, from, to, painted);
     }
 }
 
 /// A column, cut to the pen's.
-pub(crate) fn cut(pen: Pen, at: i128) -> usize
-    requires rises { pen.left ≤ pen.right }
-    requires near { pen.right ≤ 65536 }
-    ensures low { at ≤ℤ pos pen.left → result ≡ pen.left }
-    ensures among { pos pen.left ≤ℤ at → at ≤ℤ pos pen.right → pos result ≡ at }
-    ensures high { pos pen.right ≤ℤ at → result ≡ pen.right }
+pub(crate) fn cut(pen: &Pen, at: i128) -> usize
+    requires rises { pen.now.left ≤ pen.now.right }
+    requires near { pen.now.right ≤ 65536 }
+    ensures low { at ≤ℤ pos pen.now.left → result ≡ pen.now.left }
+    ensures among { pos pen.now.left ≤ℤ at → at ≤ℤ pos pen.now.right → pos result ≡ at }
+    ensures high { pos pen.now.right ≤ℤ at → result ≡ pen.now.right }
 {
     if at <= pen.left as i128 {
         return pen.left;
@@ -92,37 +95,45 @@ fn behind(start: i128, scale: u64) -> i128
     start + i128::from(scale)
 }
 
-/// Few opaque pixels are written right here, as most spans of letters are.
+/// Lays a colour over all of a row, where `ink` is what it makes of any pixel.
 #[inline(always)]
-fn lay_color(row: &mut [u32], color: Color)
+fn lay_color(row: &mut [u32], color: Color, ink: Option<u32>)
+    requires { IfSome ink (IsInk color) }
     ensures { row.new ≡ map (blended color) row.old }
 {
-    if is_small(row.len(), color) {
-        write_few(row, opaque(color));
-    } else {
-        lay_long(row, color);
+    match ink {
+        Some(pixel) => write(row, pixel),
+        None => blend(row, color),
     }
 }
 
+/// Writes a colour to every pixel of a row. Few pixels are written right here, as most spans of letters are.
 #[inline(always)]
-fn is_small(pixels: usize, color: Color) -> bool
-    ensures { result ≡ true → color.a ≡ 255 }
+fn write(row: &mut [u32], color: u32)
+    ensures { row.new ≡ replicate (length row.old) color }
 {
-    pixels < 16 && color.a == 255
+    if row.len() < 16 {
+        write_few(row, color);
+    } else {
+        write_many(row, color);
+    }
 }
 
 #[inline(never)]
-fn lay_long(row: &mut [u32], color: Color)
-    ensures { row.new ≡ map (blended color) row.old }
+fn write_many(row: &mut [u32], color: u32)
+    ensures { row.new ≡ replicate (length row.old) color }
 {
-    if color.a == 255 {
-        fill(row, opaque(color));
-    } else {
-        blend_row(row, packed(color));
-    }
+    fill(row, color);
 }
 
-/// Writes a colour, 0x00RRGGBB, to every pixel of a row.
+#[inline(never)]
+fn blend(row: &mut [u32], color: Color)
+    ensures { row.new ≡ map (blended color) row.old }
+{
+    blend_row(row, packed(color));
+}
+
+/// Writes a colour, 0x00RRGGBB, to every pixel of a short row.
 #[inline(always)]
 fn write_few(row: &mut [u32], color: u32)
     ensures { row.new ≡ replicate (length row.old) color }
@@ -135,6 +146,17 @@ fn write_few(row: &mut [u32], color: u32)
     }
     for i in at..row.len() {
         row[i] = color;
+    }
+}
+
+/// What a colour makes of any pixel, if it is opaque.
+pub(crate) fn ink(color: Color) -> Option<u32>
+    ensures { IfSome result (IsInk color) }
+{
+    if color.a == 255 {
+        Some(opaque(color))
+    } else {
+        None
     }
 }
 

@@ -1,15 +1,15 @@
-use Rattle.std.proofs.Common.{◌≡◌, ◌≤ℤ◌, ◌+ℤ◌, ◌*◌, ◌&&◌, ◌||◌, ◌∙◌, ℤ, ℕ, Bool, pos, ap, arith, rules, FitsSigned, to_z, of_z}
+use Rattle.std.proofs.Common.{◌≡◌, ◌≤ℤ◌, ◌+ℤ◌, ◌*◌, ◌∙◌, ℤ, pos, ap, arith, rules, FitsSigned, to_z, of_z}
 use Rattle.std.specs.Int.{w128}
 use Rattle.std.proofs.lemmas.Int.{ints, to_z-of_z}
-use Rattle.fx_pens.specs.Dots.{bit_dots, row_dots}
-use Rattle.fx_pens.proofs.DotLemmas.{laid-none, laid-same, laid-then}
-use Rattle.fx_pens.proofs.LetterLemmas.{bits_apart, bits_apart_both}
-use Rattle.fx_pens.proofs.Bits.{row_before, row_same}
+use Rattle.fx_pens.specs.Dots.{row_dots}
+use Rattle.fx_pens.proofs.DotLemmas.{laid-none}
+use Rattle.fx_pens.proofs.GlyphLemmas.{three_laid}
+use Rattle.fx_pens.proofs.RunLemmas.{row_before}
 use Rattle.fx_pens.proofs.letters.lay_bits.Goals as goal
 
 pub returns-then-is_before : goal.returns-then-is_before
 returns-then-is_before g c =
-    let pen = c.args.pen in
+    let pen = c.args.pen.now in
     let start = c.args.start in
     let same : to_z w128 (of_z w128 start) ≡ start = to_z-of_z w128 start c.ranges.start in
     let end : (to_z w128 (of_z w128 start) +ℤ pos (3 * pen.scale)) ≤ℤ pos pen.left = c.is_before.ensures c.if-is_before.true in
@@ -18,7 +18,7 @@ returns-then-is_before g c =
 
 pub returns : goal.returns
 returns g c =
-    let pen = c.args.pen in
+    let pen = c.args.pen.now in
     let start = c.args.start in
     let bits = c.args.bits in
     let at0 : ℤ = to_z w128 (of_z w128 start) in
@@ -29,13 +29,6 @@ returns g c =
     let p0 : at0 ≡ start = to_z-of_z w128 start c.ranges.start in
     let p1 : at1 ≡ start +ℤ pos (1 * pen.scale) = to_z-of_z w128 c.behind.result f1 ∙ (c.behind.ensures.value ∙ ap (λ z. z +ℤ pos (1 * pen.scale)) p0) in
     let p2 : at2 ≡ start +ℤ pos (2 * pen.scale) = to_z-of_z w128 c.behind-2.result f2 ∙ (c.behind-2.ensures.value ∙ ap (λ z. z +ℤ pos (2 * pen.scale)) p0) in
-    let zero' : at0 ≡ start +ℤ pos 0 = p0 ∙ omega (arith, ints) in
-    let d0 : ℕ → Bool = λ x. bits.left && bit_dots pen at0 x in
-    let d1 : ℕ → Bool = λ x. bits.middle && bit_dots pen at1 x in
-    let d2 : ℕ → Bool = λ x. bits.right && bit_dots pen at2 x in
-    let two = laid-then pen d0 d1 c.args.row.now c.lay_bit.new.row c.lay_bit-2.new.row c.args.painted.now c.lay_bit.new.painted c.lay_bit-2.new.painted
-    c.requires.pen.rises (λ x a b. bits_apart pen start at0 at1 0 (1 * pen.scale) x bits.left bits.middle zero' p1 (omega arith)) c.lay_bit.ensures c.lay_bit-2.ensures in
-    let three = laid-then pen (λ x. d0 x || d1 x) d2 c.args.row.now c.lay_bit-2.new.row c.lay_bit-3.new.row c.args.painted.now c.lay_bit-2.new.painted c.lay_bit-3.new.painted
-    c.requires.pen.rises (λ x a b. bits_apart_both pen start at0 at1 at2 x bits.left bits.middle bits.right p0 p1 p2) two c.lay_bit-3.ensures in
-    laid-same pen (λ x. (d0 x || d1 x) || d2 x) (row_dots pen start bits) c.args.row.now c.lay_bit-3.new.row c.args.painted.now c.lay_bit-3.new.painted
-    (λ x a b. row_same pen start at0 at1 at2 bits x p0 p1 p2) c.requires.pen.rises three
+    three_laid pen start at0 at1 at2 bits c.args.row.now c.lay_bit.new.row c.lay_bit-2.new.row c.lay_bit-3.new.row
+    c.args.painted.now c.lay_bit.new.painted c.lay_bit-2.new.painted c.lay_bit-3.new.painted c.requires.pen.rises p0 p1 p2
+    c.lay_bit.ensures c.lay_bit-2.ensures c.lay_bit-3.ensures

@@ -3,12 +3,12 @@ use Rattle.std.proofs.lemmas.Int.{ints}
 use Rattle.fx_pens.specs.Dots.{bit_dots, row_dots}
 use Rattle.fx_pens.proofs.DotLemmas.{laid-same, laid-then}
 use Rattle.fx_pens.proofs.LetterLemmas.{bits_apart}
-use Rattle.fx_pens.proofs.Bits.{beside_is}
+use Rattle.fx_pens.proofs.RunLemmas.{beside_is}
 use Rattle.fx_pens.proofs.runs.lay_runs.Goals as goal
 
 pub returns-else-bits : goal.returns-else-bits
 returns-else-bits g c =
-    let pen = c.args.pen in
+    let pen = c.args.pen.now in
     let bits = c.args.bits in
     let s = c.args.start in
     let t = s + 2 * pen.scale in

@@ -9,7 +9,7 @@ use Rattle.fx_pens.proofs.spans.lay_bit.Goals as goal
 
 pub returns-then-set : goal.returns-then-set
 returns-then-set g c =
-    let pen = c.args.pen in
+    let pen = c.args.pen.now in
     let start : FitsSigned w128 c.args.start = c.ranges.start in
     let end : FitsSigned w128 c.behind.result = search rules in
     let behind = simp to_z-of_z at c.behind.ensures in
@@ -27,5 +27,5 @@ returns-then-set g c =
 
 pub returns-else-set : goal.returns-else-set
 returns-else-set g c =
-    laid-none c.args.pen (λ x. c.args.set && bit_dots c.args.pen c.args.start x) c.args.row.now c.args.painted.now c.requires.pen.rises
-    (λ x a b. ap (λ t. t && bit_dots c.args.pen c.args.start x) c.if-set.false)
+    laid-none c.args.pen.now (λ x. c.args.set && bit_dots c.args.pen.now c.args.start x) c.args.row.now c.args.painted.now c.requires.pen.rises
+    (λ x a b. ap (λ t. t && bit_dots c.args.pen.now c.args.start x) c.if-set.false)

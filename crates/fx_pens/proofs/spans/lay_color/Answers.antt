@@ -1,12 +1,11 @@
--- an opaque colour is all that shows
-use Rattle.std.proofs.Common.{◌∙◌, sym, ap, length, replicate}
-use Rattle.fx_base.specs.Pixel.{blended, pixel_of}
-use Rattle.fx_pens.proofs.SpanLemmas.{blended-opaque, map-constant}
+-- the ink is all that shows
+use Rattle.std.proofs.Common.{◌∙◌, sym, subst, IfSome}
+use Rattle.fx_base.specs.Pixel.{blended}
+use Rattle.fx_pens.specs.Dots.{IsInk}
+use Rattle.fx_pens.proofs.SpanLemmas.{map-constant}
 use Rattle.fx_pens.proofs.spans.lay_color.Goals as goal
 
-pub returns-then-is_small : goal.returns-then-is_small
-returns-then-is_small c =
-    c.write_few.ensures
-    ∙ (ap (replicate (length c.args.row.now)) c.opaque.ensures
-    ∙ sym (map-constant (blended c.args.color) (pixel_of c.args.color.r c.args.color.g c.args.color.b) c.args.row.now
-    (λ under. blended-opaque c.args.color under (c.is_small.ensures c.if-is_small.true))))
+pub returns-in-Some : goal.returns-in-Some
+returns-in-Some c =
+    c.write.ensures
+    ∙ sym (map-constant (blended c.args.color) c.in-Some.pixel c.args.row.now (subst (λ i. IfSome i (IsInk c.args.color)) c.in-Some.is c.requires))

@@ -9,7 +9,7 @@ use Rattle.fx_pens.proofs.spans.lay_span.Goals as goal
 
 pub returns : goal.returns
 returns g c =
-    let pen = c.args.pen in
+    let pen = c.args.pen.now in
     let row = c.args.row.now in
     let from = c.args.from in
     let to = c.args.to in

@@ -1,5 +1,6 @@
 pub mod CountLemmas
 pub mod StyleLemmas
+pub mod LastLemmas
 pub mod StepLemmas
 pub mod CostLemmas
 pub mod StillLemmas

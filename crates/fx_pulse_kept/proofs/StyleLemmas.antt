@@ -15,7 +15,7 @@ use Rattle.fx_kinds.specs.declared.facts.StyleFacts.{StyleFacts}
 use Rattle.fx_look.specs.declared.looks.Look.{Look}
 use Rattle.fx_look.specs.Looks.{initial_look}
 use Rattle.fx_node_style.specs.declared.node_styles.NodeStyle.{NodeStyle}
-use Rattle.fx_select.specs.Chains.{ParentsStandBefore, upward}
+use Rattle.fx_select.specs.Chains.{ParentsStandBefore, chain, upward}
 use Rattle.fx_select.proofs.ChainLemmas.{upward-none, upward-some}
 use Rattle.fx_style.specs.declared.kept.Entry.{Entry}
 use Rattle.fx_style.specs.declared.kept.Rest.{Rest}
@@ -177,6 +177,16 @@ same_up old scene touched alike (suc fuel) (Some at) few within quiet =
 same_some : (a b : ℕ) → Some a ≡ Some b → a ≡ b
 same_some a b e = cc
 
+-- such a node stands below the facts that it stood below
+pub same_line : (old scene : Scene) (touched : List Bool) → AreAlike old scene touched → (at : ℕ)
+    → at < length scene.styles → is_restyled (parents scene.boxes) touched at ≡ false
+    → chain old.styles at ≡ chain scene.styles at
+same_line old scene touched alike at within quiet =
+    same_up old scene touched alike (suc at) (Some at)
+    (λ p e. omega (arith, same_some at p e))
+    (λ p e. subst (λ n. n < length scene.styles) (same_some at p e) within)
+    (λ p e. subst (λ n. is_restyled (parents scene.boxes) touched n ≡ false) (same_some at p e) quiet)
+
 -- the style of such a node from nothing is what it was
 pub same_style : (old scene : Scene) (touched : List Bool) → AreAlike old scene touched → (at : ℕ)
     → at < length scene.styles → is_restyled (parents scene.boxes) touched at ≡ false
@@ -184,11 +194,7 @@ pub same_style : (old scene : Scene) (touched : List Bool) → AreAlike old scen
 same_style old scene touched alike at within quiet =
     ap (λ (sheets : List SheetAt). style_of sheets old.styles at) alike.shape.sheets
     ∙ same_chain scene.sheets old.styles scene.styles (before old alike.was) (before scene alike.is) at at
-    (omega (arith, within, lengths old scene touched alike)) within
-    (same_up old scene touched alike (suc at) (Some at)
-    (λ p e. omega (arith, same_some at p e))
-    (λ p e. subst (λ n. n < length scene.styles) (same_some at p e) within)
-    (λ p e. subst (λ n. is_restyled (parents scene.boxes) touched n ≡ false) (same_some at p e) quiet))
+    (omega (arith, within, lengths old scene touched alike)) within (same_line old scene touched alike at within quiet)
 
 kept_style : (old scene : Scene) (touched : List Bool) (kept : Kept) → AreAlike old scene touched → AreStyled old kept
     → (at : ℕ) → at < length scene.styles → is_restyled (parents scene.boxes) touched at ≡ false
@@ -225,14 +231,14 @@ marks_long last scene touched marks kept ready =
     ap length ready.marks_are
     ∙ (told_long (is_restyled (parents scene.boxes) touched) (length scene.boxes) ∙ sym (as_many scene ready.is))
 
-unlisted : (last : Option Scene) (scene : Scene) (touched marks : List Bool) (kept : Kept)
+pub unlisted : (last : Option Scene) (scene : Scene) (touched marks : List Bool) (kept : Kept)
     → AreReady last scene touched marks kept → (at : ℕ) → at < length scene.styles
     → is_among (places_of marks) at ≡ false → is_restyled (parents scene.boxes) touched at ≡ false
 unlisted last scene touched marks kept ready at within free =
     sym (marked_as last scene touched marks kept ready at within)
     ∙ (sym (among_places marks at (omega (arith, within, marks_long last scene touched marks kept ready))) ∙ free)
 
-alike_of : (old scene : Scene) (touched marks : List Bool) (kept : Kept)
+pub alike_of : (old scene : Scene) (touched marks : List Bool) (kept : Kept)
     → AreReady (Some old) scene touched marks kept → (at : ℕ) → at < length scene.styles
     → is_restyled (parents scene.boxes) touched at ≡ false → AreAlike old scene touched
 alike_of old scene touched marks kept ready at within quiet =

@@ -1,5 +1,5 @@
 -- What is kept of the last scene from one frame to the next, and that it is what the scene gives from nothing.
-use Rattle.std.specs.Prelude.{◌≡◌, ℕ, List, [], length, slice_get, Option, Some, None, IfSome}
+use Rattle.std.specs.Prelude.{◌≡◌, ℕ, Bool, false, List, [], length, slice_get, Option, Some, None, IfSome}
 use Rattle.std.specs.Option.{option_map}
 use Rattle.fx_kinds.specs.declared.facts.BoxFacts.{BoxFacts}
 use Rattle.fx_kinds.specs.declared.facts.StyleFacts.{StyleFacts}
@@ -40,3 +40,10 @@ pub record AreOf (scene : Scene) (styles : Styled) (layout : Laid) : Type 0 wher
 
 abbrev pub Agrees : Keeping → Type 0
 Agrees k = IfSome k.last (λ (scene : Scene). AreOf scene k.styles k.layout)
+
+-- the facts for style of the last scene, of which the root isn't marked
+pub record AreStylesBefore (last : Option Scene) (marks : List Bool) (olds : List StyleFacts) : Type 0 where
+  pub scene : Scene
+  pub is : last ≡ Some scene
+  pub styles : scene.styles ≡ olds
+  pub root : slice_get marks 0 ≡ Some false

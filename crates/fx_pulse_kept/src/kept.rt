@@ -1,22 +1,23 @@
 //! What is kept of the last scene.
-ghost use Rattle.std.specs.Prelude.{◌≡◌, ◌≤◌, ◌+◌, ◌*◌, ◌↔◌, [], IfOk, IsTrue, OnOk, Option as Maybe, Some, None, length};
-ghost use Rattle.std.specs.Option.{option_map};
+ghost use Rattle.std.specs.Prelude.{◌≡◌, ◌≤◌, ◌<◌, ◌+◌, ◌*◌, ◌↔◌, ℕ, false, [], IfOk, IfSome, IsTrue, OnOk, Option as Maybe, Some, None, length};
+ghost use Rattle.std.specs.Option.{option_copied, option_map};
+ghost use Rattle.fx_layout_sweeps.specs.Marks.{flag_in};
 ghost use Rattle.fx_layout.specs.Layouts.{IsLayout};
 ghost use Rattle.fx_layout.specs.Updates.{root_size};
 ghost use Rattle.fx_layout_sweeps.specs.Nodes.{parents};
 ghost use Rattle.fx_pulse_kept.specs.Costs.{AreFew, IsBrought};
-ghost use Rattle.fx_pulse_kept.specs.Keeping.{Agrees, AreOf, boxes_in, no_layout};
+ghost use Rattle.fx_pulse_kept.specs.Keeping.{Agrees, AreOf, AreStyled, AreStylesBefore, boxes_in, no_layout};
 ghost use Rattle.fx_pulse_kept.specs.Lasts.{last_of};
 ghost use Rattle.fx_pulse_kept.specs.Measuring.{AreOthersMarked};
 ghost use Rattle.fx_pulse_model.specs.Scenes.{IsScene, Scene as SceneValue, looks_of};
 ghost use Rattle.fx_pulse_touched.specs.Marks.{places_of, told};
 ghost use Rattle.fx_pulse_touched.specs.Sights.{scene_of, seen};
-ghost use Rattle.fx_pulse_touched.specs.Touched.{AreTouched, IsUntouched, is_restyled};
+ghost use Rattle.fx_pulse_touched.specs.Touched.{AreTouched, IsStyledAsBefore, IsUntouched, is_restyled};
 ghost use Rattle.fx_style.specs.Rules.{IsUpdate, KeepsOthers, kept_of, needs, worked};
 
 use crate::measuring::measured_marks;
 use fx_base::{Ledgers, Rect, Work};
-use fx_kinds::BoxFacts;
+use fx_kinds::{BoxFacts, StyleFacts};
 use fx_layout::Layouts;
 use fx_look::Look;
 use fx_pulse_touched::{
@@ -141,12 +142,16 @@ impl KeptScene {
             work.old.styled work.new.styled work.old.laid work.new.laid) }
     {
         let last = self.last.take();
-        let touched = touched_since(alloc, lent(&last), scene)?;
+        let following = Following {
+            last: lent(&last),
+            scene,
+        };
+        let touched = touched_since(alloc, following.last, scene)?;
         let told = bring_up(
             alloc,
             &mut self.styles,
             &mut self.layouts,
-            scene,
+            following,
             touched,
             window,
             work,
@@ -193,28 +198,36 @@ fn lent(last: &Option<SceneLists>) -> Option<Scene<'_>>
     }
 }
 
-/// Brings styles and layout of the last scene up to this one.
+/// The scene of which something is kept, if there is one, and the scene that follows it.
+#[derive(Clone, Copy)]
+struct Following<'a> {
+    last: Option<Scene<'a>>,
+    scene: Scene<'a>,
+}
+
+/// Brings styles and layout of the last scene up to the next one.
 fn bring_up<L: Ledgers>(
     alloc: Global,
     styles: &mut Styles,
     layouts: &mut Layouts,
-    scene: Scene<'_>,
+    following: Following<'_>,
     touched: Touched,
     window: Option<(u32, u32)>,
     work: &mut Work<L>,
 ) -> Result<Brought, AllocError>
-    requires scene { IsScene (seen scene) }
-    requires each { length touched.boxes.items ≡ length scene.boxes.now }
-    ensures brought { (last : Maybe SceneValue)
-        → Agrees (record { styles = styles.old; layout = layouts.old; last = last })
-        → AreTouched last (seen scene.entry) touched.styles.items touched.boxes.items
-        → IfOk result (λ told. IsBrought last (seen scene.entry) window layouts.old styles.new layouts.new
+    requires scene { IsScene (seen following.scene) }
+    requires was { IfSome (option_map seen following.last) (λ last. AreOf last styles.old layouts.old) }
+    requires touched { AreTouched (option_map seen following.last) (seen following.scene) touched.styles.items
+        touched.boxes.items }
+    ensures brought { IfOk result (λ told. IsBrought (option_map seen following.entry.last)
+        (seen following.entry.scene) window layouts.old styles.new layouts.new
         told.marks.items work.old.styled work.new.styled work.old.laid work.new.laid) }
     ensures size { IfOk result (λ told. told.size ≡ root_size layouts.new) }
     ensures evaluated { OnOk result (work.new.evaluated ≡ work.old.evaluated) }
     ensures painted { OnOk result (work.new.painted ≡ work.old.painted) }
 {
-    let restyled = restyle(alloc, styles, scene, touched.styles.as_slice(), work)?;
+    let scene = following.scene;
+    let restyled = restyle(alloc, styles, following, touched.styles.as_slice(), work)?;
     let marks = measured_marks(
         scene.boxes,
         touched.boxes,
@@ -237,22 +250,27 @@ fn bring_up<L: Ledgers>(
 fn restyle<L: Ledgers>(
     alloc: Global,
     kept: &mut Styles,
-    scene: Scene<'_>,
+    following: Following<'_>,
     touched: &[bool],
     work: &mut Work<L>,
 ) -> Result<Vec<bool>, AllocError>
-    requires { IsScene (seen scene) }
+    requires scene { IsScene (seen following.scene) }
+    requires was { IfSome (option_map seen following.last) (λ last. IsScene last × AreStyled last kept.old) }
+    requires quiet { (k : ℕ) → k < length following.scene.styles.now → flag_in touched.now k ≡ false
+        → IsStyledAsBefore (option_map seen following.last) (seen following.scene) k }
     ensures marks { IfOk result (λ marks. marks.items
-        ≡ told (is_restyled (parents scene.entry.boxes.now) touched.now) (length scene.entry.boxes.now)) }
-    ensures update { IfOk result (λ marks.
-        IsUpdate scene.entry.sheets.now scene.entry.styles.now (places_of marks.items) kept.old kept.new) }
+        ≡ told (is_restyled (parents following.entry.scene.boxes.now) touched.now)
+        (length following.entry.scene.boxes.now)) }
+    ensures update { IfOk result (λ marks. IsUpdate following.entry.scene.sheets.now
+        following.entry.scene.styles.now (places_of marks.items) kept.old kept.new) }
     ensures others { OnOk result (KeepsOthers kept.old kept.new) }
     ensures cost { IfOk result (λ marks. work.new ≡ record work.old {
       styled = work.old.styled
-          + worked (needs (places_of marks.items) (kept_of kept.old scene.entry.styles.now))
-          (length scene.entry.styles.now);
+          + worked (needs (places_of marks.items) (kept_of kept.old following.entry.scene.styles.now))
+          (length following.entry.scene.styles.now);
     }) }
 {
+    let scene = following.scene;
     let marks = marked_below(alloc, scene.boxes, touched)?;
     let places = marked_places(alloc, marks.as_slice())?;
     let index = RuleIndex::build(alloc, scene.sheets)?;
@@ -260,7 +278,19 @@ fn restyle<L: Ledgers>(
         index: &index,
         sheets: scene.sheets,
         facts: scene.styles,
+        last: styles_before(following.last, marks.as_slice()),
     };
     kept.update(alloc, nodes, places.as_slice(), work)?;
     Ok(marks)
+}
+
+/// The facts of the last scene, where some node, and so the root, isn't styled anew.
+fn styles_before<'a>(last: Option<Scene<'a>>, marks: &[bool]) -> Option<&'a [StyleFacts]>
+    ensures { IfSome (option_copied result) (λ olds. AreStylesBefore (option_map seen last.entry) marks.now olds) }
+{
+    let last = last?;
+    match marks {
+        [false, ..] => Some(last.styles),
+        _ => None,
+    }
 }

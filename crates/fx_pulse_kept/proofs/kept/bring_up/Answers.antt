@@ -1,20 +1,41 @@
-use Rattle.std.proofs.Common.{ap, arith, length, subst, ◌∙◌, ◌≡◌}
+use Rattle.std.proofs.Common.{ap, arith, length, subst, sym, ◌∙◌, ◌≡◌, Bool, IfSome, List, None, Option, Some, option_map}
 use Rattle.fx_layout.specs.Updates.{IsUpdate as IsLaidUpdate}
+use Rattle.fx_layout.specs.Updates.{Kept as Laid}
+use Rattle.fx_layout_sweeps.specs.Marks.{flag_in}
 use Rattle.fx_layout_sweeps.specs.Nodes.{parents}
+use Rattle.fx_pulse_model.specs.Scenes.{IsScene, Scene}
 use Rattle.fx_pulse_model.proofs.KeyLemmas.{different_keys}
+use Rattle.fx_style.specs.Kept.{Kept as Styled}
 use Rattle.fx_pulse_touched.specs.Marks.{places_of, told}
 use Rattle.fx_pulse_touched.specs.Sights.{seen}
 use Rattle.fx_pulse_touched.specs.Touched.{is_restyled}
+use Rattle.fx_pulse_kept.specs.Keeping.{AreOf, AreStyled}
 use Rattle.fx_pulse_kept.specs.Measuring.{AreMeasuredAnew}
 use Rattle.fx_pulse_kept.proofs.BroughtLemmas.{brought}
 use Rattle.fx_pulse_kept.proofs.kept.bring_up.Goals as goal
 
 pub update-requires-clause-keys : goal.update-requires-clause-keys
-update-requires-clause-keys g c = different_keys c.args.scene.boxes.now c.requires.scene.births
+update-requires-clause-keys g c = different_keys c.args.following.scene.boxes.now c.requires.scene.births
+
+-- what is kept of the last scene, if there is one, but its layout
+was_styled : (last : Option Scene) (styles : Styled) (layout : Laid) → IfSome last (λ (old : Scene). AreOf old styles layout)
+    → IfSome last (λ (old : Scene). IsScene old × AreStyled old styles)
+was_styled None styles layout was = tt
+was_styled (Some old) styles layout was = (was.drawable, was.styled)
+
+pub restyle-requires-clause-was : goal.restyle-requires-clause-was
+restyle-requires-clause-was g c =
+    was_styled (option_map seen c.args.following.last) c.args.styles.now c.args.layouts.now c.requires.was
+
+pub restyle-requires-clause-quiet : goal.restyle-requires-clause-quiet
+restyle-requires-clause-quiet g c = λ k within free.
+    (c.requires.touched.styled k within).0
+    (ap (λ (l : List Bool). flag_in l k) (sym c.as_slice.ensures.value) ∙ free)
 
 pub returns-clause-brought : goal.returns-clause-brought
-returns-clause-brought g c = λ last agrees marks_are.
-    let scene = seen c.args.scene in
+returns-clause-brought g c =
+    let last = option_map seen c.args.following.last in
+    let scene = seen c.args.following.scene in
     let touched = c.args.touched in
     let restyled = c.in_ok-restyled.restyled.items in
     let marks = c.measured_marks-marks.result.items in
@@ -36,8 +57,8 @@ returns-clause-brought g c = λ last agrees marks_are.
     })
     (record {
       is = c.requires.scene;
-      was = agrees;
-      touched = marks_are;
+      was = c.requires.was;
+      touched = c.requires.touched;
       marks_are = subst (λ l. restyled ≡ told (is_restyled (parents scene.boxes) l) (length scene.boxes))
           c.as_slice.ensures.value c.in_ok-restyled.ensures.marks;
       update = c.in_ok-restyled.ensures.update;

@@ -1,5 +1,5 @@
 -- The extent of a control depends on computed lengths as far as the longest length, and its sizes are one list.
-use Rattle.std.proofs.Common.{◌≡◌, ℕ, ℤ, pos, negsuc, ◌+◌, ◌*◌, ◌-◌, ◌^◌, Bool, true, false, true≢false, cond, nat_eq, List, length, min, max, chars, refl, sym, ◌∙◌, ap, arith}
+use Rattle.std.proofs.Common.{◌≡◌, ℕ, ℤ, pos, negsuc, ◌+◌, ◌*◌, ◌-◌, ◌^◌, true, false, true≢false, cond, nat_eq, List, length, min, chars, refl, sym, ◌∙◌, ap, arith}
 use Rattle.std.specs.Prelude.{MatchBool}
 use Rattle.fx_base.specs.declared.facts.PaneFacts.{PaneFacts}
 use Rattle.fx_cells.proofs.Cutting.{one_wrapping_of}

@@ -1,6 +1,5 @@
 -- Each child of a pane has its rectangle by itself.
-use Rattle.std.proofs.Common.{◌≡◌, ℕ, List, length, map, sym, ◌∙◌}
-use Rattle.std.proofs.lemmas.List.{length-map}
+use Rattle.std.proofs.Common.{◌≡◌, ℕ, List, map}
 use Rattle.std.proofs.lemmas.Simd.{map-map, zip2_of_maps}
 use Rattle.fx_base.specs.declared.facts.ChildSize.{ChildSize}
 use Rattle.fx_base.specs.declared.facts.PaneFacts.{PaneFacts}

@@ -19,7 +19,7 @@ use Rattle.fx_panes_parts.specs.Tracks.{lengths_by, tracked}
 use Rattle.fx_panes_parts.proofs.PaneLemmas.{OneEach}
 use Rattle.fx_panes_parts.proofs.TrackLemmas.{length-tracked}
 use Rattle.fx_boxes.specs.declared.rows.Row.{Row}
-use Rattle.fx_boxes.specs.Rows.{beside_extent, beside_span, beside_spans, clamped, parts_of, rect_along, row_extent, row_spans, span_at, spans_by, spans_from}
+use Rattle.fx_boxes.specs.Rows.{beside_extent, beside_span, beside_spans, parts_of, rect_along, row_extent, row_spans, span_at, spans_by, spans_from}
 
 pub row_extent_is : (axis : Axis) (pane : PaneAxis) (cs : List ChildSize) (result : Extent) (between low wish : ℕ)
     → between ≡ gaps pane.spacing (length cs)
@@ -39,30 +39,6 @@ pub beside_extent_is : (axis : Axis) (pane : PaneAxis) (cs : List ChildSize) (re
 unfolding beside_extent
 beside_extent_is axis pane cs result low wish low_is wish_is result_is =
     rw (result_is, low_is, wish_is) refl
-
--- the same of parts that are listed
-pub row_extent_by : (pane : PaneAxis) (cs : List ChildAxis) (parts : List Part) (result : Extent) (between low wish : ℕ)
-    → parts ≡ parts_of cs → between ≡ gaps pane.spacing (length parts)
-    → low ≡ sum_by (λ (part : Part). part.min) (map (λ part. part) parts)
-    → wish ≡ sum_by (λ (part : Part). part.pref) (map (λ part. part) parts)
-    → result ≡ pane_extent pane.own (insets pane + between + low) (insets pane + between + wish)
-    → result ≡ row_extent pane cs
-unfolding row_extent
-row_extent_by pane cs parts result between low wish are between_is low_is wish_is result_is =
-    let same : map (λ part. part) parts ≡ parts_of cs = map-id parts ∙ are in
-    let count : length parts ≡ length cs = ap length are ∙ length-map cs part_of in
-    rw (result_is, between_is, low_is, wish_is, same, count) refl
-
-pub beside_extent_by : (pane : PaneAxis) (cs : List ChildAxis) (parts : List Part) (result : Extent) (low wish : ℕ)
-    → parts ≡ parts_of cs
-    → low ≡ greatest_of (map (λ (part : Part). part.min) (map (λ part. part) parts))
-    → wish ≡ greatest_of (map (λ (part : Part). part.pref) (map (λ part. part) parts))
-    → result ≡ pane_extent pane.own (insets pane + low) (insets pane + wish)
-    → result ≡ beside_extent pane cs
-unfolding beside_extent
-beside_extent_by pane cs parts result low wish are low_is wish_is result_is =
-    let same : map (λ part. part) parts ≡ parts_of cs = map-id parts ∙ are in
-    rw (result_is, low_is, wish_is, same) refl
 
 pub next_span : (old new : Row) (c : ChildAxis) (l : ℕ) (span : Span)
     → new.spacing ≡ old.spacing → new.at ≡ old.at + l + old.spacing → span ≡ span_at old.at c l
@@ -117,13 +93,4 @@ unfolding spans_by
 rows_end axis row cs i spans past so_far whole same =
     let none : drop i cs ≡ [] = drop_all i cs past in
     let rest : so_far ++ zip2 (rect_along axis) (spans_by row (along axis [])) spans ≡ whole = rw none at same in
-    sym (append-nil so_far) ∙ rest
-
--- and so are the spans along one axis
-pub spans_end : (row : Row) (cs : List ChildAxis) (i : ℕ) → length cs ≤ i → (so_far whole : List Span)
-    → so_far ++ map clamped (spans_by row (drop i cs)) ≡ whole → so_far ≡ whole
-unfolding spans_by
-spans_end row cs i past so_far whole same =
-    let none : drop i cs ≡ [] = drop_all i cs past in
-    let rest : so_far ++ map clamped (spans_by row []) ≡ whole = rw none at same in
     sym (append-nil so_far) ∙ rest

@@ -1,7 +1,6 @@
 -- A region by itself, of which nothing but its insets is computed: JavaFX 21 API, javafx.scene.layout.Region.
 -- Cited by src/region.rt.
-use Rattle.std.specs.Prelude.{ℕ, List, []}
-use Rattle.fx_base.specs.declared.facts.ChildSize.{ChildSize}
+use Rattle.std.specs.Prelude.{List, []}
 use Rattle.fx_base.specs.declared.facts.PaneFacts.{PaneFacts}
 use Rattle.fx_base.specs.declared.facts.Sizes.{Sizes}
 use Rattle.fx_panes_parts.specs.declared.axes.ChildAxis.{ChildAxis}

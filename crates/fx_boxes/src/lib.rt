@@ -6,6 +6,6 @@ pub mod control;
 pub mod hbox;
 pub mod pane;
 pub mod region;
-mod rows;
+pub mod rows;
 pub mod sides;
 pub mod vbox;

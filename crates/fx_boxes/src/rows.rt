@@ -5,22 +5,21 @@ ghost use Rattle.std.specs.Simd.Lanes.{zip2};
 ghost use Rattle.fx_boxes.specs.Rows as spec;
 ghost use Rattle.fx_panes_parts.specs.declared.axes.ChildAxis.{ChildAxis};
 ghost use Rattle.fx_panes_parts.specs.Axes.{IsChildAxis, IsPaneAxis, along, child_axis, content, gaps, pane_axis};
-ghost use Rattle.fx_panes_parts.specs.Parts.{greatest_of};
+ghost use Rattle.fx_panes_parts.specs.Parts.{greatest_of, part_of};
 
 use fx_base::{ChildSize, PaneFacts, Rect};
 use fx_panes_parts::{
     Axis, ChildAxis, Extent, PaneAxis, Part, Plan, Span, aligned, child_axis, content,
-    filled_length, gaps, in_area, insets, pane_axis, pane_extent, part_of, pixels, plan_for,
-    rect_of,
+    filled_length, gaps, insets, pane_axis, pane_extent, part_of, pixels, plan_for, rect_of,
 };
 use std::alloc::{AllocError, Global};
 
 /// A row of which some children have been placed: how the others come to their lengths, and where the next begins.
 #[derive(Clone, Copy, PartialEq, Eq, Debug)]
-pub(crate) struct Row {
-    plan: Plan,
-    at: u64,
-    spacing: u64,
+pub struct Row {
+    pub plan: Plan,
+    pub at: u64,
+    pub spacing: u64,
 }
 
 /// What children need along an axis: a minimum and a preferred length.
@@ -127,7 +126,7 @@ fn parts_along(alloc: Global, axis: Axis, children: &[ChildSize]) -> Result<Vec<
 }
 
 /// The row before any child has been placed, of children that have these parts.
-pub(crate) fn row_for(pane: &PaneAxis, parts: &[Part], length_along: u64) -> Row
+pub fn row_for(pane: &PaneAxis, parts: &[Part], length_along: u64) -> Row
     requires pane { IsPaneAxis pane.now }
     requires few { length parts.now ≤ 4096 }
     requires long { length_along ≤ 100000 }
@@ -150,7 +149,7 @@ pub(crate) fn row_for(pane: &PaneAxis, parts: &[Part], length_along: u64) -> Row
 
 impl Row {
     /// Where the next child stands along the row.
-    pub(crate) fn next(&mut self, child: &ChildAxis) -> Span
+    pub fn next(&mut self, child: &ChildAxis) -> Span
         requires child { IsChildAxis child.now }
         requires at { self.old.at < 2 ^ 60 }
         requires spacing { self.old.spacing ≤ 100000 }
@@ -159,42 +158,74 @@ impl Row {
         ensures at { self.new.at ≤ self.old.at + 2 ^ 35 }
         ensures spacing { self.new.spacing ≡ self.old.spacing }
     {
-        let length = self.plan.next(part_of(child));
-        let span = span_at(self.at, child, length);
+        self.next_of(part_of(child), child.before, child.after)
+    }
+
+    /// The same of a child of which just the part and the margins are told.
+    pub fn next_of(&mut self, part: Part, before: u64, after: u64) -> Span
+        requires before { before ≤ 100000 }
+        requires after { after ≤ 100000 }
+        requires at { self.old.at < 2 ^ 60 }
+        requires spacing { self.old.spacing ≤ 100000 }
+        ensures next { (child : ChildAxis) (children : List ChildAxis)
+            → part ≡ part_of child → before ≡ child.before → after ≡ child.after
+            → spec.spans_by self.old (child ∷ children) ≡ result ∷ spec.spans_by self.new children }
+        ensures at { self.new.at ≤ self.old.at + 2 ^ 35 }
+        ensures spacing { self.new.spacing ≡ self.old.spacing }
+    {
+        let length = self.plan.next(part);
+        let span = span_at(self.at, before, after, length);
         self.at += length + self.spacing;
         span
     }
 }
 
-/// Where a child stands that begins at a place and has this length, both with its margins.
-fn span_at(at: u64, child: &ChildAxis, outer_length: u64) -> Span
+/// Where a child with these margins stands that begins at a place and has this length, both with its margins.
+fn span_at(at: u64, before: u64, after: u64, outer_length: u64) -> Span
     requires at { at < 2 ^ 60 }
-    requires child { IsChildAxis child.now }
-    ensures { result ≡ spec.span_at at child.now outer_length }
+    requires before { before ≤ 100000 }
+    requires after { after ≤ 100000 }
+    ensures { (child : ChildAxis) → before ≡ child.before → after ≡ child.after
+        → result ≡ spec.span_at at child outer_length }
 {
     Span {
-        start: pixels(at + child.before),
-        length: outer_length.saturating_sub(child.before + child.after),
+        start: pixels(at + before),
+        length: outer_length.saturating_sub(before + after),
     }
 }
 
 /// Where a child stands beside the row, in a pane of this length.
-#[tactic(auto, unfolding(crate::specs::Rows::beside_span))]
-pub(crate) fn beside_span(pane: &PaneAxis, length_beside: u64, child: &ChildAxis) -> Span
+pub fn beside_span(pane: &PaneAxis, length_beside: u64, child: &ChildAxis) -> Span
     requires pane { IsPaneAxis pane.now }
     requires long { length_beside ≤ 100000 }
     requires child { IsChildAxis child.now }
     ensures { result ≡ spec.beside_span pane.now length_beside child.now }
 {
-    let space = content(pane, length_beside);
-    let room = space.saturating_sub(child.before + child.after);
-    in_area(
-        pane.alignment,
-        pane.before,
-        space,
-        child,
-        filled_length(pane.fill, child.extent, room),
-    )
+    beside_of(pane, length_beside, child.extent, child.before, child.after)
+}
+
+/// The same of a child of which just the lengths and the margins are told.
+#[tactic(auto, unfolding(crate::specs::Rows::beside_span))]
+pub fn beside_of(
+    pane: &PaneAxis,
+    length_beside: u64,
+    extent: Extent,
+    before: u64,
+    after: u64,
+) -> Span
+    requires pane { IsPaneAxis pane.now }
+    requires long { length_beside ≤ 100000 }
+    requires before { before ≤ 100000 }
+    requires after { after ≤ 100000 }
+    ensures { (child : ChildAxis) → extent ≡ child.extent → before ≡ child.before → after ≡ child.after
+        → result ≡ spec.beside_span pane.now length_beside child }
+{
+    let free = content(pane, length_beside).saturating_sub(before + after);
+    let length = filled_length(pane.fill, extent, free);
+    Span {
+        start: pixels(pane.before + before + aligned(pane.alignment, length, free)),
+        length,
+    }
 }
 
 fn rect_along(axis: Axis, along: Span, beside: Span) -> Rect

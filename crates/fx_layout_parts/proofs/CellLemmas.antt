@@ -1,7 +1,6 @@
 -- What a pane sees of a child is a cell of a grid: its row, its column and its spans lie in their ranges.
-use Rattle.std.proofs.Common.{◌≡◌, ℕ, ℤ, pos, negsuc, ◌≤◌, All, List, [], ◌∷◌, Option, None, Some, length, map, max, min, arith}
+use Rattle.std.proofs.Common.{ℕ, ℤ, pos, negsuc, ◌≤◌, All, List, [], ◌∷◌, Option, None, Some, length, map, arith}
 use Rattle.std.proofs.lemmas.List.Elements.{All-cons, All-map, All-nil}
-use Rattle.fx_base.specs.declared.facts.ChildSize.{ChildSize}
 use Rattle.fx_base.specs.declared.facts.PaneFacts.{PaneFacts}
 use Rattle.fx_base.specs.declared.values.Value.{Value}
 use Rattle.fx_base.specs.declared.values.Value.TheVariants as value

@@ -1,3 +1,4 @@
 pub mod CellLemmas
+pub mod InsetLemmas
 pub mod LeafLemmas
 pub mod RowSides

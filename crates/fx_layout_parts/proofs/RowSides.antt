@@ -1,5 +1,5 @@
 -- What a pane that puts its children in a row does along one axis, as half of its rule.
-use Rattle.std.proofs.Common.{◌≡◌, ◌≤◌, ℕ, ℤ, pos, negsuc, All, Bool, true, false, true≢false, List, [], ◌∷◌, Option, None, Some, is_some, unwrap_or, length, map, refl, sym, subst, ap, ◌∙◌, arith}
+use Rattle.std.proofs.Common.{◌≡◌, ◌≤◌, ℕ, ℤ, pos, negsuc, All, true, false, true≢false, List, [], ◌∷◌, Option, None, Some, is_some, unwrap_or, length, map, refl, sym, subst, ap, ◌∙◌, arith}
 use Rattle.std.specs.Simd.Lanes.{zip2}
 use Rattle.std.proofs.lemmas.List.{length-map}
 use Rattle.std.proofs.lemmas.List.Elements.{All-map}
@@ -76,7 +76,7 @@ pub placed_down : (xs ys : PaneAxis → List ChildAxis → ℕ → List Span) �
     → map down_span (placed xs ys p cs w h) ≡ map clamped (ys (pane_axis Down p) (along Down cs) h)
 placed_down xs ys one_across one_down p cs w h = second_of _ _ (one_each xs ys one_across one_down p cs w h)
 
-length_most : (n : ℤ) → length_of n ≤ longest
+pub length_most : (n : ℤ) → length_of n ≤ longest
 length_most (pos n) = grind arith
 length_most (negsuc n) = omega arith
 

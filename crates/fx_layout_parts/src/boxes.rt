@@ -1,14 +1,14 @@
 //! A node's box: the rule of its class, and the facts that it is asked with.
 ghost use Rattle.std.specs.Prelude.{◌≡◌, ◌≤◌, IfOk};
 ghost use Rattle.fx_kinds.specs.declared.facts.BoxFacts.{BoxFacts as Facts};
-ghost use Rattle.fx_insets.specs.Insets.{inset_on};
+ghost use Rattle.fx_insets.specs.Insets.{inset_on, on};
 ghost use Rattle.fx_panes_parts.specs.Axes.{IsPaneAxis, pane_axis};
 ghost use Rattle.fx_panes_parts.specs.Lengths.{length_of, pixels};
 ghost use Rattle.fx_layout_parts.specs.Boxes.{box_of, own_sizes, pane_facts};
 
 use crate::rules::{NodeBox, rule_of};
 use fx_base::{List, PaneFacts, Sizes, Track};
-use fx_insets::{Side, inset_on, insets_of};
+use fx_insets::{Side, inset_on, insets_of, on};
 use fx_kinds::BoxFacts;
 use fx_look::Look;
 use fx_panes_parts::{Axis, OwnLengths, PaneAxis, length_of, pixels};
@@ -96,12 +96,23 @@ fn look_down(look: &Look) -> PaneAxis
     }
 }
 
-/// The inset on a side as panes take it.
+/// The inset on a side as panes take it. Where there is no border it is the padding.
 fn inset(side: Side, look: &Look) -> u64
     ensures value { result ≡ length_of (pixels (inset_on side look.now)) }
     ensures most { result ≤ 100000 }
 {
-    length_of(pixels(inset_on(side, look)))
+    if look.border_color.as_slice().is_empty() {
+        padding(side, look)
+    } else {
+        length_of(pixels(inset_on(side, look)))
+    }
+}
+
+fn padding(side: Side, look: &Look) -> u64
+    ensures value { result ≡ length_of (on side look.now.padding) }
+    ensures most { result ≤ 100000 }
+{
+    length_of(on(side, look.padding))
 }
 
 fn own_sizes(look: &Look) -> Sizes

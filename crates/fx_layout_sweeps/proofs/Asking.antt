@@ -7,10 +7,7 @@ use Rattle.std.proofs.lemmas.List.Sums.{count_by-le-length, length-filter}
 use Rattle.std.specs.List.{range_with_len}
 use Rattle.fx_kinds.specs.declared.facts.BoxFacts.{BoxFacts}
 use Rattle.fx_look.specs.declared.looks.Look.{Look}
-use Rattle.fx_panes_parts.specs.declared.axes.Axis.{Axis}
-use Rattle.fx_panes_parts.specs.declared.axes.ChildAxis.{ChildAxis}
 use Rattle.fx_panes_parts.specs.declared.axes.Extent.{Extent}
-use Rattle.fx_panes_parts.specs.Axes.{along, child_axis}
 use Rattle.fx_layout_parts.specs.declared.rules.NodeBox.{NodeBox}
 use Rattle.fx_layout_parts.specs.Rules.{CanBeAsked}
 use Rattle.fx_base.specs.declared.facts.ChildSize.{ChildSize}
@@ -19,40 +16,37 @@ use Rattle.fx_layout_sweeps.specs.Nodes.{AreNodes, box_at, child_at, children_li
 use Rattle.fx_layout_sweeps.proofs.Below.{IsChild, children_distinct, children_known, lists_at, same_parent}
 use Rattle.fx_layout_sweeps.proofs.Spreads.{AreKnown}
 
-pub can_be_asked : (nodes : List BoxFacts) (looks : List Look) (p : ℕ) (widths heights : List Extent) → AreNodes nodes
-    → p < length nodes
-    → CanBeAsked (box_at nodes looks p)
-    (seen (box_at nodes looks p).rule nodes widths heights (places_at (children_lists (parents nodes)) p))
-can_be_asked nodes looks p widths heights are within =
+children_listed : (nodes : List BoxFacts) (p : ℕ) → AreNodes nodes → p < length nodes
+    → length (places_at (children_lists (parents nodes)) p) ≤ 4096
+children_listed nodes p are within =
     let ups = parents nodes in
-    let node = box_at nodes looks p in
     let places = places_at (children_lists ups) p in
     let test = λ (j : ℕ). is_place p (parent_at ups j) in
     let many : length ups ≡ length nodes = length-map nodes _ in
     let some : places ≡ children_of ups p = lists_at ups p (subst (λ n. p < n) (sym many) within) in
     let counted = length-filter test (range_with_len 0 (length ups)) in
     let most = count_by-le-length test (range_with_len 0 (length ups)) in
-    let few : length places ≤ 4096 =
-    omega (arith, ap (λ (l : List ℕ). length l) some, counted, most, length-range_with_len 0 (length ups), many, are.few) in
+    omega (arith, ap (λ (l : List ℕ). length l) some, counted, most, length-range_with_len 0 (length ups), many, are.few)
+
+-- no node has too many children
+pub children_few : (nodes : List BoxFacts) (children : List (List ℕ)) (p : ℕ) → AreNodes nodes
+    → children ≡ children_lists (parents nodes) → p < length nodes → length (places_at children p) ≤ 4096
+children_few nodes children p are same within = rw same (children_listed nodes p are within)
+
+pub can_be_asked : (nodes : List BoxFacts) (looks : List Look) (p : ℕ) (widths heights : List Extent) → AreNodes nodes
+    → p < length nodes
+    → CanBeAsked (box_at nodes looks p)
+    (seen (box_at nodes looks p).rule nodes widths heights (places_at (children_lists (parents nodes)) p))
+can_be_asked nodes looks p widths heights are within =
+    let node = box_at nodes looks p in
+    let places = places_at (children_lists (parents nodes)) p in
+    let few : length places ≤ 4096 = children_listed nodes p are within in
     record {
       few = omega (arith, few, length-map places (child_at node.rule nodes widths heights));
       grid = cells_fit node.rule node.facts (node_at nodes) (extent_at widths) (extent_at heights) places
           (All-get_or (λ (n : BoxFacts). length n.columns ≤ 256) nodes p no_node within are.columns)
           (All-get_or (λ (n : BoxFacts). length n.rows ≤ 256) nodes p no_node within are.rows);
     }
-
--- nor has a row too many children along one axis
-pub axes_few : (nodes : List BoxFacts) (looks : List Look) (children : List (List ℕ)) (p : ℕ) (widths heights : List Extent)
-    (axis : Axis) (axes : List ChildAxis) → AreNodes nodes → children ≡ children_lists (parents nodes) → p < length nodes
-    → axes ≡ along axis (seen (box_at nodes looks p).rule nodes widths heights (places_at children p))
-    → length axes ≤ 4096
-axes_few nodes looks children p widths heights axis axes are same within is =
-    let all = seen (box_at nodes looks p).rule nodes widths heights (places_at children p) in
-    let asked = can_be_asked nodes looks p widths heights are within in
-    let few : length all ≤ 4096 = rw same asked.few in
-    let count : length axes ≡ length all =
-    ap (λ (l : List ChildAxis). length l) is ∙ length-map all (child_axis axis) in
-    omega (arith, few, count)
 
 pub lists_long : (nodes : List BoxFacts) (children : List (List ℕ)) → children ≡ children_lists (parents nodes)
     → length children ≡ length nodes

@@ -2,6 +2,7 @@ pub mod Asking
 pub mod Below
 pub mod Children
 pub mod Marking
+pub mod PlainChildren
 pub mod Reading
 pub mod Respreads
 pub mod RowHalves

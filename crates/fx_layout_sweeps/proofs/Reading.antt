@@ -1,17 +1,20 @@
 -- What is read at a place is there at any default.
-use Rattle.std.proofs.Common.{subst, sym, ap, ◌∙◌, ◌≡◌, ℕ, ◌<◌, List, length, slice_index_or}
+use Rattle.std.proofs.Common.{subst, sym, ap, ◌∙◌, ◌≡◌, ℕ, ◌<◌, ◌==◌, List, [], ◌∷◌, length, slice_index_or, arith}
 use Rattle.std.proofs.lemmas.List.{get_or_default}
+use Rattle.std.proofs.lemmas.List.Elements.{All-get_or}
+use Rattle.fx_base.specs.declared.facts.ChildSize.{ChildSize}
 use Rattle.fx_kinds.specs.declared.facts.BoxFacts.{BoxFacts}
 use Rattle.fx_look.specs.declared.looks.Look.{Look}
 use Rattle.fx_look.specs.Looks.{initial_look}
 use Rattle.fx_panes_parts.specs.declared.axes.Axis.{Axis}
 use Rattle.fx_panes_parts.specs.declared.axes.Extent.{Extent}
-use Rattle.fx_panes_parts.specs.Axes.{child_axis}
+use Rattle.fx_panes_parts.specs.Axes.{IsChildAxis, along, child_axis}
 use Rattle.fx_layout_parts.specs.declared.rules.NodeBox.{NodeBox}
 use Rattle.fx_layout_parts.specs.declared.rules.Rule.{Rule}
 use Rattle.fx_layout_parts.specs.Boxes.{box_of}
 use Rattle.fx_layout_parts.specs.Rules.{rule_of}
 use Rattle.fx_layout_parts.specs.Children.{child_of}
+use Rattle.fx_layout_parts.proofs.RowSides.{axes_held}
 use Rattle.fx_layout_sweeps.specs.Nodes.{box_at, child_at, extent_at, look_at, no_node, node_at}
 
 pub box_read : (nodes : List BoxFacts) (looks : List Look) (p : ℕ) (node : BoxFacts) (look : Look)
@@ -55,3 +58,12 @@ pub axis_read : (axis : Axis) (pane : Rule) (nodes : List BoxFacts) (widths heig
     ≡ child_axis axis (child_at pane nodes widths heights p)
 axis_read axis pane nodes widths heights p node within =
     ap (child_axis axis) (child_read pane nodes widths heights p node within)
+
+pub axis_held : (axis : Axis) (child : ChildSize) → IsChildAxis (child_axis axis child)
+axis_held axis child = All-get_or IsChildAxis (along axis (child ∷ [])) 0 (child_axis axis child) (omega arith)
+    (axes_held axis (child ∷ []))
+
+pub said_read : (nodes : List BoxFacts) (p : ℕ) (node : BoxFacts) → p < length nodes
+    → (length (slice_index_or nodes p node).constraints == 0) ≡ (length (node_at nodes p).constraints == 0)
+said_read nodes p node within =
+    ap (λ (n : BoxFacts). length n.constraints == 0) (get_or_default nodes p node no_node within)

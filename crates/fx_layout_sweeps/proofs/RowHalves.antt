@@ -6,7 +6,6 @@ use Rattle.fx_boxes.specs.declared.sides.RowSide.{RowSide}
 use Rattle.fx_boxes.specs.Rows.{beside_spans, clamped, hbox_sizes, row_spans, side_extent, side_spans, vbox_sizes}
 use Rattle.fx_boxes.proofs.RowLemmas.{one_each_beside, one_each_row}
 use Rattle.fx_panes_parts.specs.declared.axes.Axis.{Axis}
-use Rattle.fx_panes_parts.specs.declared.axes.Axis.TheVariants.{Across, Down}
 use Rattle.fx_panes_parts.specs.declared.axes.ChildAxis.{ChildAxis}
 use Rattle.fx_panes_parts.specs.declared.axes.Extent.{Extent}
 use Rattle.fx_panes_parts.specs.declared.axes.PaneAxis.{PaneAxis}

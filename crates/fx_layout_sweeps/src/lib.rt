@@ -8,6 +8,7 @@ mod marks;
 mod measuring;
 mod moving;
 mod nodes;
+mod parts;
 mod places;
 mod placing;
 mod rows;

@@ -128,28 +128,27 @@ fn pane_widths<L: Ledgers>(
     ensures work { OnOk result (work.new ≡ record work.old { laid = work.old.laid + 1 }) }
 {
     match row_side_at(sweep.nodes, place, Axis::Across) {
-        Some(side) => row_widths(alloc, sweep, side, place, widths, work),
+        Some(side) => Ok(row_widths(sweep, side, place, widths, work)),
         None => other_widths(alloc, sweep, place, widths, work),
     }
 }
 
 fn row_widths<L: Ledgers>(
-    alloc: Global,
     sweep: Measuring<'_>,
     side: RowSide,
     place: usize,
     widths: &[Extent],
     work: &mut Work<L>,
-) -> Result<Extent, AllocError>
+) -> Extent
     requires looks { length sweep.looks.now ≡ length sweep.nodes.now }
     requires nodes { AreNodes sweep.nodes.now }
     requires children { sweep.children.now ≡ children_lists (parents sweep.nodes.now) }
     requires place { place < length sweep.nodes.now }
     requires side { Some side ≡ row_side (rule_of (node_at sweep.nodes.now place).class) Axis.Across }
-    ensures lengths { IfOk result (IsWide (box_at sweep.entry.nodes.now sweep.entry.looks.now place)
+    ensures lengths { IsWide (box_at sweep.entry.nodes.now sweep.entry.looks.now place)
         (seen (box_at sweep.entry.nodes.now sweep.entry.looks.now place).rule
-        sweep.entry.nodes.now widths.now [] (places_at sweep.entry.children.now place))) }
-    ensures work { OnOk result (work.new ≡ record work.old { laid = work.old.laid + 1 }) }
+        sweep.entry.nodes.now widths.now [] (places_at sweep.entry.children.now place)) result }
+    ensures work { work.new ≡ record work.old { laid = work.old.laid + 1 } }
 {
     let scene = Placing {
         axis: Axis::Across,
@@ -160,7 +159,7 @@ fn row_widths<L: Ledgers>(
         heights: &[],
     };
     work.laid.tick();
-    row_lengths(alloc, scene, side, place)
+    row_lengths(scene, side, place)
 }
 
 /// The widths of a node by the whole rule of its pane.
@@ -233,29 +232,28 @@ fn pane_heights<L: Ledgers>(
     ensures work { OnOk result (work.new ≡ record work.old { laid = work.old.laid + 1 }) }
 {
     match row_side_at(sweep.nodes, place, Axis::Down) {
-        Some(side) => row_heights(alloc, sweep, side, place, heights, work),
+        Some(side) => Ok(row_heights(sweep, side, place, heights, work)),
         None => other_heights(alloc, sweep, place, heights, work),
     }
 }
 
 fn row_heights<L: Ledgers>(
-    alloc: Global,
     sweep: Measuring<'_>,
     side: RowSide,
     place: usize,
     heights: &[Extent],
     work: &mut Work<L>,
-) -> Result<Extent, AllocError>
+) -> Extent
     requires looks { length sweep.looks.now ≡ length sweep.nodes.now }
     requires nodes { AreNodes sweep.nodes.now }
     requires children { sweep.children.now ≡ children_lists (parents sweep.nodes.now) }
     requires place { place < length sweep.nodes.now }
     requires side { Some side ≡ row_side (rule_of (node_at sweep.nodes.now place).class) Axis.Down }
-    ensures lengths { IfOk result (IsHigh (box_at sweep.entry.nodes.now sweep.entry.looks.now place)
+    ensures lengths { IsHigh (box_at sweep.entry.nodes.now sweep.entry.looks.now place)
         (seen (box_at sweep.entry.nodes.now sweep.entry.looks.now place).rule sweep.entry.nodes.now
         sweep.entry.widths.now heights.now (places_at sweep.entry.children.now place))
-        (held_length (span_at sweep.entry.spans.now place).length)) }
-    ensures work { OnOk result (work.new ≡ record work.old { laid = work.old.laid + 1 }) }
+        (held_length (span_at sweep.entry.spans.now place).length) result }
+    ensures work { work.new ≡ record work.old { laid = work.old.laid + 1 } }
 {
     let scene = Placing {
         axis: Axis::Down,
@@ -266,7 +264,7 @@ fn row_heights<L: Ledgers>(
         heights,
     };
     work.laid.tick();
-    row_lengths(alloc, scene, side, place)
+    row_lengths(scene, side, place)
 }
 
 /// The heights of a node in its width, by the whole rule of its pane.

@@ -1,7 +1,7 @@
 //! Nodes as the sweeps look at them.
 ghost use Rattle.std.specs.Prelude.{◌≡◌, ◌≢◌, ◌<◌, ℕ, All, AllPairs, IfOk, IfSome, List, length, map};
 ghost use Rattle.fx_kinds.specs.declared.facts.BoxFacts.{BoxFacts as Facts};
-ghost use Rattle.fx_panes_parts.specs.Axes.{IsPaneAxis, along, child_axis, pane_axis};
+ghost use Rattle.fx_panes_parts.specs.Axes.{IsChildAxis, IsPaneAxis, child_axis, pane_axis};
 ghost use Rattle.fx_layout_parts.specs.Boxes.{pane_facts};
 ghost use Rattle.fx_base.specs.declared.facts.ChildSize.{ChildSize as Child};
 ghost use Rattle.fx_layout_parts.specs.Rules.{IsHigh, IsWide, is_pane, row_side, rule_of};
@@ -147,29 +147,9 @@ fn child_at(
     )
 }
 
-/// The same children along one axis alone.
-pub fn seen_along(
-    alloc: Global,
-    axis: Axis,
-    pane: Rule,
-    nodes: &[BoxFacts],
-    widths: &[Extent],
-    heights: &[Extent],
-    places: &[usize],
-) -> Result<Vec<ChildAxis>, AllocError>
-    requires { All (λ j. j < length nodes.now) places.now }
-    ensures { IfOk result (λ children. children.items
-        ≡ along axis (seen pane nodes.now widths.now heights.now places.now)) }
-{
-    let mut children = Vec::with_capacity(alloc, places.len())?;
-    for place in places {
-        children.push(axis_at(axis, pane, nodes, widths, heights, *place))?;
-    }
-    Ok(children)
-}
-
+/// The child at this place, as a pane of this rule sees it along an axis.
 #[tactic(auto, using(crate::proofs::Reading::axis_read))]
-fn axis_at(
+pub fn axis_at(
     axis: Axis,
     pane: Rule,
     nodes: &[BoxFacts],
@@ -178,7 +158,8 @@ fn axis_at(
     place: usize,
 ) -> ChildAxis
     requires { place < length nodes.now }
-    ensures { result ≡ child_axis axis (child_at pane nodes.now widths.now heights.now place) }
+    ensures value { result ≡ child_axis axis (child_at pane nodes.now widths.now heights.now place) }
+    ensures bounds { IsChildAxis result }
 {
     child_along(
         axis,

@@ -1,9 +1,8 @@
-use Rattle.std.proofs.Common.{◌≡◌, ◌∙◌, ap, length}
-use Rattle.fx_panes_parts.specs.Axes.{rect_of}
+use Rattle.std.proofs.Common.{◌∙◌, ap, length}
 use Rattle.fx_panes_parts.proofs.PaneLemmas.{length-placed}
 use Rattle.fx_boxes.specs.Rows.{beside_spans, row_spans}
 use Rattle.fx_boxes.proofs.Outcomes.{if_ok}
-use Rattle.fx_boxes.proofs.RowLemmas.{one_each_beside, one_each_row, zip2-flip}
+use Rattle.fx_boxes.proofs.RowLemmas.{one_each_beside, one_each_row}
 use Rattle.fx_boxes.proofs.hbox.rects.Goals as goal
 
 pub returns-clause-rects : goal.returns-clause-rects

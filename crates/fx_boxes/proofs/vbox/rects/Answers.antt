@@ -1,4 +1,4 @@
-use Rattle.std.proofs.Common.{◌≡◌, ◌∙◌, ap, length}
+use Rattle.std.proofs.Common.{◌∙◌, ap, length}
 use Rattle.fx_panes_parts.specs.Axes.{rect_of}
 use Rattle.fx_panes_parts.proofs.PaneLemmas.{length-placed}
 use Rattle.fx_boxes.specs.Rows.{beside_spans, row_spans}

@@ -1,4 +1,4 @@
-use Rattle.std.proofs.Common.{◌≡◌, ℕ, sym, subst}
+use Rattle.std.proofs.Common.{sym, subst}
 use Rattle.std.proofs.lemmas.Result.{IfOk-weaker}
 use Rattle.fx_boxes.specs.Controls.{control_widths}
 use Rattle.fx_layout_parts.specs.declared.rules.Rule.{Rule}

@@ -14,7 +14,7 @@ mod rooms;
 mod styling;
 mod values;
 
-pub use copying::write_copy;
+pub use copying::{write_copy, write_paints};
 pub use laws::rows_are_named;
 pub use node_styles::NodeStyle;
 pub use recoding::{are_recoded, write_bound};

@@ -25,7 +25,7 @@ use fx_css_types::{Candidate, SheetAt, sheets_within_limits_are_short};
 use fx_kinds::{StyleFacts, initial_alignment};
 use fx_look::Look;
 use fx_lookup::NamedPaint;
-use fx_node_style::{Ground, NodeStyle, restyle, write_copy};
+use fx_node_style::{Ground, NodeStyle, restyle, write_copy, write_paints};
 use fx_select::RuleIndex;
 use std::alloc::{AllocError, Global};
 
@@ -175,7 +175,7 @@ pub(crate) fn copy_style(
     match (looks.get(place), rest.get(place)) {
         (Some(look), Some(rest)) => {
             write_copy(alloc, &mut draft.look, look)?;
-            draft.paints = rest.paints.copy(alloc)?;
+            write_paints(alloc, &mut draft.paints, &rest.paints)?;
             Ok(true)
         }
         _ => Ok(false),

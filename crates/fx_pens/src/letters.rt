@@ -61,8 +61,7 @@ fn lay_far<P: Ledger>(
 }
 
 /// Paints this row of the glyph of a character whose first cell begins at this column.
-#[inline(never)]
-pub(crate) fn lay_character<P: Ledger>(
+fn lay_character<P: Ledger>(
     row: &mut [u32],
     pen: &Pen,
     ink: Option<u32>,

@@ -5,6 +5,7 @@
 mod characters;
 mod letters;
 mod near;
+mod parts;
 mod pixels;
 mod runs;
 mod shapes;

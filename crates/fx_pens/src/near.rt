@@ -4,7 +4,7 @@ ghost use Rattle.fx_cells.specs.Columns.{cell_width};
 ghost use Rattle.fx_pens.specs.Dots.{IsInk, IsLaid, IsPen, char_dots, line_dots};
 
 use crate::characters::{bits_of, is_plain, width_of};
-use crate::letters::lay_character;
+use crate::parts::lay_cut;
 use crate::pixels::lay_three;
 use crate::runs::lay_runs;
 use crate::spans::Pen;
@@ -73,7 +73,6 @@ fn lay_fine<P: Ledger>(
 }
 
 /// The same where a bit may be many columns wide.
-#[inline(never)]
 fn lay_wide<P: Ledger>(
     row: &mut [u32],
     pen: &Pen,
@@ -142,7 +141,7 @@ fn lay_fine_glyph<P: Ledger>(
             painted,
         );
     } else {
-        lay_character(row, pen, Some(color), line, i128::from(start), c, painted);
+        lay_cut(row, pen, Some(color), line, start, c, painted);
     }
 }
 
@@ -176,7 +175,7 @@ fn lay_wide_glyph<P: Ledger>(
             painted,
         );
     } else {
-        lay_character(row, pen, ink, line, i128::from(start), c, painted);
+        lay_cut(row, pen, ink, line, start, c, painted);
     }
 }
 

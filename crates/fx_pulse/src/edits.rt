@@ -11,12 +11,13 @@ ghost use Rattle.fx_pulse.specs.Editing.{AreLast, IsEditedUpTo};
 ghost use Rattle.fx_pulse_touched.specs.Marks.{told};
 ghost use Rattle.fx_shapes.specs.Rects.{IsNear};
 
-use crate::entries::{Laid, Notes, entry_of};
+use crate::entries::{Laid, Notes, Room, entry_of};
 use crate::flags::flag_at;
 use fx_base::{List, Rect};
 use fx_damage::Edit;
 use fx_picture::Entry;
 use std::alloc::{AllocError, Global};
+use std::mem::replace;
 
 /// The entries of the last picture, and marks of the nodes that may be others than they were in it.
 #[derive(Clone, Copy)]
@@ -25,19 +26,22 @@ pub(crate) struct Last<'a> {
     pub marks: &'a [bool],
 }
 
-/// The edits so far, and how many entries of the last picture were passed.
+/// The edits so far, how many entries of the last picture were passed, and entries that are gone, in whose memory the
+/// next ones are made.
 #[derive(Drop)]
 struct Editing {
     edits: Vec<Edit>,
     count: usize,
+    gone: Vec<Entry>,
 }
 
-/// The edits that make the picture of this scene of the last one.
+/// The edits that make the picture of this scene of the last one, in the memory of entries that are gone.
 pub(crate) fn edits_of(
     alloc: Global,
     laid: Laid<'_>,
     notes: Notes<'_>,
     last: Last<'_>,
+    gone: &mut Vec<Entry>,
 ) -> Result<Vec<Edit>, AllocError>
     requires looks { length laid.looks.now ≡ length laid.boxes.now }
     requires rects { length laid.rects.now ≡ length laid.boxes.now }
@@ -52,11 +56,18 @@ pub(crate) fn edits_of(
     let mut editing = Editing {
         edits: Vec::new(alloc),
         count: 0,
+        gone: replace(gone, Vec::new(alloc)),
     };
     for place in 0..laid.boxes.len() {
         edit_next(alloc, laid, notes, last, place, &mut editing)?;
     }
-    Ok(editing.edits)
+    let Editing {
+        edits,
+        gone: left,
+        ..
+    } = editing;
+    *gone = left;
+    Ok(edits)
 }
 
 /// Passes a node: where it shows, its entry stays, or is made anew if it may be another.
@@ -88,7 +99,8 @@ fn edit_next(
     if stays(laid, notes, last.marks, place, old) {
         return Ok(());
     }
-    let entry = entry_of(alloc, laid, notes, place, copied_path(alloc, old)?)?;
+    let room = room_in(alloc, &mut editing.gone, old)?;
+    let entry = entry_of(alloc, laid, notes, place, room)?;
     editing.edits.push(Edit { place: at, entry })?;
     Ok(())
 }
@@ -126,9 +138,26 @@ fn is_same_rect(one: Rect, other: Rect) -> bool
     one == other
 }
 
-/// The path of an entry.
-fn copied_path(alloc: Global, entry: &Entry) -> Result<List<u32>, AllocError>
+/// The path of an entry, and memory for shapes: those of an entry that is gone, if any is left.
+fn room_in(alloc: Global, gone: &mut Vec<Entry>, old: &Entry) -> Result<Room, AllocError>
+    ensures { IfOk result (λ room. room.path ≡ old.now.path) }
+{
+    let (path, shapes) = match gone.pop() {
+        Some(Entry { path, shapes, .. }) => (path.into_vec(), shapes.into_vec()),
+        None => (Vec::new(alloc), Vec::new(alloc)),
+    };
+    Ok(Room {
+        path: path_in(path, old)?,
+        shapes,
+    })
+}
+
+/// The path of an entry, in the memory of another.
+fn path_in(room: Vec<u32>, entry: &Entry) -> Result<List<u32>, AllocError>
     ensures { IfOk result (λ path. path ≡ entry.now.path) }
 {
-    Ok(List::from_vec(Vec::from_slice(alloc, entry.path.as_slice())?))
+    let mut path = room;
+    path.clear();
+    path.extend_from_slice(entry.path.as_slice())?;
+    Ok(List::from_vec(path))
 }

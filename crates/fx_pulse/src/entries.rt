@@ -15,8 +15,8 @@ use crate::paths::paths_of;
 use fx_base::{List, Rect, Text};
 use fx_kinds::{BoxFacts, is_control};
 use fx_look::Look;
-use fx_picture::{Entry, Picture};
-use fx_shapes::shapes;
+use fx_picture::{Entry, Picture, Shape};
+use fx_shapes::shapes_in;
 use std::alloc::{AllocError, Global};
 use std::mem::replace;
 
@@ -113,30 +113,42 @@ fn add_shown(
     if !flag_at(notes.shown, place) {
         return Ok(());
     }
-    let entry = entry_of(alloc, laid, notes, place, path)?;
+    let room = Room {
+        path,
+        shapes: Vec::new(alloc),
+    };
+    let entry = entry_of(alloc, laid, notes, place, room)?;
     entries.push(entry)?;
     Ok(())
 }
 
-/// The entry of a node.
+/// The path of a node, and memory for its shapes. What stands in that doesn't matter.
+#[derive(Drop)]
+pub(crate) struct Room {
+    pub path: List<u32>,
+    pub shapes: Vec<Shape>,
+}
+
+/// The entry of a node of this path, with its shapes in this memory.
 pub(crate) fn entry_of(
     alloc: Global,
     laid: Laid<'_>,
     notes: Notes<'_>,
     place: usize,
-    path: List<u32>,
+    room: Room,
 ) -> Result<Entry, AllocError>
     requires there { place < length laid.boxes.now }
     requires looks { length laid.looks.now ≡ length laid.boxes.now }
     requires rects { length laid.rects.now ≡ length laid.boxes.now }
     requires near { (k : ℕ) → IsNear (rect_at laid.rects.now k) }
-    requires path { path ≡ path_of (parents laid.boxes.now) place }
+    requires path { room.path ≡ path_of (parents laid.boxes.now) place }
     requires disabled { notes.disabled.now ≡ told (is_disabled (drawn laid)) (length laid.boxes.now) }
     ensures { IfOk result (λ entry. IsEntry (drawn laid.entry) place entry) }
 {
     let node = &laid.boxes[place];
     let rect = laid.rects[place];
-    let shapes = shapes(alloc, &laid.looks[place], rect, text_of(node))?;
+    let Room { path, shapes } = room;
+    let shapes = shapes_in(alloc, shapes, &laid.looks[place], rect, text_of(node))?;
     Ok(Entry {
         key: node.key,
         path,

@@ -22,7 +22,7 @@ use crate::entries::{Laid, Notes, picture_of};
 use crate::flags::{disabled_flags, shown_flags};
 use fx_base::{Ledgers, Rect, Work};
 use fx_damage::Edit;
-use fx_picture::Picture;
+use fx_picture::{Entry, Picture};
 use fx_pulse_kept::{Brought, KeptScene};
 use fx_pulse_touched::{Scene, SceneLists};
 use std::alloc::{AllocError, Global};
@@ -41,6 +41,13 @@ pub(crate) struct Before<'a> {
     pub width: u32,
     pub height: u32,
     pub shown: &'a [bool],
+}
+
+/// What was shown last: the frame, if it is of the scene that is kept, and its picture.
+#[derive(Clone, Copy)]
+pub(crate) struct Past<'a> {
+    pub frame: Option<Before<'a>>,
+    pub picture: &'a Picture,
 }
 
 /// What is made of a scene: the size of its window in pixels, the rectangle of each node, whether each shows, and the
@@ -63,19 +70,19 @@ pub(crate) fn made_of<L: Ledgers>(
     scene: SceneLists,
     window: Option<(u32, u32)>,
     kept: &mut KeptScene,
-    before: Option<Before<'_>>,
-    picture: &Picture,
+    past: Past<'_>,
+    gone: &mut Vec<Entry>,
     work: &mut Work<L>,
 ) -> Result<Made, AllocError>
     requires scene { IsScene (scene_of scene) }
-    requires before { IfSome before (λ b. (last : SceneValue) → kept.old.last ≡ Some last
-        → IsShownScene last picture.now.entries b.shown.now) }
+    requires before { IfSome past.frame (λ b. (last : SceneValue) → kept.old.last ≡ Some last
+        → IsShownScene last past.picture.now.entries b.shown.now) }
     ensures frame { IfOk result (λ made. IsFrame (scene_of scene) window made.width made.height made.rects.items
-        (entries_after made.next picture.now.entries)) }
-    ensures over { IfOk result (λ made. IsOver picture.now.entries made.next) }
-    ensures same_size { IfOk result (λ made. IsOfSize before.entry made.width made.height made.next) }
-    ensures shown { IfOk result (λ made. IsShownScene (scene_of scene) (entries_after made.next picture.now.entries)
-        made.shown.items) }
+        (entries_after made.next past.entry.picture.now.entries)) }
+    ensures over { IfOk result (λ made. IsOver past.entry.picture.now.entries made.next) }
+    ensures same_size { IfOk result (λ made. IsOfSize past.entry.frame made.width made.height made.next) }
+    ensures shown { IfOk result (λ made. IsShownScene (scene_of scene)
+        (entries_after made.next past.entry.picture.now.entries) made.shown.items) }
     ensures size { IfOk result (λ made. root_size kept.new.layout ≡ (made.width, made.height)) }
     ensures last { OnOk result (kept.new.last ≡ Some (scene_of scene)) }
     ensures placed { OnOk result (IsLayout scene.boxes (looks_of (scene_of scene)) window kept.new.layout) }
@@ -90,7 +97,7 @@ pub(crate) fn made_of<L: Ledgers>(
     ensures laid { OnOk result (work.new.laid ≤ work.old.laid + 7 * length scene.boxes) }
 {
     let brought = kept.update(alloc, scene.scene(), window, work)?;
-    let made = made_by(alloc, scene.scene(), brought, kept, before, picture)?;
+    let made = made_by(alloc, scene.scene(), brought, kept, past, gone)?;
     kept.keep(scene);
     Ok(made)
 }
@@ -101,21 +108,21 @@ fn made_by(
     scene: Scene<'_>,
     brought: Brought,
     kept: &KeptScene,
-    before: Option<Before<'_>>,
-    picture: &Picture,
+    past: Past<'_>,
+    gone: &mut Vec<Entry>,
 ) -> Result<Made, AllocError>
     requires looks { kept.now.styles.looks ≡ looks_of (seen scene) }
     requires kept { AreOf (seen scene) kept.now.styles kept.now.layout }
     requires size { brought.size ≡ root_size kept.now.layout }
-    requires since { IsSince before picture.now.entries (seen scene) brought.marks.items }
+    requires since { IsSince past.frame past.picture.now.entries (seen scene) brought.marks.items }
     ensures frame { (window : Maybe (ℕ × ℕ))
         → IsLayout scene.entry.boxes.now (looks_of (seen scene.entry)) window kept.now.layout
         → IfOk result (λ made. IsFrame (seen scene.entry) window made.width made.height made.rects.items
-        (entries_after made.next picture.now.entries)) }
-    ensures over { IfOk result (λ made. IsOver picture.now.entries made.next) }
-    ensures same_size { IfOk result (λ made. IsOfSize before.entry made.width made.height made.next) }
+        (entries_after made.next past.entry.picture.now.entries)) }
+    ensures over { IfOk result (λ made. IsOver past.entry.picture.now.entries made.next) }
+    ensures same_size { IfOk result (λ made. IsOfSize past.entry.frame made.width made.height made.next) }
     ensures shown { IfOk result (λ made. IsShownScene (seen scene.entry)
-        (entries_after made.next picture.now.entries) made.shown.items) }
+        (entries_after made.next past.entry.picture.now.entries) made.shown.items) }
     ensures size { IfOk result (λ made. root_size kept.now.layout ≡ (made.width, made.height)) }
 {
     let (width, height) = brought.size;
@@ -132,11 +139,11 @@ fn made_by(
         disabled: disabled.as_slice(),
     };
     let last = Last {
-        entries: picture.entries.as_slice(),
+        entries: past.picture.entries.as_slice(),
         marks: brought.marks.as_slice(),
     };
-    let edits = can_be_edited(before, width, height, notes.shown, last.marks);
-    let next = next_picture(alloc, laid, notes, last, edits)?;
+    let edits = can_be_edited(past.frame, width, height, notes.shown, last.marks);
+    let next = next_picture(alloc, laid, notes, last, edits, gone)?;
     let rects = Vec::from_slice(alloc, kept.rects())?;
     Ok(Made {
         width,
@@ -183,13 +190,14 @@ fn are_all(marks: &[bool]) -> bool
     marks.iter().all(|mark| *mark)
 }
 
-/// The next picture, by edits of the last one or whole.
+/// The next picture, by edits of the last one in the memory of entries that are gone, or whole.
 fn next_picture(
     alloc: Global,
     laid: Laid<'_>,
     notes: Notes<'_>,
     last: Last<'_>,
     edits: bool,
+    gone: &mut Vec<Entry>,
 ) -> Result<Next, AllocError>
     requires tree { IsTree (parents laid.boxes.now) }
     requires few { length laid.boxes.now ≤ 4096 }
@@ -204,7 +212,7 @@ fn next_picture(
     ensures whole { edits ≡ false → IfOk result IsWhole }
 {
     if edits {
-        return Ok(Next::Edited(edits_of(alloc, laid, notes, last)?));
+        return Ok(Next::Edited(edits_of(alloc, laid, notes, last, gone)?));
     }
     Ok(Next::Whole(picture_of(alloc, laid, notes)?))
 }

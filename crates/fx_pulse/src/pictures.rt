@@ -33,40 +33,42 @@ pub(crate) fn damage_by(
     }
 }
 
-/// Puts the next picture in the place of the last one, which takes no memory.
-pub(crate) fn follow(alloc: Global, picture: &mut Picture, next: Next)
+/// Puts the next picture in the place of the last one, for which no memory is wanted. Entries that are edited are gone:
+/// they are kept for their memory, where there is room for them.
+pub(crate) fn follow(alloc: Global, picture: &mut Picture, next: Next, gone: &mut Vec<Entry>)
     ensures { picture.new.entries ≡ entries_after next picture.old.entries }
 {
     match next {
         Next::Whole(whole) => *picture = whole,
-        Next::Edited(edits) => edit(alloc, picture, edits),
+        Next::Edited(edits) => edit(alloc, picture, edits, gone),
     }
 }
 
-fn edit(alloc: Global, picture: &mut Picture, edits: Vec<Edit>)
+fn edit(alloc: Global, picture: &mut Picture, edits: Vec<Edit>, gone: &mut Vec<Entry>)
     ensures { picture.new.entries ≡ edited edits.items picture.old.entries }
 {
     let last = replace(picture, Picture::new(alloc));
     let mut entries = last.entries.into_vec();
-    put_all(&mut entries, edits);
+    put_all(&mut entries, edits, gone);
     picture.entries = List::from_vec(entries);
 }
 
 /// Makes each edit.
-fn put_all(entries: &mut Vec<Entry>, edits: Vec<Edit>)
+fn put_all(entries: &mut Vec<Entry>, edits: Vec<Edit>, gone: &mut Vec<Entry>)
     ensures { entries.new.items ≡ edited edits.items entries.old.items }
 {
     for edit in edits {
-        put(entries, edit);
+        put(entries, edit, gone);
     }
 }
 
-fn put(entries: &mut Vec<Entry>, edit: Edit)
+fn put(entries: &mut Vec<Entry>, edit: Edit, gone: &mut Vec<Entry>)
     ensures { entries.new.items ≡ slice_set entries.old.items edit.place edit.entry }
 {
     let Edit { place, entry } = edit;
     if place < entries.len() {
-        entries[place] = entry;
+        let old = replace(&mut entries[place], entry);
+        let _kept = gone.push(old);
     }
 }
 

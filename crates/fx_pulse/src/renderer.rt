@@ -20,12 +20,12 @@ ghost use Rattle.fx_pulse.specs.Rendering.{IsDrawn, IsDrawnBefore, IsShown, last
 ghost use Rattle.fx_pulse.specs.Showing.{IsShowing};
 ghost use Rattle.fx_row_text.specs.Rows.{row_text};
 
-use crate::frames::{Before, Made, made_of};
+use crate::frames::{Before, Made, Past, made_of};
 use crate::pictures::{damage_by, follow, whole};
 use fx_base::{Ledgers, Rect, Work};
 use fx_canvas::Canvas;
 use fx_damage::damage;
-use fx_picture::Picture;
+use fx_picture::{Entry, Picture};
 use fx_pulse_kept::KeptScene;
 use fx_pulse_touched::{Scene, SceneLists};
 use std::alloc::{AllocError, Global};
@@ -42,6 +42,8 @@ pub struct Renderer {
     kept: KeptScene,
     /// How the picture was drawn, unless it isn't that of the scene that is kept.
     drawn: Option<Drawing>,
+    /// Entries that are gone: only their memory serves again.
+    gone: Vec<Entry>,
 }
 
 /// The window in which a picture was drawn, and whether each node of its scene shows.
@@ -94,6 +96,7 @@ impl Renderer {
             rects: Vec::new(alloc),
             kept: KeptScene::new(alloc),
             drawn: None,
+            gone: Vec::new(alloc),
         }
     }
 
@@ -142,14 +145,17 @@ impl Renderer {
             return Ok(self.still_frame(alloc));
         }
         let drawn = self.drawn.take();
-        let before = frame_before(&drawn, &self.canvas);
+        let past = Past {
+            frame: frame_before(&drawn, &self.canvas),
+            picture: &self.picture,
+        };
         let made = made_of(
             alloc,
             scene,
             window,
             &mut self.kept,
-            before,
-            &self.picture,
+            past,
+            &mut self.gone,
             work,
         )?;
         if self.has_size(made.width, made.height) {
@@ -315,7 +321,7 @@ impl Renderer {
             next,
         } = made;
         let damage = damage_by(alloc, &self.picture, &next, width, height)?;
-        follow(alloc, &mut self.picture, next);
+        follow(alloc, &mut self.picture, next, &mut self.gone);
         repaint_in(&mut self.canvas, &self.picture, damage.as_slice(), work);
         self.rects = rects;
         self.drawn = Some(Drawing { window, shown });

@@ -11,4 +11,4 @@ mod making;
 
 pub use fx_insets::Side;
 pub use insets::insets_of;
-pub use making::{one_drawing, shapes};
+pub use making::{one_drawing, shapes, shapes_in};

@@ -25,7 +25,23 @@ pub fn shapes(
     requires { IsNear rect }
     ensures { IfOk result (λ shapes. IsDrawing look.now rect (option_copied text.entry) shapes.items) }
 {
-    let mut shapes = Vec::with_capacity(alloc, room_for(look, text))?;
+    let room = Vec::with_capacity(alloc, room_for(look, text))?;
+    shapes_in(alloc, room, look, rect, text)
+}
+
+/// The same, in the memory of other shapes, which are let go of.
+pub fn shapes_in(
+    alloc: Global,
+    room: Vec<Shape>,
+    look: &Look,
+    rect: Rect,
+    text: Option<&Text>,
+) -> Result<Vec<Shape>, AllocError>
+    requires { IsNear rect }
+    ensures { IfOk result (λ shapes. IsDrawing look.now rect (option_copied text.entry) shapes.items) }
+{
+    let mut shapes = room;
+    shapes.clear();
     add_backgrounds(&mut shapes, look, rect)?;
     add_borders(&mut shapes, look, rect)?;
     match text {

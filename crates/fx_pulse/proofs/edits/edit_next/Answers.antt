@@ -67,7 +67,7 @@ entry_of-requires-clause-path c =
     let shown =
     shown_at d c.args.notes.shown.now k true c.requires.there c.requires.shown
     (sym c.flag_at.ensures ∙ c.if-not-flag_at.false) in
-    c.in_ok-copied_path.ensures
+    c.in_ok-room.ensures
     ∙ (ap (λ (e : Entry). e.path) (c.entry_at-old.ensures old)
     ∙ old_path d marks olds k count old
     (old_at d marks olds k es count c.requires.there shown c.requires.last c.requires.before))

@@ -11,7 +11,7 @@ pub returns : goal.returns
 returns c =
     let d = drawn c.args.laid in
     let k = c.args.place in
-    entry_is d k c.index-laid-place.result c.index-laid-place-2.result c.args.path c.from_vec.result
+    entry_is d k c.index-laid-place.result c.index-laid-place-2.result c.args.room.path c.from_vec.result
     c.flag_at.result c.requires.there (omega (arith, c.requires.there, c.requires.looks))
     c.requires.path
     (rw (c.from_vec.ensures) (subst (λ t. IsDrawing

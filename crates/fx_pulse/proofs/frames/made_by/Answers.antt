@@ -27,11 +27,11 @@ next_picture-requires-clause-last c = λ is.
     let scene = seen c.args.scene in
     let size = c.args.brought.size in
     let since = c.requires.since in
-    last_in c.args.before since.last scene size.0 size.1 c.looks.result.now c.rects.result.now
+    last_in c.args.past.frame since.last scene size.0 size.1 c.looks.result.now c.rects.result.now
     c.as_slice.result.now c.as_slice-4.result.now c.as_slice-3.result.now
     (c.looks.ensures ∙ c.requires.looks)
     (c.can_be_edited-edits.ensures (subst IsTrue (sym is) refl))
-    (subst (λ olds. IfSome c.args.before (λ b. (old : Scene) → since.last ≡ Some old
+    (subst (λ olds. IfSome c.args.past.frame (λ b. (old : Scene) → since.last ≡ Some old
     → IsShownScene old olds b.shown.now)) (sym c.as_slice-3.ensures) since.shown)
     (subst (AreOthersMarked since.last scene) (sym c.as_slice-4.ensures.value) since.marked)
     (c.as_slice.ensures.value ∙ c.in_ok-shown.ensures)

@@ -12,7 +12,7 @@ pub returns-clause-frame : goal.returns-clause-frame
 returns-clause-frame g c =
     let made = c.in_ok-made.made in
     subst (λ (s : Scene). IsFrame s c.args.window made.width made.height made.rects.items
-    (entries_after made.next c.args.picture.now.entries)) c.scene-2.ensures
+    (entries_after made.next c.args.past.picture.now.entries)) c.scene-2.ensures
     (c.in_ok-made.ensures.frame c.args.window
     (subst (λ (s : Scene). IsLayout s.boxes (looks_of s) c.args.window c.update.new.self.layout)
     (c.scene.ensures ∙ sym c.scene-2.ensures) c.in_ok-brought.ensures.layout))

@@ -21,8 +21,8 @@ made_of-requires-clause-before g c =
       rects = c.self.inside.rects.items;
       kept = c.self.inside.kept;
     } in
-    was_shown c.take-drawn.result r c.frame_before-before.result
-    (subst (λ o. IsCurrent o r) (sym c.take-drawn.ensures.value) c.self.invariant.1) c.frame_before-before.ensures
+    was_shown c.take-drawn.result r c.frame_before.result
+    (subst (λ o. IsCurrent o r) (sym c.take-drawn.ensures.value) c.self.invariant.1) c.frame_before.ensures
 
 pub show_first-requires-clause-whole : goal.show_first-requires-clause-whole
 show_first-requires-clause-whole g c =
@@ -34,7 +34,7 @@ show_first-requires-clause-whole g c =
       rects = c.self.inside.rects.items;
       kept = c.self.inside.kept;
     })
-    c.frame_before-before.result made.width made.height made.next c.frame_before-before.ensures
+    c.frame_before.result made.width made.height made.next c.frame_before.ensures
     c.in_ok-made.ensures.same_size (sym c.has_size.ensures ∙ c.if-has_size.false)
 
 pub show_next-requires-clause-rises : goal.show_next-requires-clause-rises

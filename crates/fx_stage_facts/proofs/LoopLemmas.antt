@@ -1,18 +1,16 @@
 -- Lists that are made piece by piece.
 use Rattle.std.proofs.Common.{◌≡◌, ◌∙◌, ◌<◌, ◌≤◌, ◌+◌, ◌-◌, ◌&&◌, ℕ, suc, Bool, true, false, cond, List, [], ◌∷◌, ◌++◌, add-one, append_assoc, arith, drop, drop-cons, filter, get_or, length, map, refl, sym, ap}
-use Rattle.std.specs.Prelude.{option_to_list}
 use Rattle.std.specs.List.{range_with_len}
 use Rattle.std.proofs.Math.ListN.{get_or-map}
 use Rattle.std.proofs.lemmas.List.{append-nil, drop_all, length-map, nil_from_length}
 use Rattle.fx_handles.proofs.Given.{range_with_len-suc}
-use Rattle.fx_graph_model.specs.declared.entries.Entry.{Entry}
 use Rattle.fx_graph_model.specs.Unread.{marked}
 use Rattle.fx_kinds.specs.declared.classes.Class.{Class}
 use Rattle.fx_kinds.specs.declared.property_table.Property.{Property}
 use Rattle.fx_kinds.specs.Listing.{listed_property}
 use Rattle.fx_kinds.specs.Properties.{ListedProperty, properties_of}
 use Rattle.fx_stage_facts.specs.Attached.{displayed_from, is_displayed, one_if}
-use Rattle.fx_stage_facts.specs.Styles.{code_of, codes_from}
+use Rattle.fx_stage_facts.specs.Places.{styled_at, styled_from}
 
 -- a piece goes from what is left to what is done
 pub piece_done : {X : Type 0} (done now piece left more whole : List X) → now ≡ done ++ piece → left ≡ piece ++ more
@@ -81,15 +79,9 @@ unread_next unread first ps place row is =
     ap (filter (marked unread)) (displayed_next first ps place row is)
     ∙ left_first (marked unread) (is_displayed row.name) (first + place) (displayed_from (first + (place + 1)) (drop (place + 1) ps))
 
-pub codes_next : (entries : List Entry) (first : ℕ) (ps : List ListedProperty) (place : ℕ) (row : ListedProperty)
-    → drop place ps ≡ row ∷ drop (place + 1) ps
-    → codes_from entries (first + place) (drop place ps)
-    ≡ option_to_list (code_of entries (first + place) row.styled) ++ codes_from entries (first + (place + 1)) (drop (place + 1) ps)
-codes_next entries first ps place row is =
-    ap (codes_from entries (first + place)) is
-    ∙ ap
-    (λ (n : ℕ). option_to_list (code_of entries (first + place) row.styled) ++ codes_from entries n (drop (place + 1) ps))
-    (omega arith)
+pub styled_next : (ps : List ListedProperty) (place : ℕ) (row : ListedProperty) → drop place ps ≡ row ∷ drop (place + 1) ps
+    → styled_from place (drop place ps) ≡ styled_at place row.styled ++ styled_from (place + 1) (drop (place + 1) ps)
+styled_next ps place row is = ap (styled_from place) is
 
 -- places
 

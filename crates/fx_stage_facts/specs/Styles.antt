@@ -1,6 +1,6 @@
 -- What the style of each node in the scene hangs on.
 use Rattle.std.specs.Prelude.{ℕ, ◌+◌, Bool, true, false, List, [], ◌∷◌, ◌++◌, codes, length, Option, Some, None, if◌then◌else◌, option_to_list}
-use Rattle.std.specs.List.{list_any}
+use Rattle.std.specs.List.{flat_map, list_any}
 use Rattle.fx_base.specs.declared.keys.NodeKey.{NodeKey}
 use Rattle.fx_graph_model.specs.declared.entries.Entry.{Entry}
 use Rattle.fx_graph_model.specs.declared.entries.Origin.{Origin}
@@ -16,6 +16,7 @@ use Rattle.fx_stage_types.specs.declared.node_data.NodeData.{NodeData}
 use Rattle.fx_stage_types.specs.Tables.{data_of}
 use Rattle.fx_stage_model.specs.Graphs.{Graph}
 use Rattle.fx_stage_model.specs.World.{World}
+use Rattle.fx_stage_facts.specs.declared.places.Styled.{Styled}
 use Rattle.fx_stage_facts.specs.declared.stands.Stand.{Stand}
 use Rattle.fx_stage_facts.specs.Sheets.{common_sheets, inline_place, places_of, sheets_at}
 use Rattle.fx_stage_facts.specs.Stands.{stands_of}
@@ -71,6 +72,13 @@ abbrev pub codes_from : List Entry → ℕ → List ListedProperty → List Code
 codes_from entries name [] = []
 codes_from entries name (property ∷ rest) =
     option_to_list (code_of entries name property.styled) ++ codes_from entries (name + 1) rest
+
+-- of those that declarations style, where the first property has this number
+abbrev pub styled_code : List Entry → ℕ → Styled → List CodeValue
+styled_code entries first row = option_to_list (code_of entries (first + row.place) (Some row.style.0))
+
+abbrev pub styled_codes : List Entry → ℕ → List Styled → List CodeValue
+styled_codes entries first styled = flat_map (styled_code entries first) styled
 
 -- of a node that has nothing there are no facts
 abbrev pub bare_style : Stand → StyleFacts

@@ -1,5 +1,5 @@
 //! The nodes that stand in the scene, and the properties that a frame reads of them.
-ghost use Rattle.std.specs.Prelude.{◌≡◌, ◌≤◌, ◌++◌, ◌&&◌, IfOk, OnOk, Some, true};
+ghost use Rattle.std.specs.Prelude.{◌≡◌, ◌≤◌, ◌++◌, ◌&&◌, IfOk, OnOk, Some, not, true};
 ghost use Rattle.fx_base.specs.Names.{numbers};
 ghost use Rattle.fx_graph_model.specs.Unread.{marked};
 ghost use Rattle.fx_base.specs.declared.keys.NodeKey.{NodeKey as Key};
@@ -10,7 +10,7 @@ ghost use Rattle.fx_stage_facts.specs.Attached as spec;
 ghost use Rattle.fx_stage_facts.specs.Unread.{unread_in, unread_of};
 
 use fx_base::{Name, NodeKey};
-use fx_kinds::properties;
+use fx_kinds::{Property, properties};
 use fx_stage_graph::Graph;
 use fx_stage_types::NodeData;
 use fx_store::Store;
@@ -40,13 +40,6 @@ pub(crate) fn attached(alloc: Global, tree: &Tree) -> Result<Vec<NodeKey>, Alloc
     }
 }
 
-/// Does a frame read the property of this name?
-fn is_displayed(name: &str) -> bool
-    ensures { result ≡ spec.is_displayed name.now }
-{
-    !(name == "width" || name == "height")
-}
-
 /// Puts the name behind the others, if it is so.
 fn push_if(names: &mut Vec<Name>, so: bool, name: Name) -> Result<(), AllocError>
     ensures { OnOk result (numbers names.new.items ≡ numbers names.old.items ++ spec.one_if so name.0) }
@@ -58,12 +51,12 @@ fn push_if(names: &mut Vec<Name>, so: bool, name: Name) -> Result<(), AllocError
     Ok(())
 }
 
-/// Does a frame read the property of this name, and is it unread?
+/// Is the property of this row unread, and not one that is only published?
 #[inline]
-fn is_left(store: &Store, name: Name, property: &str) -> bool
-    ensures { result ≡ (marked store.now.unread name.0 && spec.is_displayed property.now) }
+fn is_left(store: &Store, name: Name, row: &Property) -> bool
+    ensures { result ≡ (marked store.now.unread name.0 && not row.now.read_only) }
 {
-    store.is_unread(name) && is_displayed(property)
+    store.is_unread(name) && !row.read_only
 }
 
 /// Puts those properties of a node that a frame reads, and that are unread, behind the names.
@@ -72,9 +65,10 @@ fn push_unread(names: &mut Vec<Name>, store: &Store, node: &NodeData) -> Result<
     ensures { OnOk result (numbers names.new.items
         ≡ numbers names.old.items ++ unread_in store.now.unread (Some node.now)) }
 {
+    let first = node.first;
     for (place, row) in properties(node.class).iter().enumerate() {
-        let name = Name(node.first + place as u32);
-        push_if(names, is_left(store, name, row.name), name)?;
+        let name = Name(first + place as u32);
+        push_if(names, is_left(store, name, row), name)?;
     }
     Ok(())
 }

@@ -221,7 +221,7 @@ pub(crate) fn push_node(
             push_bare(alloc, draft, stand)
         }
         Some(node) => {
-            places.turn_to(node.class);
+            places.turn_to(alloc, node.class)?;
             let own = truth_in(stage, places, node, Asked::Disable);
             let stand = stand_of(stage, standing.stands.as_slice(), key, own);
             standing.push(stand, own)?;

@@ -84,7 +84,7 @@ fn facts_at(alloc: Global, stage: &Stage, keys: &[NodeKey], old: Facts) -> Resul
     let mut standing = Standing::over(alloc, disabled, keys.len())?;
     let mut draft = Draft::over(alloc, stage.graph(), sheets, styles, boxes, keys.len())?;
     let common = draft.sheets.len();
-    let mut places = Places::of(Class::Region);
+    let mut places = Places::of(alloc, Class::Region)?;
     for key in keys {
         push_node(
             alloc,

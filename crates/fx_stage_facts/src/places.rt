@@ -1,9 +1,13 @@
 //! Where the properties that a frame asks for by name stand among those of a class.
-ghost use Rattle.std.specs.Prelude.{◌≡◌, true};
+ghost use Rattle.std.specs.Prelude.{◌≡◌, ◌++◌, IfOk, OnOk, true};
+ghost use Rattle.std.specs.Option.{option_map};
 ghost use Rattle.fx_stage_model.specs.Looking.{place_of};
+ghost use Rattle.fx_stage_facts.specs.Places as spec;
 ghost use Rattle.fx_stage_facts.specs.Places.{name_of};
 
-use fx_kinds::{Class, property_named};
+use fx_kinds::{Class, properties, property_named};
+use fx_look::StyleName;
+use std::alloc::{AllocError, Global};
 use std::marker::Model;
 use std::mem::swap;
 
@@ -20,10 +24,19 @@ pub enum Asked {
     Height,
 }
 
-/// The places of these properties in the list of one class. Contracts see the class.
+/// A property that a declaration styles, by its place among those of its class.
+#[derive(Clone, Copy)]
+pub struct Styled {
+    pub place: u32,
+    pub style: StyleName,
+}
+
+/// The places of these properties in the list of one class, and those of it that declarations style. Contracts see the
+/// class.
 #[derive(Drop)]
 struct ClassPlaces {
     class: Class,
+    styled: Vec<Styled>,
     id: Option<usize>,
     disable: Option<usize>,
     text: Option<usize>,
@@ -38,6 +51,7 @@ impl Model for ClassPlaces {
     ghost use Rattle.std.specs.Prelude.{◌≡◌, codes};
     ghost use Rattle.fx_kinds.specs.declared.classes.Class.{Class as ClassName};
     ghost use Rattle.fx_stage_model.specs.Looking.{place_of};
+    ghost use Rattle.fx_stage_facts.specs.Places.{styled_of};
 
     ghost Value = { ClassName };
 
@@ -50,7 +64,8 @@ impl Model for ClassPlaces {
         × (p.layout_y ≡ place_of p.class (codes "layoutY"))
         × (p.focus_traversable ≡ place_of p.class (codes "focusTraversable"))
         × (p.width ≡ place_of p.class (codes "width"))
-        × (p.height ≡ place_of p.class (codes "height")) };
+        × (p.height ≡ place_of p.class (codes "height"))
+        × (p.styled.items ≡ styled_of p.class) };
 }
 
 #[tactic(auto, unfolding(fx_stage_model::specs::Looking::place_of))]
@@ -60,12 +75,41 @@ fn place_named(class: Class, name: &str) -> Option<usize>
     property_named(class, name)
 }
 
+/// Puts a property behind the others, if a declaration styles it.
+fn push_row(
+    styled: &mut Vec<Styled>,
+    place: u32,
+    style: Option<StyleName>,
+) -> Result<(), AllocError>
+    ensures { OnOk result (styled.new.items
+        ≡ styled.old.items ++ spec.styled_at place (option_map (λ style. style.0) style)) }
+{
+    let Some(style) = style else {
+        return Ok(());
+    };
+    styled.push(Styled { place, style })?;
+    Ok(())
+}
+
+/// Those properties of the class that declarations style, in their order.
+fn styled_of(alloc: Global, class: Class) -> Result<Vec<Styled>, AllocError>
+    ensures { IfOk result (λ styled. styled.items ≡ spec.styled_of class) }
+{
+    let mut styled = Vec::new(alloc);
+    for (place, row) in properties(class).iter().enumerate() {
+        push_row(&mut styled, place as u32, row.styled)?;
+    }
+    Ok(styled)
+}
+
 impl ClassPlaces {
-    fn of(class: Class) -> ClassPlaces
-        ensures { result ≡ class }
+    fn of(alloc: Global, class: Class) -> Result<ClassPlaces, AllocError>
+        ensures { IfOk result (λ places. places ≡ class) }
     {
-        ClassPlaces {
+        let styled = styled_of(alloc, class)?;
+        Ok(ClassPlaces {
             class,
+            styled,
             id: place_named(class, "id"),
             disable: place_named(class, "disable"),
             text: place_named(class, "text"),
@@ -74,7 +118,7 @@ impl ClassPlaces {
             focus_traversable: place_named(class, "focusTraversable"),
             width: place_named(class, "width"),
             height: place_named(class, "height"),
-        }
+        })
     }
 
     #[inline]
@@ -119,28 +163,28 @@ impl Model for Places {
 
 impl Places {
     /// The places for the class.
-    pub(crate) fn of(class: Class) -> Places
-        ensures { result ≡ class }
+    pub(crate) fn of(alloc: Global, class: Class) -> Result<Places, AllocError>
+        ensures { IfOk result (λ places. places ≡ class) }
     {
-        Places {
-            last: ClassPlaces::of(class),
-            other: ClassPlaces::of(class),
-        }
+        let last = ClassPlaces::of(alloc, class)?;
+        let other = ClassPlaces::of(alloc, class)?;
+        Ok(Places { last, other })
     }
 
     /// The places for this class from now on. They are looked for only if neither of the last two classes was it.
     #[inline]
-    pub(crate) fn turn_to(&mut self, class: Class)
-        ensures { self.new ≡ class }
+    pub(crate) fn turn_to(&mut self, alloc: Global, class: Class) -> Result<(), AllocError>
+        ensures { OnOk result (self.new ≡ class) }
     {
         if self.last.is_of(class) {
-            return;
+            return Ok(());
         }
         swap(&mut self.last, &mut self.other);
         if self.last.is_of(class) {
-            return;
+            return Ok(());
         }
-        self.last = ClassPlaces::of(class);
+        self.last = ClassPlaces::of(alloc, class)?;
+        Ok(())
     }
 
     /// The place of the property.
@@ -149,5 +193,13 @@ impl Places {
         ensures { result ≡ place_of self.now (name_of asked) }
     {
         self.last.at(asked)
+    }
+
+    /// The properties that declarations style, in their order.
+    #[inline]
+    pub(crate) fn styled(&self) -> &[Styled]
+        ensures { result.now ≡ spec.styled_of self.now }
+    {
+        self.last.styled.as_slice()
     }
 }

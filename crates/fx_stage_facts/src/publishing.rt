@@ -96,6 +96,7 @@ fn push_both(
 
 /// Puts the two properties of a node behind the others.
 fn push_size(
+    alloc: Global,
     pairs: &mut Vec<(Name, Value)>,
     stage: &Stage,
     places: &mut Places,
@@ -108,7 +109,7 @@ fn push_size(
     match stage.graph().node(key) {
         None => Ok(()),
         Some(node) => {
-            places.turn_to(node.class);
+            places.turn_to(alloc, node.class)?;
             push_both(pairs, stage.store(), places, node, width, height)
         }
     }
@@ -123,10 +124,10 @@ fn pairs_of(
     requires low { (key : Key) (node : Data) → data_of stage.now.graph.table key ≡ Some node → node.first ≤ 4000000 }
     ensures { IfOk result (λ pairs. pairs.items ≡ spec.pairs_of stage.now sizes.now) }
 {
-    let mut places = Places::of(Class::Region);
+    let mut places = Places::of(alloc, Class::Region)?;
     let mut pairs = Vec::with_capacity(alloc, sizes.len().saturating_mul(2))?;
     for size in sizes {
-        push_size(&mut pairs, stage, &mut places, size)?;
+        push_size(alloc, &mut pairs, stage, &mut places, size)?;
     }
     Ok(pairs)
 }

@@ -1,5 +1,5 @@
 //! The style sheets of a scene, each with its origin.
-ghost use Rattle.std.specs.Prelude.{◌≡◌, ◌≤◌, ◌++◌, ◌-◌, ◌∷◌, [], IfOk, IsTrue, OnOk, Some, map, option_to_list, slice_get};
+ghost use Rattle.std.specs.Prelude.{◌≡◌, ◌≤◌, ◌++◌, ◌-◌, ◌∷◌, [], ℕ, IfOk, IsTrue, OnOk, Some, map, option_to_list, slice_get};
 ghost use Rattle.std.specs.List.{range_with_len};
 ghost use Rattle.std.specs.Option.{option_map};
 ghost use Rattle.fx_css_types.specs.declared.sheets.SheetOrigin.TheVariants as origin;
@@ -160,6 +160,15 @@ fn push_common(
     }
 }
 
+/// Are there no places here, and none for a node with this parent, whose own sheets stand from one place up to another?
+#[inline]
+fn are_none(kept: &[usize], parent: Option<usize>, start: usize, end: usize) -> bool
+    requires { start ≤ end }
+    ensures { IsTrue result → (common : ℕ) → kept.now ≡ spec.places_of common parent start (end - start) }
+{
+    kept.is_empty() && start == end && parent.is_some()
+}
+
 /// Makes these places those of a node's sheets, its own of which stand from one place up to another.
 pub(crate) fn refill_places(
     alloc: Global,
@@ -172,6 +181,9 @@ pub(crate) fn refill_places(
     requires { start ≤ end }
     ensures { OnOk result (kept.new ≡ spec.places_of common parent start (end - start)) }
 {
+    if are_none(kept.as_slice(), parent, start, end) {
+        return Ok(());
+    }
     let mut places = replace(kept, List::new(alloc)).into_vec();
     places.clear();
     push_common(&mut places, parent, common)?;

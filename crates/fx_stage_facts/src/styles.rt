@@ -1,22 +1,22 @@
 //! What the style of each node in a scene hangs on.
-ghost use Rattle.std.specs.Prelude.{◌≡◌, ◌≤◌, ◌+◌, ◌++◌, ℕ, IfOk, IfSome, None, OnOk, Some, false, length, option_to_list, true};
-ghost use Rattle.std.specs.Option.{option_map};
+ghost use Rattle.std.specs.Prelude.{◌≡◌, ◌≤◌, ◌+◌, ◌++◌, ◌∷◌, [], ℕ, IsTrue, None, OnOk, Some, false, length, option_to_list, slice_get, true};
 ghost use Rattle.fx_graph_model.specs.Uses.{unknown_in};
 ghost use Rattle.fx_graph_model.specs.Unread.{marked};
 ghost use Rattle.fx_kinds.specs.Properties.{properties_of};
-ghost use Rattle.fx_stage_facts.specs.Reads.{IsRead};
+ghost use Rattle.fx_stage_types.specs.declared.node_data.NodeData.{NodeData as Data};
+ghost use Rattle.fx_stage_facts.specs.Reads.{AreStyledRead, IsRead};
 ghost use Rattle.fx_stage_facts.specs.Sheets.{common_sheets as common_of, inline_place};
 ghost use Rattle.fx_stage_facts.specs.Styles as spec;
 
-use crate::places::{Asked, Places};
+use crate::places::{Asked, Places, Styled};
 use crate::refills::{Refill, push_all, refill_list};
 use crate::sheets::refill_places;
 use crate::stands::{Stand, is_same};
 use crate::values::refill_text;
-use fx_base::{List, Name, NodeKey, Text};
+use fx_base::{List, Name, NodeKey, Same, Text, Value};
 use fx_css_types::Sheet;
 use fx_graph_model::Origin;
-use fx_kinds::{Class, StyleFacts, properties};
+use fx_kinds::{Class, StyleFacts};
 use fx_look::{CodeValue, StyleName};
 use fx_stage::Stage;
 use fx_stage_graph::Graph;
@@ -53,7 +53,28 @@ fn push_if(alloc: Global, names: &mut Refill<Text>, so: bool, name: &str) -> Res
     }
 }
 
-/// Makes these names the pseudo-classes of a node.
+/// Is the node under no pointer, without the focus, not pressed and not disabled?
+#[inline]
+fn is_calm(graph: &Graph, stand: Stand) -> bool
+    ensures { IsTrue result → (node : Data) → spec.pseudos_of graph.now stand node ≡ node.pseudos }
+{
+    let key = stand.key;
+    !(stand.disabled
+        || is_focus(graph.focus(), key)
+        || is_among(graph.hover(), key)
+        || is_among(graph.pressed(), key))
+}
+
+/// Is there no name here and none there?
+#[tactic(auto, using(crate::proofs::RefillLemmas::both_empty))]
+#[inline]
+fn are_empty(names: &[Text], others: &[Text]) -> bool
+    ensures { IsTrue result → names.now ≡ others.now }
+{
+    names.is_empty() && others.is_empty()
+}
+
+/// Makes these names the pseudo-classes of a node. Most nodes have none.
 fn refill_pseudos(
     alloc: Global,
     kept: &mut List<Text>,
@@ -63,6 +84,9 @@ fn refill_pseudos(
 ) -> Result<(), AllocError>
     ensures { OnOk result (kept.new ≡ spec.pseudos_of graph.now stand node.now) }
 {
+    if are_empty(kept.as_slice(), node.pseudos.as_slice()) && is_calm(graph, stand) {
+        return Ok(());
+    }
     let mut names = Refill::over(replace(kept, List::new(alloc)));
     push_all(alloc, &mut names, node.pseudos.as_slice())?;
     let key = stand.key;
@@ -74,30 +98,70 @@ fn refill_pseudos(
     Ok(())
 }
 
-/// The value by code of a property that a declaration styles, if it has one.
-fn code_with(
+/// Does this value by code stand at the place?
+#[inline]
+fn stands_at(
+    codes: &[CodeValue],
+    place: usize,
+    style: StyleName,
+    value: &Value,
+    bound: bool,
+) -> bool
+    ensures { IsTrue result → slice_get codes.now place
+        ≡ Some (record { style = style; value = value.now; bound = bound }) }
+{
+    match codes.get(place) {
+        None => false,
+        Some(other) => other.style == style && other.bound == bound && other.value.is_same(value),
+    }
+}
+
+/// Puts a value by code behind the others, unless the old one that stands there is the same.
+#[tactic(auto, using(crate::proofs::RefillLemmas::one_more))]
+fn push_value(
+    alloc: Global,
+    codes: &mut Refill<CodeValue>,
+    style: StyleName,
+    value: &Value,
+    bound: bool,
+) -> Result<(), AllocError>
+    ensures { OnOk result (codes.new
+        ≡ codes.old ++ record { style = style; value = value.now; bound = bound } ∷ []) }
+{
+    if stands_at(codes.items.as_slice(), codes.count, style, value, bound) {
+        codes.count += 1;
+        return Ok(());
+    }
+    let value = value.copy(alloc)?;
+    codes.push(CodeValue {
+        style,
+        value,
+        bound,
+    })
+}
+
+/// Puts the value by code of a property that a declaration styles behind the others, if it has one.
+fn push_styled(
     alloc: Global,
     store: &Store,
+    codes: &mut Refill<CodeValue>,
     name: Name,
     style: StyleName,
-) -> Result<Option<CodeValue>, AllocError>
+) -> Result<(), AllocError>
     requires known { unknown_in store.now.entries name.0 ≡ false }
     requires read { marked store.now.unread name.0 ≡ false }
-    ensures { IfOk result (λ code. code ≡ spec.code_of store.now.entries name.0 (Some style.0)) }
+    ensures { OnOk result (codes.new
+        ≡ codes.old ++ option_to_list (spec.code_of store.now.entries name.0 (Some style.0))) }
 {
     let bound = match store.origin(name) {
-        None => return Ok(None),
-        Some(Origin::Initial) => return Ok(None),
+        None => return Ok(()),
+        Some(Origin::Initial) => return Ok(()),
         Some(Origin::Code) => false,
         Some(Origin::Bound) => true,
     };
     match store.value(name) {
-        None => Ok(None),
-        Some(value) => Ok(Some(CodeValue {
-            style,
-            value: value.copy(alloc)?,
-            bound,
-        })),
+        None => Ok(()),
+        Some(value) => push_value(alloc, codes, style, value, bound),
     }
 }
 
@@ -113,30 +177,41 @@ fn is_first(store: &Store, name: Name) -> bool
     }
 }
 
-/// Puts the value by code of a property behind the others, if a declaration styles the property and it has one.
+/// Puts the value by code of a property that a declaration styles behind the others. Most properties have none.
 #[inline]
 fn push_code(
     alloc: Global,
     store: &Store,
     codes: &mut Refill<CodeValue>,
     name: Name,
-    styled: Option<StyleName>,
+    style: StyleName,
 ) -> Result<(), AllocError>
-    requires known { IfSome styled (λ _. unknown_in store.now.entries name.0 ≡ false) }
-    requires read { IfSome styled (λ _. marked store.now.unread name.0 ≡ false) }
-    ensures { OnOk result (codes.new ≡ codes.old
-        ++ option_to_list (spec.code_of store.now.entries name.0 (option_map (λ style. style.0) styled))) }
+    requires known { unknown_in store.now.entries name.0 ≡ false }
+    requires read { marked store.now.unread name.0 ≡ false }
+    ensures { OnOk result (codes.new
+        ≡ codes.old ++ option_to_list (spec.code_of store.now.entries name.0 (Some style.0))) }
 {
-    let Some(style) = styled else {
-        return Ok(());
-    };
     if is_first(store, name) {
         return Ok(());
     }
-    match code_with(alloc, store, name, style)? {
-        None => Ok(()),
-        Some(code) => codes.push(code),
+    push_styled(alloc, store, codes, name, style)
+}
+
+/// Puts the values by code of these properties behind the others, where the first property of all has this number.
+fn push_codes(
+    alloc: Global,
+    store: &Store,
+    codes: &mut Refill<CodeValue>,
+    first: u32,
+    styled: &[Styled],
+) -> Result<(), AllocError>
+    requires { AreStyledRead store.now first styled.now }
+    ensures { OnOk result (codes.new ≡ codes.old ++ spec.styled_codes store.now.entries first styled.now) }
+{
+    for row in styled {
+        push_code(alloc, store, codes, Name(first + row.place), row.style)?;
     }
+    Ok(())
 }
 
 /// Makes these values those by code of a node's properties.
@@ -144,17 +219,16 @@ fn refill_codes(
     alloc: Global,
     kept: &mut List<CodeValue>,
     store: &Store,
+    places: &Places,
     node: &NodeData,
 ) -> Result<(), AllocError>
-    requires { IsRead store.now node.now }
+    requires class { places.now ≡ node.now.class }
+    requires read { IsRead store.now node.now }
     ensures { OnOk result (kept.new
         ≡ spec.codes_from store.now.entries node.now.first (properties_of node.now.class)) }
 {
     let mut codes = Refill::over(replace(kept, List::new(alloc)));
-    for (place, row) in properties(node.class).iter().enumerate() {
-        let name = Name(node.first + place as u32);
-        push_code(alloc, store, &mut codes, name, row.styled)?;
-    }
+    push_codes(alloc, store, &mut codes, node.first, places.styled())?;
     *kept = codes.finish();
     Ok(())
 }
@@ -226,6 +300,6 @@ pub(crate) fn refill_style(
         spot.start,
         end,
     )?;
-    refill_codes(alloc, &mut facts.codes, stage.store(), node)?;
+    refill_codes(alloc, &mut facts.codes, stage.store(), places, node)?;
     Ok(())
 }

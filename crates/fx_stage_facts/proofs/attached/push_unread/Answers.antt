@@ -1,9 +1,10 @@
-use Rattle.std.proofs.Common.{◌∙◌, ◌+◌, ◌++◌, Bool, ap, arith, drop, filter, sym}
+use Rattle.std.proofs.Common.{◌∙◌, ◌+◌, ◌++◌, ◌&&◌, Bool, ap, arith, drop, filter, sym}
 use Rattle.fx_base.specs.Names.{numbers}
 use Rattle.fx_graph_model.specs.Unread.{marked}
 use Rattle.fx_kinds.specs.Properties.{properties_of}
 use Rattle.fx_stage_rows.proofs.RowLemmas.{as_long, few_rows}
 use Rattle.fx_stage_facts.specs.Attached.{displayed_from, one_if}
+use Rattle.fx_stage_facts.proofs.CodeLemmas.{row_told}
 use Rattle.fx_stage_facts.proofs.LoopLemmas.{piece_done, row_left, unread_next}
 use Rattle.fx_stage_facts.proofs.attached.push_unread.Goals as goal
 
@@ -30,5 +31,7 @@ loop-place-preserved c =
     (filter (marked unread) (displayed_from (first + place) (drop place (properties_of class)))) more _ c.in_ok-push_if.ensures
     (unread_next unread first (properties_of class) place _
     (row_left class c.properties-row-items.result.now place _ c.properties-row-items.ensures c.loop-place-test.true)
+    ∙ ap (λ (b : Bool). one_if (marked unread (first + place) && b) (first + place) ++ more)
+    (sym (row_told class c.properties-row-items.result.now place _ c.properties-row-items.ensures c.loop-place-test.true))
     ∙ ap (λ (b : Bool). one_if b (first + place) ++ more) (sym c.is_left.ensures))
     c.loop-place.invariant

@@ -17,7 +17,7 @@ mod values;
 pub use copying::{write_copy, write_paints};
 pub use laws::rows_are_named;
 pub use node_styles::NodeStyle;
-pub use recoding::{are_recoded, write_bound};
+pub use recoding::{are_recoded, has_bound, write_bound};
 pub use rooms::Room;
 pub use styling::{Ground, restyle, style_in};
 pub use values::Winning;

@@ -64,6 +64,26 @@ pub fn write_bound(look: &mut Look, codes: &[CodeValue])
     look.max_height = bound_length(codes, StyleKey::MaxHeight as usize, look.max_height);
 }
 
+/// Has a look the lengths that bindings give?
+#[tactic(auto, unfolding(fx_look::specs::Styles::styles, crate::specs::Recoding::with_bound))]
+pub fn has_bound(look: &Look, codes: &[CodeValue]) -> bool
+    ensures { IsTrue result → with_bound codes.now look.now ≡ look.now }
+{
+    is_bound(codes, StyleKey::MinWidth as usize, look.min_width)
+        && is_bound(codes, StyleKey::MinHeight as usize, look.min_height)
+        && is_bound(codes, StyleKey::PrefWidth as usize, look.pref_width)
+        && is_bound(codes, StyleKey::PrefHeight as usize, look.pref_height)
+        && is_bound(codes, StyleKey::MaxWidth as usize, look.max_width)
+        && is_bound(codes, StyleKey::MaxHeight as usize, look.max_height)
+}
+
+/// Is this the length that a binding gives, if one gives the length of the row?
+fn is_bound(codes: &[CodeValue], row: usize, kept: i64) -> bool
+    ensures { IsTrue result → bound_length codes.now row kept ≡ kept }
+{
+    bound_length(codes, row, kept) == kept
+}
+
 fn bound_length(codes: &[CodeValue], row: usize, kept: i64) -> i64
     ensures { result ≡ bound_length codes.now row kept }
 {

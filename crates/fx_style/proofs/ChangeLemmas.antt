@@ -18,7 +18,7 @@ pub looks-push : (looks : List Look) (fs : List Fresh) (f : Fresh)
 looks-push looks [] f = refl
 looks-push looks (g ∷ gs) f = looks-push (set looks g.at g.entry.style.look) gs f
 
-among-push : (places : List ℕ) (p at : ℕ) → is_among (places ++ p ∷ []) at ≡ false
+pub among-push : (places : List ℕ) (p at : ℕ) → is_among (places ++ p ∷ []) at ≡ false
     → (is_among places at ≡ false) × (p ≡ at → ⊥)
 among-push [] p at off =
     let parts = or_parts (eqb p at) false off in

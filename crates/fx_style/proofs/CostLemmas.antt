@@ -53,7 +53,7 @@ worked_listed : (restyle : List ℕ) (n : ℕ) → worked (is_among restyle) n �
 worked_listed [] n = omega (arith, worked_none n)
 worked_listed (r ∷ rs) n = omega (arith, worked_or (λ k. eqb r k) (is_among rs) n, worked_one r n, worked_listed rs n)
 
-worked_same : (p q : ℕ → Bool) (n : ℕ) → ((k : ℕ) → k < n → p k ≡ q k) → worked p n ≡ worked q n
+pub worked_same : (p q : ℕ → Bool) (n : ℕ) → ((k : ℕ) → k < n → p k ≡ q k) → worked p n ≡ worked q n
 worked_same p q zero same = refl
 worked_same p q (suc n) same =
     let rest : worked p n ≡ worked q n = worked_same p q n (λ k below. same k (omega arith)) in

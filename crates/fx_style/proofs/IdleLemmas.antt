@@ -29,11 +29,11 @@ pub record Idles (restyle : List ℕ) (looks : List Look) (rest : List Rest) (no
 abbrev turn_of : StyleFacts → ℕ → Turn
 turn_of node at = record { at = at; key = node.key; listed = false; calm = false; stay = true; place = None }
 
-stays : (restyle : List ℕ) (looks : List Look) (rest : List Rest) (node : StyleFacts) (at : ℕ)
+pub stays : (restyle : List ℕ) (looks : List Look) (rest : List Rest) (node : StyleFacts) (at : ℕ)
     → Idles restyle looks rest node at → Stays looks rest (turn_of node at)
 stays restyle looks rest node at idle = stays_here looks rest (turn_of node at) refl refl idle.place idle.in_looks idle.in_rest
 
-kept_there : (looks : List Look) (rest : List Rest) (facts : List StyleFacts) (at : ℕ) (node : StyleFacts)
+pub kept_there : (looks : List Look) (rest : List Rest) (facts : List StyleFacts) (at : ℕ) (node : StyleFacts)
     → slice_get facts at ≡ Some node → kept_under looks rest node.key ≡ kept_at looks rest facts at
 kept_there looks rest facts at node is =
     ap (option_and_then (λ (n : StyleFacts). kept_under looks rest n.key)) (sym is)
@@ -67,27 +67,3 @@ idle_cost facts restyle looks rest at next node is idle e =
     let more : worked (needs restyle kept) at + ticks (needs restyle kept at) ≡ worked (needs restyle kept) next =
     worked_more (needs restyle kept) at next e in
     omega (arith, more, nothing)
-
--- where all are such, nothing is made at all
-pub all_idle : (sheets : List SheetAt) (facts : List StyleFacts) (restyle : List ℕ) (looks : List Look)
-    (rest : List Rest) → ParentsStandBefore facts
-    → ((at : ℕ) (node : StyleFacts) → slice_get facts at ≡ Some node → Idles restyle looks rest node at)
-    → (n : ℕ) → n ≤ length facts
-    → AreRightBelow sheets facts restyle (kept_at looks rest facts) looks rest [] n
-    × (worked (needs restyle (kept_at looks rest facts)) n ≡ 0)
-all_idle sheets facts restyle looks rest before idle zero few =
-    (record { each = λ j node below is. absurd (omega (arith, below)) }, refl)
-all_idle sheets facts restyle looks rest before idle (suc n) few =
-    let kept = kept_at looks rest facts in
-    let rec = all_idle sheets facts restyle looks rest before idle n (omega (arith, few)) in
-    let there = get_there facts n (omega (arith, few)) in
-    let one = idle n there.0 there.1 in
-    let cost : worked (needs restyle kept) n ≡ worked (needs restyle kept) (suc n) =
-    idle_cost facts restyle looks rest n (suc n) there.0 there.1 one (omega arith) in (
-      subst (λ (m : ℕ). AreRightBelow sheets facts restyle kept looks rest [] m) (next n)
-          (idle_right sheets facts restyle looks rest [] n there.0 before there.1 refl one rec.0),
-      sym cost ∙ rec.1,
-    )
-  where
-    next : (n : ℕ) → n + 1 ≡ suc n
-    next n = omega arith

@@ -13,3 +13,4 @@ pub mod ChainLaws
 pub mod OnceLemmas
 pub mod IdleLemmas
 pub mod RecodedLemmas
+pub mod RewriteLemmas

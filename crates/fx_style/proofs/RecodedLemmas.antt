@@ -124,7 +124,7 @@ pub parent_is : (facts : List StyleFacts) (at : ℕ) (node : StyleFacts) → sli
     → parent_at facts at ≡ node.parent
 parent_is facts at node is = ap (option_and_then (λ (n : StyleFacts). n.parent)) is
 
-style_recoded_at : (sheets : List SheetAt) (facts olds : List StyleFacts) (restyle : List ℕ) (looks : List Look)
+pub style_recoded_at : (sheets : List SheetAt) (facts olds : List StyleFacts) (restyle : List ℕ) (looks : List Look)
     (rest : List Rest) → ParentsStandBefore facts → AreStylesOf sheets facts restyle looks rest olds
     → (at : ℕ) (old node : StyleFacts) → slice_get olds at ≡ Some old → slice_get facts at ≡ Some node
     → DiffersInLengths old node → ((p : ℕ) → parent_at facts at ≡ Some p → is_among restyle p ≡ false)

@@ -4,6 +4,7 @@ pub mod Kept
 pub mod Lasts
 pub mod Places
 pub mod Plans
+pub mod Rewriting
 pub mod Rules
 pub mod Styled
 pub mod Turns

@@ -12,6 +12,7 @@ mod marks;
 mod memory;
 mod putting;
 mod recoding;
+mod rewriting;
 mod same;
 mod styles;
 

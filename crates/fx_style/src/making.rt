@@ -124,8 +124,8 @@ fn style_by_rules<L: Ledgers>(
     Ok(())
 }
 
-/// Makes the draft the style of a node from nothing, by what its ancestors have by now: by what is kept of it where just
-/// lengths that bindings give are others, else by the rules that match it.
+/// Makes the draft the style of a node from nothing, by what its ancestors have by now: by what is kept of it where
+/// just lengths that bindings give are others, else by the rules that match it.
 fn style_anew<L: Ledgers>(
     alloc: Global,
     scene: Scene<'_>,
@@ -182,8 +182,8 @@ pub(crate) fn copy_style(
     }
 }
 
-/// What an update does with a node of this key: is it listed, is its parent not, may what is kept stay in its place, and
-/// where does its key stand?
+/// What an update does with a node of this key: is it listed, is its parent not, may what is kept stay in its place,
+/// and where does its key stand?
 #[derive(Clone, Copy)]
 pub(crate) struct Turn {
     pub at: usize,
@@ -326,23 +326,6 @@ fn is_idle(old: Old<'_>, listed: bool, key: NodeKey, at: usize) -> bool
     old.stay && !listed && stands_at(old.rest, key, at)
 }
 
-/// May all nodes keep what they have where they stand, by the marks of those that are listed?
-fn are_idle(old: Old<'_>, marks: &[bool], facts: &[StyleFacts]) -> bool
-    requires long { length marks.now ≡ length facts.now }
-    requires keys { HaveDifferentKeys old.rest.now }
-    ensures { IsTrue result → (at : ℕ) (node : Facts) → slice_get facts.now at ≡ Some node
-        → (slice_index_or marks.now at false ≡ false) × (old.entry.stay ≡ true)
-        × (place_of_key old.entry.rest.now node.key ≡ Some at) }
-{
-    for (at, node) in facts.iter().enumerate() {
-        let listed = marks[at];
-        if !is_idle(old, listed, node.key, at) {
-            return false;
-        }
-    }
-    true
-}
-
 /// The entries that an update makes anew, in the order of their places. Where what is kept may not stay in its places,
 /// every place gets one.
 pub(crate) fn made<L: Ledgers>(
@@ -375,9 +358,6 @@ pub(crate) fn made<L: Ledgers>(
     let facts = scene.facts;
     let marks = marked(alloc, restyle, facts.len())?;
     let mut fresh = taken_entries(memory, alloc, facts.len());
-    if are_idle(old, marks.as_slice(), facts) {
-        return Ok(fresh);
-    }
     let mut steps = vec![in alloc; None; facts.len()]?;
     let mut guess = 0;
     for (at, node) in facts.iter().enumerate() {

@@ -1,18 +1,21 @@
 //! The looks of all nodes, kept from one update to the next.
-ghost use Rattle.std.specs.Prelude.{◌≡◌, ◌+◌, ◌<◌, [], ℕ, false, true, IfOk, IfSome, OnErr, OnOk, is_some, length, map};
+ghost use Rattle.std.specs.Prelude.{◌≡◌, ◌+◌, ◌<◌, [], ℕ, false, true, IfOk, IfSome, OnErr, OnOk, is_some, length, map, slice_get, slice_index_or};
 ghost use Rattle.std.specs.Option.{option_copied};
 ghost use Rattle.fx_select.specs.Chains.{ParentsStandBefore};
 ghost use Rattle.fx_style.specs.Changes.{NamesChanges};
 ghost use Rattle.fx_style.specs.Kept.{AreDifferent, HaveDifferentKeys, fresh_at, kept_at, put_looks, put_rest};
 ghost use Rattle.fx_style.specs.Lasts.{AreStylesOf};
+ghost use Rattle.fx_style.specs.Rewriting.{rewritten_at};
 ghost use Rattle.fx_style.specs.Rules.{AreIndexed, HaveRows, IsUpdate, KeepsOthers, kept_of, needs, worked};
 ghost use Rattle.fx_style.specs.Turns.{ArePut, AreRightBelow, HaveKeysOf};
 
 use crate::entries::Entries;
 use crate::kept::{Fresh, Rest};
 use crate::making::{Old, Scene, made};
+use crate::marks::marked;
 use crate::memory::Memory;
 use crate::putting::{blank_looks, blank_rest, changed_places, places_of};
+use crate::rewriting::{are_recoded_there, places_of_others, rewrite};
 use fx_base::{Ledgers, Work};
 use fx_kinds::StyleFacts;
 use fx_look::Look;
@@ -127,10 +130,42 @@ impl Styles {
               + worked (needs restyle.now (kept_of self.old scene.entry.facts.now)) (length scene.entry.facts.now);
         }) }
     {
+        let marks = marked(alloc, restyle, scene.facts.len())?;
         let stay = self.stays(scene.facts.len());
+        if stay && are_recoded_there(scene, self.rest.as_slice(), marks.as_slice()) {
+            return self.rewrite(alloc, scene.facts, marks.as_slice(), memory, work);
+        }
         let fresh = self.fresh(alloc, scene, stay, restyle, &mut memory, work)?;
         let changed = self.changes(alloc, stay, fresh.as_slice())?;
         self.put(alloc, scene.facts, stay, fresh, changed, memory)
+    }
+
+    /// Writes the lengths that bindings give into what is kept of the marked nodes, and keeps the memory.
+    fn rewrite<L: Ledgers>(
+        &mut self,
+        alloc: Global,
+        facts: &[StyleFacts],
+        marks: &[bool],
+        memory: Memory,
+        work: &mut Work<L>,
+    ) -> Result<(), AllocError>
+        requires looks { length self.old.looks ≡ length facts.now }
+        requires marks { length marks.now ≡ length facts.now }
+        ensures long { OnOk result (length self.new.looks ≡ length self.old.looks) }
+        ensures looks { OnOk result ((at : ℕ) → slice_get self.new.looks at
+            ≡ rewritten_at marks.now facts.now self.old.looks at) }
+        ensures rest { OnOk result (self.new.rest ≡ self.old.rest) }
+        ensures changed { OnOk result (KeepsOthers self.old self.new) }
+        ensures err { OnErr result (self.new ≡ self.old) }
+        ensures cost { OnOk result (work.new ≡ record work.old {
+          styled = work.old.styled + worked (λ at. slice_index_or marks.now at false) (length facts.now);
+        }) }
+    {
+        let changed = places_of_others(alloc, self.looks.as_slice(), facts, marks)?;
+        rewrite(&mut self.looks, facts, marks, work);
+        self.changed = changed;
+        self.memory = memory;
+        Ok(())
     }
 
     /// Are there as many entries as nodes now, so that what is kept may stay in its places?

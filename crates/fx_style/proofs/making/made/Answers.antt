@@ -19,8 +19,7 @@ use Rattle.fx_style.proofs.FreshLemmas.{AreFew, few_more, fresh-here, fresh-othe
 use Rattle.fx_look.specs.declared.looks.Look.{Look}
 use Rattle.fx_style.specs.declared.kept.Rest.{Rest}
 use Rattle.fx_style.proofs.RecodedLemmas.{parent_is}
-use Rattle.fx_style.proofs.IdleLemmas.{Idles, all_idle, idle_cost, idle_right}
-use Rattle.fx_style.proofs.TurnLemmas.{get_there}
+use Rattle.fx_style.proofs.IdleLemmas.{Idles, idle_cost, idle_right}
 use Rattle.fx_style.proofs.UpdateLemmas.{now_of, right_more}
 use Rattle.fx_style.proofs.making.made.Goals as goal
 
@@ -92,7 +91,7 @@ loop-at-preserved g c =
           (c.in_ok-made.ensures.style
           ∙ ap (λ (l : List Fresh). Some (entry node.key (renewed_by c.index-listed.result.now
           (kept_under looks rest node.key) (anew sheets facts at (filter_map (now_of looks rest l) up)))))
-          c.as_slice-in-loop-at-2.ensures
+          c.as_slice-in-loop-at.ensures
           ∙ ap (λ (b : Bool). Some (entry node.key (renewed_by b (kept_under looks rest node.key)
           (anew sheets facts at (filter_map (now_of looks rest fs) up))))) listed
           ∙ ap (λ (k : Option NodeStyle). Some (entry node.key (renewed_by (is_among restyle at) k
@@ -123,8 +122,8 @@ is_calm-requires g c = λ p up.
     let is : slice_get facts at ≡ Some node =
     slice_get_read facts (length facts) at node refl c.loop-at-test.true c.index-facts-at.is in
     let less : p < at = c.requires.before at p node is up in
-    let long : length c.as_slice-in-loop-at.result.now ≡ length facts =
-    ap length c.as_slice-in-loop-at.ensures.value ∙ c.in_ok-marks.ensures.long in
+    let long : length c.as_slice.result.now ≡ length facts =
+    ap length c.as_slice.ensures.value ∙ c.in_ok-marks.ensures.long in
     omega (arith, less, long, c.loop-at-test.true)
 
 pub remade-requires-clause-calm : goal.remade-requires-clause-calm
@@ -137,7 +136,7 @@ remade-requires-clause-calm g c = λ calm p up.
     let above = sym (parent_is facts at node is) ∙ up in
     let less : p < at = c.requires.before at p node is above in
     sym (c.in_ok-marks.ensures.marks p (omega (arith, less, c.loop-at-test.true)))
-    ∙ ap (λ (l : List Bool). get_or l p false) (sym c.as_slice-in-loop-at.ensures.value)
+    ∙ ap (λ (l : List Bool). get_or l p false) (sym c.as_slice.ensures.value)
     ∙ c.is_calm.ensures calm p above
 
 pub loop-at-preserved-then-is_idle : goal.loop-at-preserved-then-is_idle
@@ -178,59 +177,3 @@ loop-at-preserved-then-is_idle g c =
           ∙ ap (λ (n : ℕ). record c.args.work.now { styled = c.args.work.now.styled + n })
           (idle_cost facts restyle looks rest at (at + 1) node is idles refl);
     }
-
--- what all nodes being idle says of one
-one_idles : (restyle : List ℕ) (looks : List Look) (rest : List Rest) (facts : List StyleFacts) (marks : List Bool)
-    (stay : Bool) → ((at : ℕ) → at < length facts → get_or marks at false ≡ is_among restyle at)
-    → (stay ≡ true → (length looks ≡ length facts) × (length rest ≡ length facts))
-    → ((at : ℕ) (node : StyleFacts) → slice_get facts at ≡ Some node
-    → (get_or marks at false ≡ false) × (stay ≡ true) × (place_of_key rest node.key ≡ Some at))
-    → (at : ℕ) (node : StyleFacts) → slice_get facts at ≡ Some node → Idles restyle looks rest node at
-one_idles restyle looks rest facts marks stay marked long idle at node is =
-    let i = idle at node is in
-    let within : at < length facts = slice_get_within facts at node is in
-    let l = long i.1 in
-    record {
-      unlisted = sym (marked at within) ∙ i.0;
-      place = i.2;
-      in_looks = subst (λ (n : ℕ). at < n) (sym l.0) within;
-      in_rest = subst (λ (n : ℕ). at < n) (sym l.1) within;
-    }
-
-pub returns-then-are_idle-clause-right : goal.returns-then-are_idle-clause-right
-returns-then-are_idle-clause-right g c =
-    let sheets = c.args.scene.sheets.now in
-    let facts = c.args.scene.facts.now in
-    let restyle = c.args.restyle.now in
-    let looks = c.args.old.looks.now in
-    let rest = c.args.old.rest.now in
-    let idles = one_idles restyle looks rest facts c.as_slice.result.now c.args.old.stay
-    (λ at within. ap (λ (l : List Bool). get_or l at false) c.as_slice.ensures.value
-    ∙ c.in_ok-marks.ensures.marks at within) c.requires.stay (c.are_idle.ensures c.if-are_idle.true) in
-    subst (λ (l : List Fresh). AreRightBelow sheets facts restyle (kept_at looks rest facts) looks rest l (length facts))
-    (sym c.taken_entries-fresh.ensures)
-    (all_idle sheets facts restyle looks rest c.requires.before idles (length facts) (omega arith)).0
-
-pub returns-then-are_idle-clause-all : goal.returns-then-are_idle-clause-all
-returns-then-are_idle-clause-all g c = λ must at within.
-    let facts = c.args.scene.facts.now in
-    let there = get_there facts at within in
-    absurd (let h : true ≡ false =
-    sym (c.are_idle.ensures c.if-are_idle.true at there.0 there.1).1 ∙ must in cc)
-
-pub returns-then-are_idle-clause-cost : goal.returns-then-are_idle-clause-cost
-returns-then-are_idle-clause-cost g c =
-    let sheets = c.args.scene.sheets.now in
-    let facts = c.args.scene.facts.now in
-    let restyle = c.args.restyle.now in
-    let looks = c.args.old.looks.now in
-    let rest = c.args.old.rest.now in
-    let idles = one_idles restyle looks rest facts c.as_slice.result.now c.args.old.stay
-    (λ at within. ap (λ (l : List Bool). get_or l at false) c.as_slice.ensures.value
-    ∙ c.in_ok-marks.ensures.marks at within) c.requires.stay (c.are_idle.ensures c.if-are_idle.true) in
-    let none : worked (needs restyle (kept_at looks rest facts)) (length facts) ≡ 0 =
-    (all_idle sheets facts restyle looks rest c.requires.before idles (length facts) (omega arith)).1 in
-    let same : c.args.work.now.styled
-    ≡ c.args.work.now.styled + worked (needs restyle (kept_at looks rest facts)) (length facts) =
-    omega (arith, none) in
-    ap (λ (n : ℕ). record c.args.work.now { styled = n }) same

@@ -1,21 +1,23 @@
 -- The last picture is of nodes that hang and show as those of the scene, where it can be edited.
-use Rattle.std.proofs.Common.{refl, sym, ap, subst, ◌∙◌, ◌≡◌, ℕ, zero, suc, ◌+◌, ◌<◌, Bool, true, false, cond, List, [], ◌∷◌, filter, get_or, length, Option, Some, None, arith}
+use Rattle.std.proofs.Common.{refl, sym, ap, subst, ◌∙◌, ◌≡◌, ℕ, zero, suc, ◌+◌, ◌<◌, Bool, true, false, cond, List, ◌∷◌, filter, get_or, length, Option, Some, None, arith}
 use Rattle.std.specs.Prelude.{IfSome}
-use Rattle.std.specs.List.{list_all, range_with_len}
-use Rattle.std.proofs.lemmas.Bool.{true≢false}
+use Rattle.std.specs.List.{range_with_len}
 use Rattle.fx_base.specs.declared.geometry.Rect.{Rect}
+use Rattle.fx_kinds.specs.declared.facts.BoxFacts.{BoxFacts}
 use Rattle.fx_look.specs.declared.looks.Look.{Look}
-use Rattle.fx_layout_sweeps.specs.Marks.{flag_in}
-use Rattle.fx_layout_sweeps.specs.Nodes.{no_node}
+use Rattle.fx_layout_sweeps.specs.Nodes.{no_node, parents}
 use Rattle.fx_picture.specs.declared.entries.Entry.{Entry}
 use Rattle.fx_pulse_model.specs.Frames.{drawn_in}
 use Rattle.fx_pulse_model.specs.Pictures.{Drawn, shown_places, shows}
-use Rattle.fx_pulse_model.specs.Scenes.{Scene, looks_of}
-use Rattle.fx_pulse_touched.proofs.ToldLemmas.{told_at}
-use Rattle.fx_pulse_kept.specs.Measuring.{AreOthersMarked, IsAsBefore}
-use Rattle.fx_pulse_kept.proofs.StepLemmas.{as_many_boxes, same_there}
-use Rattle.fx_pulse.specs.Editing.{AreLast, IsEditable, IsShownScene, shown_in}
+use Rattle.fx_pulse_model.specs.Scenes.{IsScene, Scene, looks_of}
+use Rattle.fx_pulse_touched.proofs.ToldLemmas.{long, told_at}
+use Rattle.fx_pulse_kept.specs.Keeping.{boxes_in}
+use Rattle.fx_pulse_kept.specs.Measuring.{AreOthersMarked}
+use Rattle.fx_pulse_kept.proofs.StepLemmas.{same_there}
+use Rattle.fx_pulse.specs.Editing.{AreLast, HangsAs, IsEditable, IsOfSize, IsShownScene, shown_in}
 use Rattle.fx_pulse.specs.declared.frames.Before.{Before}
+use Rattle.fx_pulse.specs.declared.frames.Next.{Next}
+use Rattle.fx_pulse.specs.declared.frames.Next.TheVariants as next
 
 -- ---- the same nodes show
 filters : (f g : ℕ → Bool) (m a : ℕ) → ((k : ℕ) → k < a + m → f k ≡ g k)
@@ -43,38 +45,59 @@ same_places one other many same =
     ∙ ap (λ n. filter (shows other) (range_with_len 0 n)) many
 
 -- ---- the last picture
-some_free : (marks : List Bool) → list_all (λ mark. mark) marks ≡ false
-    → (p : ℕ) × (p < length marks) × (flag_in marks p ≡ false)
-some_free [] all = absurd (true≢false all)
-some_free (false ∷ marks) all = (zero, omega arith, refl)
-some_free (true ∷ marks) all =
-    let rest = some_free marks all in
-    (suc rest.0, omega (arith, rest.1), rest.2)
+-- nodes that hang as those of a scene that has nodes are those of some scene
+pub hangs : (kept : Option Scene) (scene : Scene) → IsScene scene → parents (boxes_in kept) ≡ parents scene.boxes
+    → HangsAs kept scene
+hangs None scene is hung = absurd (omega (arith, is.some, long scene.boxes, ap length hung))
+hangs (Some last) scene is hung = hung
+
+-- the frame before, if there is one, is of the same nodes, which hung as these do
+abbrev pub IsOfSame : (past before : Option Before) (olds nodes : List BoxFacts) → Type 0
+IsOfSame past before olds nodes = IfSome before (λ (b : Before). (past ≡ Some b) × (parents olds ≡ parents nodes))
+
+pub hung_since : (past before : Option Before) (kept : Option Scene) (scene : Scene) → IsScene scene
+    → (olds nodes : List BoxFacts) → IsOfSame past before olds nodes → olds ≡ boxes_in kept → nodes ≡ scene.boxes
+    → IfSome before (λ (b : Before). HangsAs kept scene)
+hung_since past None kept scene is olds nodes same was are = tt
+hung_since past (Some b) kept scene is olds nodes same was are =
+    hangs kept scene is (sym (ap parents was) ∙ (same.1 ∙ ap parents are))
+
+pub shown_since : (past before : Option Before) (kept : Option Scene) (entries : List Entry)
+    (olds nodes : List BoxFacts) → IsOfSame past before olds nodes
+    → IfSome past (λ (b : Before). (last : Scene) → kept ≡ Some last → IsShownScene last entries b.shown.now)
+    → IfSome before (λ (b : Before). (last : Scene) → kept ≡ Some last → IsShownScene last entries b.shown.now)
+shown_since past None kept entries olds nodes same was = tt
+shown_since past (Some b) kept entries olds nodes same was =
+    subst (λ o. IfSome o (λ (b : Before). (last : Scene) → kept ≡ Some last → IsShownScene last entries b.shown.now))
+    same.0 was
+
+pub size_since : (past before : Option Before) (w h : ℕ) (made : Next) (olds nodes : List BoxFacts)
+    → IsOfSame past before olds nodes → IsOfSize before w h made → IsOfSize past w h made
+size_since past before w h (next.Whole picture) olds nodes same size = tt
+size_since past None w h (next.Edited edits) olds nodes same size = absurd size
+size_since past (Some b) w h (next.Edited edits) olds nodes same size =
+    subst (λ o. IsOfSize o w h (next.Edited edits)) (sym same.0) size
 
 pub last_is : (before : Option Before) (kept : Option Scene) (scene : Scene) (w h : ℕ) (rects : List Rect)
-    (shown marks : List Bool) (olds : List Entry) → IsEditable before w h shown marks
+    (shown marks : List Bool) (olds : List Entry) → IsEditable before w h shown
+    → IfSome before (λ (b : Before). HangsAs kept scene)
     → IfSome before (λ (b : Before). (last : Scene) → kept ≡ Some last → IsShownScene last olds b.shown.now)
     → AreOthersMarked kept scene marks → shown ≡ shown_in (drawn_in scene rects)
     → AreLast (drawn_in scene rects) marks olds
-last_is None kept scene w h rects shown marks olds editable was marked is = absurd editable
-last_is (Some b) kept scene w h rects shown marks olds editable was marked is =
-    let free = some_free marks editable.3 in
-    go kept refl free.0 (marked.as_before free.0 (omega (arith, free.1, marked.each)) free.2)
-  where
-    go : (o : Option Scene) → kept ≡ o → (p : ℕ) → IsAsBefore o scene p → AreLast (drawn_in scene rects) marks olds
-    go None e p none = absurd none
-    go (Some last) e p before =
-        let told = was last e in
-        record {
-          last = drawn_in last told.rects;
-          picture = told.picture;
-          hung = before.0.parents;
-          shown = same_places (drawn_in last told.rects) (drawn_in scene rects)
-              (as_many_boxes last.boxes scene.boxes before.0.keys) (sym told.shown ∙ (editable.2 ∙ is));
-          same = λ k within unmarked.
-              let was_so = subst (λ o. IsAsBefore o scene k) e (marked.as_before k within unmarked) in
-              (same_there last.boxes scene.boxes k no_node was_so.1, was_so.2);
-        }
+last_is None kept scene w h rects shown marks olds editable hung was marked is = absurd editable
+last_is (Some b) None scene w h rects shown marks olds editable hung was marked is = absurd hung
+last_is (Some b) (Some last) scene w h rects shown marks olds editable hung was marked is =
+    let told = was last refl in
+    record {
+      last = drawn_in last told.rects;
+      picture = told.picture;
+      hung = hung;
+      shown = same_places (drawn_in last told.rects) (drawn_in scene rects)
+          (sym (long last.boxes) ∙ (ap length hung ∙ long scene.boxes)) (sym told.shown ∙ (editable.2 ∙ is));
+      same = λ k within unmarked.
+          let was_so = marked.as_before k within unmarked in
+          (same_there last.boxes scene.boxes k no_node was_so.1, was_so.2);
+    }
 
 -- nodes that have their looks from nothing
 abbrev pub in_looks : Scene → List Look → List Rect → Drawn
@@ -82,10 +105,10 @@ in_looks scene looks rects = record { boxes = scene.boxes; looks = looks; rects 
 
 pub last_in : (before : Option Before) (kept : Option Scene) (scene : Scene) (w h : ℕ) (looks : List Look)
     (rects : List Rect) (shown marks : List Bool) (olds : List Entry) → looks ≡ looks_of scene
-    → IsEditable before w h shown marks
+    → IsEditable before w h shown → IfSome before (λ (b : Before). HangsAs kept scene)
     → IfSome before (λ (b : Before). (last : Scene) → kept ≡ Some last → IsShownScene last olds b.shown.now)
     → AreOthersMarked kept scene marks → shown ≡ shown_in (in_looks scene looks rects)
     → AreLast (in_looks scene looks rects) marks olds
-last_in before kept scene w h looks rects shown marks olds same editable was marked is =
+last_in before kept scene w h looks rects shown marks olds same editable hung was marked is =
     subst (λ l. shown ≡ shown_in (in_looks scene l rects) → AreLast (in_looks scene l rects) marks olds) (sym same)
-    (last_is before kept scene w h rects shown marks olds editable was marked) is
+    (last_is before kept scene w h rects shown marks olds editable hung was marked) is

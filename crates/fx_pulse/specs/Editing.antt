@@ -1,6 +1,5 @@
 -- The next picture, whole or by edits of the last one.
 use Rattle.std.specs.Prelude.{◌≡◌, ℕ, ◌<◌, Bool, false, List, length, slice_index_or, Option, Some, None, IfSome}
-use Rattle.std.specs.List.{list_all}
 use Rattle.fx_base.specs.declared.geometry.Rect.{Rect}
 use Rattle.fx_damage.specs.Edits.{AreEdits, edited}
 use Rattle.fx_damage.specs.declared.edits.Edit.{Edit}
@@ -27,10 +26,17 @@ pub record IsShownScene (scene : Scene) (olds : List Entry) (flags : List Bool) 
   pub picture : IsPicture (drawn_in scene rects) olds
   pub shown : flags ≡ shown_in (drawn_in scene rects)
 
--- It is marked what changed since some scene, if there was one, and the frame before, if there is one, shows that one.
+-- there was a scene whose nodes hung as those of this one do
+abbrev pub HangsAs : Option Scene → Scene → Type 0
+HangsAs None scene = ⊥
+HangsAs (Some last) scene = parents last.boxes ≡ parents scene.boxes
+
+-- It is marked what changed since some scene, if there was one, and the frame before, if there is one, shows that one,
+-- whose nodes hung as these do.
 pub record IsSince (before : Option Before) (olds : List Entry) (scene : Scene) (marks : List Bool) : Type 0 where
   pub last : Option Scene
   pub marked : AreOthersMarked last scene marks
+  pub hung : IfSome before (λ (b : Before). HangsAs last scene)
   pub shown : IfSome before (λ (b : Before). (old : Scene) → last ≡ Some old → IsShownScene old olds b.shown.now)
 
 -- The entries are of nodes that hang and show as these do, and each of these that isn't marked had the facts for layout
@@ -68,11 +74,10 @@ IsOfSize before w h (next.Whole picture) = Unit {0}
 IsOfSize None w h (next.Edited edits) = ⊥
 IsOfSize (Some b) w h (next.Edited edits) = (b.width ≡ w) × (b.height ≡ h)
 
--- the frame before is of this size, the same nodes show in it, and some node isn't marked
-abbrev pub IsEditable : Option Before → ℕ → ℕ → List Bool → List Bool → Type 0
-IsEditable None w h shown marks = ⊥
-IsEditable (Some b) w h shown marks =
-    (b.width ≡ w) × (b.height ≡ h) × (b.shown.now ≡ shown) × (list_all (λ mark. mark) marks ≡ false)
+-- the frame before is of this size, and the same nodes show in it
+abbrev pub IsEditable : Option Before → ℕ → ℕ → List Bool → Type 0
+IsEditable None w h shown = ⊥
+IsEditable (Some b) w h shown = (b.width ≡ w) × (b.height ≡ h) × (b.shown.now ≡ shown)
 
 -- there are no edits
 abbrev pub IsWhole : Next → Type 0

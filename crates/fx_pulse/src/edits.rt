@@ -54,7 +54,7 @@ pub(crate) fn edits_of(
         IsPicture (drawn laid.entry) (edited edits.items last.entry.entries.now)) }
 {
     let mut editing = Editing {
-        edits: Vec::new(alloc),
+        edits: Vec::with_capacity(alloc, count_of(last.marks))?,
         count: 0,
         gone: replace(gone, Vec::new(alloc)),
     };
@@ -68,6 +68,11 @@ pub(crate) fn edits_of(
     } = editing;
     *gone = left;
     Ok(edits)
+}
+
+/// How many nodes are marked.
+fn count_of(marks: &[bool]) -> usize {
+    marks.iter().filter(|mark| **mark).count()
 }
 
 /// Passes a node: where it shows, its entry stays, or is made anew if it may be another.

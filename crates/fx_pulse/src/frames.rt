@@ -1,7 +1,6 @@
 //! A frame: the looks and the layout that are kept, brought up to the scene, and its picture, whole or by edits of the
 //! last one.
 ghost use Rattle.std.specs.Prelude.{◌≡◌, ◌↔◌, ◌≤◌, ◌+◌, ◌*◌, ℕ, false, true, IfOk, IfSome, IsTrue, OnOk, Option as Maybe, Some, length};
-ghost use Rattle.std.specs.List.{list_all};
 ghost use Rattle.fx_layout.specs.Layouts.{IsLayout};
 ghost use Rattle.fx_layout.specs.Updates.{rect_at, root_size};
 ghost use Rattle.fx_layout_sweeps.specs.Nodes.{IsTree, parents};
@@ -22,9 +21,10 @@ use crate::entries::{Laid, Notes, picture_of};
 use crate::flags::{disabled_flags, shown_flags};
 use fx_base::{Ledgers, Rect, Work};
 use fx_damage::Edit;
+use fx_kinds::BoxFacts;
 use fx_picture::{Entry, Picture};
 use fx_pulse_kept::{Brought, KeptScene};
-use fx_pulse_touched::{Scene, SceneLists};
+use fx_pulse_touched::{Scene, SceneLists, have_same_heads};
 use std::alloc::{AllocError, Global};
 
 /// The next picture.
@@ -62,9 +62,9 @@ pub(crate) struct Made {
 }
 
 /// The frame of a scene, in a window or in one as large as its root, by what is kept of the last scene, which this one
-/// becomes. Where the frame before it shows the last scene, is as large, and the same nodes show, its picture is
-/// edited: entries are made for the nodes that were measured anew, that stand elsewhere, or that are disabled where
-/// they weren't or the other way round.
+/// becomes. Where the frame before it shows the last scene, is as large, and the nodes hang and show as they did, its
+/// picture is edited: entries are made for the nodes that were measured anew, that stand elsewhere, or that are
+/// disabled where they weren't or the other way round.
 pub(crate) fn made_of<L: Ledgers>(
     alloc: Global,
     scene: SceneLists,
@@ -96,10 +96,28 @@ pub(crate) fn made_of<L: Ledgers>(
     ensures styled { OnOk result (work.new.styled ≤ work.old.styled + length scene.styles) }
     ensures laid { OnOk result (work.new.laid ≤ work.old.laid + 7 * length scene.boxes) }
 {
+    let past = Past {
+        frame: frame_since(past.frame, kept.boxes(), scene.boxes.as_slice()),
+        picture: past.picture,
+    };
     let brought = kept.update(alloc, scene.scene(), window, work)?;
     let made = made_by(alloc, scene.scene(), brought, kept, past, gone)?;
     kept.keep(scene);
     Ok(made)
+}
+
+/// The frame before, if these nodes are those that it showed and hang as they did.
+fn frame_since<'a>(
+    frame: Option<Before<'a>>,
+    olds: &[BoxFacts],
+    nodes: &[BoxFacts],
+) -> Option<Before<'a>>
+    ensures { IfSome result (λ before. (frame.entry ≡ Some before) × (parents olds.now ≡ parents nodes.now)) }
+{
+    if have_same_heads(olds, nodes) {
+        return frame;
+    }
+    None
 }
 
 /// The frame of a scene up to which all that is kept was brought.
@@ -142,7 +160,7 @@ fn made_by(
         entries: past.picture.entries.as_slice(),
         marks: brought.marks.as_slice(),
     };
-    let edits = can_be_edited(past.frame, width, height, notes.shown, last.marks);
+    let edits = can_be_edited(past.frame, width, height, notes.shown);
     let next = next_picture(alloc, laid, notes, last, edits, gone)?;
     let rects = Vec::from_slice(alloc, kept.rects())?;
     Ok(Made {
@@ -154,20 +172,13 @@ fn made_by(
     })
 }
 
-/// Can the picture be made by edits: is there a frame before it, as large as it, in which the same nodes show, and is
-/// there a node that isn't marked?
-fn can_be_edited(
-    before: Option<Before<'_>>,
-    width: u32,
-    height: u32,
-    shown: &[bool],
-    marks: &[bool],
-) -> bool
-    ensures { IsTrue result → IsEditable before.entry width height shown.now marks.now }
+/// Can the picture be made by edits: is there a frame before it, as large as it, in which the same nodes show?
+fn can_be_edited(before: Option<Before<'_>>, width: u32, height: u32, shown: &[bool]) -> bool
+    ensures { IsTrue result → IsEditable before.entry width height shown.now }
 {
     match before {
         None => false,
-        Some(frame) => is_like(frame, width, height, shown) && !are_all(marks),
+        Some(frame) => is_like(frame, width, height, shown),
     }
 }
 
@@ -182,12 +193,6 @@ fn are_same(flags: &[bool], others: &[bool]) -> bool
     ensures { IsTrue result ↔ (flags.now ≡ others.now) }
 {
     flags == others
-}
-
-fn are_all(marks: &[bool]) -> bool
-    ensures { result ≡ list_all (λ mark. mark) marks.now }
-{
-    marks.iter().all(|mark| *mark)
 }
 
 /// The next picture, by edits of the last one in the memory of entries that are gone, or whole.

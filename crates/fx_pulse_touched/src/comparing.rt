@@ -85,7 +85,7 @@ fn have_one_shape(last: Scene<'_>, scene: Scene<'_>) -> bool
 }
 
 /// Have both lists the same keys and parents?
-fn have_same_heads(olds: &[BoxFacts], nodes: &[BoxFacts]) -> bool
+pub fn have_same_heads(olds: &[BoxFacts], nodes: &[BoxFacts]) -> bool
     ensures { IsTrue result ↔ ((keys olds.now ≡ keys nodes.now) × (parents olds.now ≡ parents nodes.now)) }
 {
     olds.len() == nodes.len() && heads_are_same(olds, nodes)

@@ -6,6 +6,6 @@ mod comparing;
 mod marks;
 mod scenes;
 
-pub use comparing::{Touched, is_same_scene, touched_since};
+pub use comparing::{Touched, have_same_heads, is_same_scene, touched_since};
 pub use marks::{mark_again, marked_above, marked_below, marked_places};
 pub use scenes::{Scene, SceneLists};

@@ -31,6 +31,7 @@ next_picture-requires-clause-last c = λ is.
     c.as_slice.result.now c.as_slice-4.result.now c.as_slice-3.result.now
     (c.looks.ensures ∙ c.requires.looks)
     (c.can_be_edited-edits.ensures (subst IsTrue (sym is) refl))
+    since.hung
     (subst (λ olds. IfSome c.args.past.frame (λ b. (old : Scene) → since.last ≡ Some old
     → IsShownScene old olds b.shown.now)) (sym c.as_slice-3.ensures) since.shown)
     (subst (AreOthersMarked since.last scene) (sym c.as_slice-4.ensures.value) since.marked)

@@ -1,12 +1,36 @@
-use Rattle.std.proofs.Common.{subst, sym, ◌∙◌}
+use Rattle.std.proofs.Common.{ap, subst, sym, ◌∙◌}
 use Rattle.fx_layout.specs.Layouts.{IsLayout}
 use Rattle.fx_pulse_kept.specs.Costs.{AreFew}
 use Rattle.fx_pulse_model.specs.Frames.{IsFrame}
-use Rattle.fx_pulse_model.specs.Scenes.{Scene, looks_of}
-use Rattle.fx_pulse_touched.specs.Sights.{scene_of}
-use Rattle.fx_pulse.specs.Editing.{entries_after}
+use Rattle.fx_pulse_model.specs.Scenes.{IsScene, Scene, looks_of}
+use Rattle.fx_pulse_touched.specs.Sights.{scene_of, seen}
+use Rattle.fx_pulse.specs.Editing.{IsSince, entries_after}
+use Rattle.fx_pulse.proofs.LastLemmas.{hung_since, shown_since, size_since}
 use Rattle.fx_pulse.proofs.WorkLemmas.{laid_most, styled_most}
 use Rattle.fx_pulse.proofs.frames.made_of.Goals as goal
+
+pub made_by-requires-clause-since : goal.made_by-requires-clause-since
+made_by-requires-clause-since g c =
+    let kept = c.args.kept.now.last in
+    let olds = c.args.past.picture.now.entries in
+    subst (λ (s : Scene). IsSince c.frame_since.result olds s c.in_ok-brought.brought.marks.items)
+    (c.scene.ensures ∙ sym c.scene-2.ensures)
+    (record {
+      last = kept;
+      marked = c.in_ok-brought.ensures.marks;
+      hung = hung_since c.args.past.frame c.frame_since.result kept (seen c.scene.result)
+          (subst IsScene (sym c.scene.ensures) c.requires.scene) c.boxes.result.now c.as_slice.result.now
+          c.frame_since.ensures c.boxes.ensures
+          (c.as_slice.ensures ∙ ap (λ (s : Scene). s.boxes) (sym c.scene.ensures));
+      shown = shown_since c.args.past.frame c.frame_since.result kept olds c.boxes.result.now c.as_slice.result.now
+          c.frame_since.ensures c.requires.before;
+    })
+
+pub returns-clause-same_size : goal.returns-clause-same_size
+returns-clause-same_size g c =
+    let made = c.in_ok-made.made in
+    size_since c.args.past.frame c.frame_since.result made.width made.height made.next c.boxes.result.now
+    c.as_slice.result.now c.frame_since.ensures c.in_ok-made.ensures.same_size
 
 pub returns-clause-frame : goal.returns-clause-frame
 returns-clause-frame g c =

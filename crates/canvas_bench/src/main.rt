@@ -29,6 +29,10 @@ enum Task {
     Edits(Change),
 }
 
+/// The words for what is painted, or for which the damage is found.
+const TASKS: &str =
+    "white|fill|blend|letters|small-letters|tiny-letters|damage|edits|falling|falling-edits";
+
 /// How many columns and rows the window has.
 const SIDE: u32 = 1000;
 
@@ -58,9 +62,7 @@ fn main(rt: HostRuntime) -> anyhow::Result<()> {
     let mut words = env::args(&rt)?;
     let _program = words.next();
     let (Some(task), Some(rounds)) = (words.next(), words.next()) else {
-        bail!(
-            "usage: canvas_bench white|fill|blend|letters|small-letters|tiny-letters|damage|edits|falling|falling-edits ROUNDS [COUNT]"
-        );
+        bail!("usage: canvas_bench {} ROUNDS [COUNT]", TASKS);
     };
     let rounds = rounds.as_str().parse::<u32>()?;
     let count = match words.next() {

@@ -25,6 +25,7 @@ fn is_same_family(one: Family, other: Family) -> bool
     }
 }
 
+/// Are the kinds one?
 pub fn is_same_kind(one: Kind, other: Kind) -> bool
     ensures { result ≡ same_kind one other }
 {

@@ -7,11 +7,12 @@ ghost use Rattle.fx_scene_values.specs.Views.{scope_view};
 use crate::needs::{is_location, lacks_value};
 use fx_base::Kind;
 use fx_doc::Element;
+use fx_graph_refusals::refusals::is_same_kind;
 use fx_kinds::{Class, value_kind};
 use fx_scene_flaws::Flaw;
 use fx_scene_names::{class_named, is_instance, lacks_import};
 use fx_scene_outline::{has_attribute, is_define, is_include, is_reference, is_scene_node};
-use fx_scene_values::{Scope, is_same_kind};
+use fx_scene_values::Scope;
 
 /// What is wanted at a place.
 #[derive(Clone, Copy, Debug, PartialEq, Eq)]

@@ -3,7 +3,6 @@
 #![tactic(auto)]
 
 mod forms;
-mod kinds;
 mod properties;
 mod roles;
 mod scopes;
@@ -13,7 +12,6 @@ mod styles;
 mod values;
 
 pub use forms::{Form, form_of};
-pub use kinds::is_same_kind;
 pub use properties::{property_deed, property_given, property_named};
 pub use roles::{Role, role_of};
 pub use scopes::Scope;

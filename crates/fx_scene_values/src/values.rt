@@ -7,10 +7,10 @@ ghost use Rattle.fx_scene_values.specs.Values as spec;
 ghost use Rattle.fx_scene_values.specs.Views.{form_view, scope_view};
 
 use crate::forms::Form;
-use crate::kinds::is_same_kind;
 use crate::scopes::Scope;
 use crate::shown::{decimal, truth};
 use fx_base::{Kind, Str, Text, Value};
+use fx_graph_refusals::refusals::is_same_kind;
 use fx_scene_flaws::Flaw;
 use fx_scene_places::joined;
 use fx_scene_plan::PlannedProperty;

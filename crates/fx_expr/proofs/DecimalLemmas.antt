@@ -87,12 +87,12 @@ pub fraction_pass : (text : List ℕ) → list_all is_ascii_digit (fraction_digi
 fraction_pass text = (elim (has_fraction text) as (λ b. list_all is_ascii_digit (cond b (front is_ascii_digit (drop 1 text)) []) ≡ true) [ true ↦ front-passes is_ascii_digit (drop 1 text) | false ↦ refl ])
 
 -- one digit more
-pub digit_more : (n m g r i : ℕ) (ds : List ℕ) (x known : ℕ) → i < length ds → x ≡ get_or ds i x
+pub digit_more : (n m g r i : ℕ) (ds : List ℕ) (x known : ℕ) → i < length ds → x ≡ get_or ds i 0
     → m ≡ min (n * 10) 18446744073709551615 → g ≡ x - 48 → r ≡ min (m + g) 18446744073709551615
     → min (number_behind n (drop i ds)) 18446744073709551615 ≡ known
     → min (number_behind r (drop (i + 1) ds)) 18446744073709551615 ≡ known
 digit_more n m g r i ds x known within is em eg er inv =
-    let cut : drop i ds ≡ x ∷ drop (suc i) ds = drop-cons ds i x within ∙ ap (λ y. y ∷ drop (suc i) ds) (sym is) in
+    let cut : drop i ds ≡ x ∷ drop (suc i) ds = drop-cons ds i 0 within ∙ ap (λ y. y ∷ drop (suc i) ds) (sym is) in
     let now : min (number_behind (n * 10 + (x - 48)) (drop (suc i) ds)) 18446744073709551615 ≡ known = rw cut at inv in
     let next : i + 1 ≡ suc i = omega arith in
     rw (next, er, em, eg) (number_capped 18446744073709551615 n x (drop (suc i) ds) ∙ now)

@@ -1,8 +1,7 @@
 -- The turns of the loops that read operands behind signs, quoted characters, names and tokens.
-use Rattle.std.proofs.Common.{◌≡◌, ◌≢◌, ◌<◌, ◌+◌, ◌-◌, ℕ, Bool, true, false, List, [], ◌∷◌, ◌++◌, zero, suc, length, drop, refl, ap, sym, ◌∙◌, arith, eqb, Option, None, Some, append_assoc}
+use Rattle.std.proofs.Common.{◌≡◌, ◌≢◌, ◌<◌, ◌+◌, ◌-◌, ℕ, true, false, List, [], ◌∷◌, ◌++◌, zero, suc, drop, refl, ap, sym, ◌∙◌, arith, Option, None, Some, append_assoc}
 use Rattle.std.specs.Prelude.{encode_utf8}
 use Rattle.std.proofs.lemmas.List.{append-nil}
-use Rattle.std.proofs.lemmas.Grind.{common_steps}
 use Rattle.fx_expr.specs.declared.tree.BinarySign.{BinarySign}
 use Rattle.fx_expr.specs.declared.tokens.Token.{Token}
 use Rattle.fx_expr.specs.declared.stops.Stop.{Stop}
@@ -10,34 +9,12 @@ use Rattle.fx_expr.specs.declared.stops.Stop.TheVariants as stop
 use Rattle.fx_expr.specs.Tree.{Tree, Two}
 use Rattle.fx_expr.specs.Spelling.{has_name}
 use Rattle.fx_expr.specs.Scanning.{quoted_at, with_front, character_at, end_at, names_at, with_names, name_at, tokens_of, with_tokens, token_at, after_white}
-use Rattle.fx_expr.specs.Reading.{Fails, more_of, level_over, operator_at}
+use Rattle.fx_expr.specs.Reading.{Fails, more_of, operator_at}
 
 -- what fails behind it fails
 pub fails_on : {X Y : Type 0} (e : Stop) (a : Option X) (b : Option Y) → Fails e a → (a ≡ None → b ≡ None) → Fails e b
 fails_on stop.Memory a b f g = tt
 fails_on stop.Refused a b f g = g f
-
-pub level_zero : (f : List Token → Option (Tree × List Token)) (m : ℕ) (ts : List Token) → m ≡ 0 → level_over f m ts ≡ f ts
-unfolding level_over
-level_zero f m ts e = rw e refl
-
-positive : (m : ℕ) → m ≢ 0 → m ≡ suc (m - 1)
-positive m n = omega (arith, n)
-
-more_at : (f : List Token → Option (Tree × List Token)) (k m : ℕ) (ts rest : List Token) (x : Tree) → m ≡ suc k → level_over f k ts ≡ Some (x, rest) → level_over f m ts ≡ more_of (level_over f k) m (length rest) x rest
-unfolding level_over
-more_at f k m ts rest x i e = rw (i, e) refl
-
-none_at : (f : List Token → Option (Tree × List Token)) (k m : ℕ) (ts : List Token) → m ≡ suc k → level_over f k ts ≡ None → level_over f m ts ≡ None
-unfolding level_over
-none_at f k m ts i e = rw (i, e) refl
-
-pub level_more : (f : List Token → Option (Tree × List Token)) (m : ℕ) (ts rest : List Token) (x : Tree) → m ≢ 0 → level_over f (m - 1) ts ≡ Some (x, rest)
-    → level_over f m ts ≡ more_of (level_over f (m - 1)) m (length rest) x rest
-level_more f m ts rest x n e = more_at f (m - 1) m ts rest x (positive m n) e
-
-pub level_none : (f : List Token → Option (Tree × List Token)) (m : ℕ) (ts : List Token) → m ≢ 0 → level_over f (m - 1) ts ≡ None → level_over f m ts ≡ None
-level_none f m ts n e = none_at f (m - 1) m ts (positive m n) e
 
 pub more_some : (f : List Token → Option (Tree × List Token)) (m k j : ℕ) (x y : Tree) (ts next rest : List Token) (sign : BinarySign) → k ≡ suc j
     → operator_at m ts ≡ Some (sign, next) → f next ≡ Some (y, rest) → more_of f m k x ts ≡ more_of f m j (Two sign x y) rest
@@ -136,15 +113,6 @@ pub tokens_left : (k : ℕ) (text : List ℕ) (so_far : List Token) (known : Opt
 unfolding tokens_of
 tokens_left k [] so_far known i n inv = absurd (n refl)
 tokens_left k (c ∷ cs) so_far known i n inv = sym (rw i at inv)
-
--- a slice with no items
-pub empty_is : (text : List ℕ) (b : Bool) → b ≡ eqb (length text) 0 → b ≡ true → text ≡ []
-empty_is [] b e h = refl
-empty_is (c ∷ cs) b e h = absurd (let x : b ≡ eqb (suc (length cs)) 0 = e in let y : eqb (suc (length cs)) 0 ≡ false = grind (arith, common_steps) in cc)
-
-pub empty_not : (text : List ℕ) (b : Bool) → b ≡ eqb (length text) 0 → b ≡ false → text ≢ []
-empty_not [] b e h n = let x : b ≡ true = e in cc
-empty_not (c ∷ cs) b e h n = cc
 
 -- how many turns are left
 pub turns_left : (n i : ℕ) → i < n → n - i ≡ suc (n - (i + 1))

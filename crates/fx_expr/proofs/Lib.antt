@@ -7,6 +7,9 @@ pub mod LevelSteps
 pub mod OperandLemmas
 pub mod Outcomes
 pub mod ReadingLemmas
+pub mod RiseLemmas
+pub mod RunLemmas
+pub mod ScanSteps
 pub mod SpellingLemmas
 pub mod TextLemmas
 pub mod WordLemmas

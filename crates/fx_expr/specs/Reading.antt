@@ -14,7 +14,7 @@ use Rattle.fx_expr.specs.declared.reading.ExprError.{ExprError}
 use Rattle.fx_expr.specs.declared.reading.ExprError.TheVariants as fault
 use Rattle.fx_expr.specs.Operands.{place_in, paths_in, once}
 use Rattle.fx_expr.specs.Tree.{Tree, tree, Leaf, Place, One, Two}
-use Rattle.fx_expr.specs.Grammar.{Spells, operator_of}
+use Rattle.fx_expr.specs.Grammar.{Spells, operator_of, strength}
 use Rattle.fx_expr.specs.Form.{has_form}
 use Rattle.fx_expr.specs.Scanning.{tokens_of, after_white}
 use Rattle.fx_expr.specs.Spelling.{IsSpelled}
@@ -31,6 +31,16 @@ Gives view (Err e) read = Fails e read
 abbrev pub operator_at : ℕ → List Token → Option (BinarySign × List Token)
 operator_at m [] = None
 operator_at m (t ∷ ts) = option_map (λ sign. (sign, ts)) (operator_of m t)
+
+-- the strength of the sign that stands here, or 0
+abbrev pub strength_at : List Token → ℕ
+strength_at [] = 0
+strength_at (Binary sign ∷ ts) = strength sign
+strength_at (Constant v ∷ ts) = 0
+strength_at (Path names ∷ ts) = 0
+strength_at (Opening ∷ ts) = 0
+strength_at (Closing ∷ ts) = 0
+strength_at (Exclamation ∷ ts) = 0
 
 abbrev pub on_operator : Option (BinarySign × List Token) → (BinarySign → List Token → Option (Tree × List Token))
     → Option (Tree × List Token) → Option (Tree × List Token)

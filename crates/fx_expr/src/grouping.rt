@@ -1,9 +1,9 @@
 //! The tree of tokens: signs group by their strength and to the left.
-ghost use Rattle.std.specs.Prelude.{◌≡◌, ◌<◌, ◌≤◌, ◌+◌, ◌*◌, IfOk, length};
+ghost use Rattle.std.specs.Prelude.{◌≡◌, ◌<◌, ◌≤◌, ◌+◌, ◌-◌, ◌*◌, IfOk, IfSome, IfNone, length};
 ghost use Rattle.std.specs.Option.{option_map};
 ghost use Rattle.fx_expr.specs.Tree.{tree, Two};
 ghost use Rattle.fx_expr.specs.Grammar.{strength};
-ghost use Rattle.fx_expr.specs.Reading.{Gives, operator_at, level_of, operand_of, whole_of, closed_by};
+ghost use Rattle.fx_expr.specs.Reading.{Gives, operator_at, level_of, more_of, operand_of, strength_at, whole_of, closed_by};
 
 use crate::paths::place_of;
 use crate::stops::Stop;
@@ -29,7 +29,7 @@ pub fn whole(alloc: Global, paths: &[List<Text>], tokens: &[Token]) -> Result<Ex
     }
 }
 
-/// Operands and signs of at most this strength, and what is behind them.
+/// Operands and signs of at most this strength, and what is behind them. A level without a sign is passed over.
 #[cycle(grouping)]
 fn level<'a>(
     alloc: Global,
@@ -40,13 +40,36 @@ fn level<'a>(
 ) -> Result<(Expr, &'a [Token]), Stop>
     ensures { Gives (λ p. (tree p.0, p.1.now)) result (level_of paths.now depth strength tokens.now) }
 {
-    if strength == 0 {
-        return operand(alloc, paths, depth, tokens);
-    }
-    let (first, behind) = level(alloc, paths, strength - 1, depth, tokens)?;
+    let (first, behind) = operand(alloc, paths, depth, tokens)?;
     let mut left = first;
     let mut rest = behind;
-    for _ in 0..behind.len() {
+    let mut done = 0usize;
+    while let Some(next) = next_strength(rest, done, strength) {
+        let (more, after) = more_operands(alloc, paths, next, depth, left, rest)?;
+        left = more;
+        rest = after;
+        done = next;
+    }
+    Ok((left, rest))
+}
+
+/// The operand on the left with those behind signs of this strength, and what is behind them.
+#[cycle(grouping)]
+fn more_operands<'a>(
+    alloc: Global,
+    paths: &[List<Text>],
+    strength: usize,
+    depth: usize,
+    first: Expr,
+    tokens: &'a [Token],
+) -> Result<(Expr, &'a [Token]), Stop>
+    requires { 0 < strength }
+    ensures { Gives (λ p. (tree p.0, p.1.now)) result
+        (more_of (level_of paths.now depth (strength - 1)) strength (length tokens.now) (tree first) tokens.now) }
+{
+    let mut left = first;
+    let mut rest = tokens;
+    for _ in 0..tokens.len() {
         match operator(strength, rest) {
             Some((sign, next)) => {
                 let (right, after) = level(alloc, paths, strength - 1, depth, next)?;
@@ -113,6 +136,28 @@ fn operator(strength: usize, tokens: &[Token]) -> Option<(BinarySign, &[Token])>
             None
         }
         _ => None,
+    }
+}
+
+/// The strength of the sign at the front, if it is more than one and at most the other.
+fn next_strength(tokens: &[Token], done: usize, most: usize) -> Option<usize>
+    ensures found { IfSome result (λ s. (strength_at tokens.now ≡ s) × (done < s) × (s ≤ most)) }
+    ensures none { IfNone result (done < strength_at tokens.now → strength_at tokens.now ≤ most → ⊥) }
+{
+    let next = strength_at(tokens);
+    if next <= done || most < next {
+        return None;
+    }
+    Some(next)
+}
+
+/// The strength of the sign at the front, or 0 where there is none.
+fn strength_at(tokens: &[Token]) -> usize
+    ensures { result ≡ strength_at tokens.now }
+{
+    match tokens {
+        [Token::Binary(sign), ..] => strength_of(*sign),
+        _ => 0,
     }
 }
 

@@ -6,6 +6,7 @@ mod counting;
 mod decimals;
 mod filling;
 mod form;
+mod fronts;
 mod grouping;
 mod meaning;
 mod paths;

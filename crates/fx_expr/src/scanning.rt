@@ -1,96 +1,67 @@
 //! The tokens of a text.
-ghost use Rattle.std.specs.Prelude.{◌≡◌, ◌<◌, ◌≤◌, length, IfOk, option_and_then, ◌++◌};
-ghost use Rattle.std.specs.List.{prefix_len};
+ghost use Rattle.std.specs.Prelude.{◌≡◌, ◌<◌, ◌≤◌, ◌++◌, ◌∷◌, length, option_and_then};
 ghost use Rattle.std.specs.Option.{option_map};
 ghost use Rattle.std.specs.Str.{chars};
 ghost use Rattle.std.specs.String.{string_bytes};
-ghost use Rattle.fx_text.specs.Classes.{is_white, is_quote};
+ghost use Rattle.fx_text.specs.Classes.{is_quote};
 ghost use Rattle.fx_expr.specs.Scanning as spec;
 ghost use Rattle.fx_expr.specs.Reading.{Gives};
 
 use crate::decimals::{is_digit, number};
+use crate::fronts::{character_count, first, past_white};
 use crate::signs::sign;
 use crate::stops::Stop;
 use crate::tokens::Token;
 use crate::words::{is_letter, word};
 use fx_base::{Text, Value};
-use std::alloc::{AllocError, Global};
+use std::alloc::Global;
+
+/// Room for the tokens of most expressions.
+const ROOM: usize = 8;
 
 /// The tokens that the text is written in.
 pub fn scan(alloc: Global, text: &str) -> Result<Vec<Token>, Stop>
     ensures { Gives (λ tokens. tokens.items) result
         (spec.tokens_of (length (chars text.now)) (spec.after_white (chars text.now))) }
 {
-    let characters = characters(alloc, text)?;
-    tokens(alloc, characters.as_slice())
-}
-
-fn characters(alloc: Global, text: &str) -> Result<Vec<char>, AllocError>
-    ensures { IfOk result (λ all. all.items ≡ chars text.now) }
-{
-    text.chars().collect(alloc)
-}
-
-fn tokens(alloc: Global, text: &[char]) -> Result<Vec<Token>, Stop>
-    ensures { Gives (λ tokens. tokens.items) result (spec.tokens_of (length text.now) (spec.after_white text.now)) }
-{
-    let mut tokens = Vec::new(alloc);
+    let mut tokens = Vec::with_capacity(alloc, ROOM)?;
     let mut rest = past_white(text);
-    for _ in 0..text.len() {
-        if rest.is_empty() {
-            return Ok(tokens);
-        }
-        let (next, behind) = token(alloc, rest)?;
-        tokens.push(next)?;
-        rest = past_white(behind);
-    }
-    if rest.is_empty() {
-        Ok(tokens)
-    } else {
-        Err(Stop::Refused)
-    }
-}
-
-fn past_white(text: &[char]) -> &[char]
-    ensures { result.now ≡ spec.after_white text.now }
-{
-    let (_, rest) = text.split_at(white_count(text));
-    rest
-}
-
-/// How much white stands in front of the text?
-fn white_count(text: &[char]) -> usize
-    ensures count { result ≡ prefix_len is_white text.now }
-    ensures within { result ≤ length text.now }
-{
-    text.iter().take_while(|c| is_white(**c)).count()
-}
-
-fn is_white(c: char) -> bool
-    ensures { result ≡ is_white c }
-{
-    matches!(c, ' ' | '\t' | '\n' | '\r')
-}
-
-#[tactic(auto, unfolding(crate::specs::Scanning::token_at))]
-fn token<'a>(alloc: Global, text: &'a [char]) -> Result<(Token, &'a [char]), Stop>
-    ensures { Gives (λ p. (p.0, p.1.now)) result (spec.token_at text.now) }
-{
-    match text {
-        [] => Err(Stop::Refused),
-        [first, behind @ ..] => {
-            if is_digit(*first) {
-                return Ok(number(text));
+    for _ in 0..character_count(text) {
+        match first(rest) {
+            None => return Ok(tokens),
+            Some((c, behind)) => {
+                let (next, after) = token(alloc, rest, c, behind)?;
+                tokens.push(next)?;
+                rest = past_white(after);
             }
-            if is_quote(*first) {
-                return quoted_token(alloc, *first, behind);
-            }
-            if is_letter(*first) {
-                return word(alloc, text);
-            }
-            sign(text).ok_or(Stop::Refused)
         }
     }
+    match first(rest) {
+        None => Ok(tokens),
+        Some(_) => Err(Stop::Refused),
+    }
+}
+
+/// The token at the front of the text, which begins with this character, and what is behind it.
+fn token<'a>(
+    alloc: Global,
+    text: &'a str,
+    first: char,
+    behind: &'a str,
+) -> Result<(Token, &'a str), Stop>
+    requires { chars text.now ≡ first ∷ chars behind.now }
+    ensures { Gives (λ p. (p.0, chars p.1.now)) result (spec.token_at (chars text.now)) }
+{
+    if is_digit(first) {
+        return Ok(number(text));
+    }
+    if is_quote(first) {
+        return quoted_token(alloc, first, behind);
+    }
+    if is_letter(first) {
+        return word(alloc, text);
+    }
+    sign(first, behind).ok_or(Stop::Refused)
 }
 
 fn is_quote(c: char) -> bool
@@ -99,13 +70,9 @@ fn is_quote(c: char) -> bool
     matches!(c, '"' | '\'')
 }
 
-fn quoted_token<'a>(
-    alloc: Global,
-    quote: char,
-    text: &'a [char],
-) -> Result<(Token, &'a [char]), Stop>
-    ensures { Gives (λ p. (p.0, p.1.now)) result
-        (option_and_then spec.text_token (spec.quoted_at (length text.now) quote text.now)) }
+fn quoted_token<'a>(alloc: Global, quote: char, text: &'a str) -> Result<(Token, &'a str), Stop>
+    ensures { Gives (λ p. (p.0, chars p.1.now)) result
+        (option_and_then spec.text_token (spec.quoted_at (length (chars text.now)) quote (chars text.now))) }
 {
     let (content, rest) = quoted(alloc, quote, text)?;
     match Text::from_string(content) {
@@ -115,12 +82,13 @@ fn quoted_token<'a>(
 }
 
 /// The text that is written up to the quote, and what is behind it.
-fn quoted<'a>(alloc: Global, quote: char, text: &'a [char]) -> Result<(String, &'a [char]), Stop>
-    ensures { Gives (λ p. (string_bytes p.0, p.1.now)) result (spec.quoted_at (length text.now) quote text.now) }
+fn quoted<'a>(alloc: Global, quote: char, text: &'a str) -> Result<(String, &'a str), Stop>
+    ensures { Gives (λ p. (string_bytes p.0, chars p.1.now)) result
+        (spec.quoted_at (length (chars text.now)) quote (chars text.now)) }
 {
     let mut content = String::new(alloc);
     let mut rest = text;
-    for _ in 0..text.len() {
+    for _ in 0..character_count(text) {
         match character(quote, rest) {
             Some((c, behind)) => {
                 content.push(c)?;
@@ -132,40 +100,31 @@ fn quoted<'a>(alloc: Global, quote: char, text: &'a [char]) -> Result<(String, &
     end(quote, content, rest)
 }
 
-fn character(quote: char, text: &[char]) -> Option<(char, &[char])>
-    ensures { option_map (λ p. (p.0, p.1.now)) result ≡ spec.character_at quote text.now }
+/// The next character of a quoted text, and what is behind it.
+fn character(quote: char, text: &str) -> Option<(char, &str)>
+    ensures { option_map (λ p. (p.0, chars p.1.now)) result ≡ spec.character_at quote (chars text.now) }
 {
-    match text {
-        [] => None,
-        [c] => {
-            if *c == quote || *c == '\\' {
-                return None;
-            }
-            Some((*c, &[]))
-        }
-        [c, d, rest @ ..] => {
-            if *c == quote {
-                return None;
-            }
-            if *c == '\\' {
-                return Some((*d, rest));
-            }
-            Some((*c, &text[1..]))
-        }
+    let (c, behind) = first(text)?;
+    if c == quote {
+        return None;
     }
+    if c == '\\' {
+        return first(behind);
+    }
+    Some((c, behind))
 }
 
-fn end<'a>(quote: char, content: String, text: &'a [char]) -> Result<(String, &'a [char]), Stop>
-    ensures { Gives (λ p. (string_bytes p.0, p.1.now)) result
-        (spec.with_front (string_bytes content) (spec.end_at quote text.now)) }
+fn end<'a>(quote: char, content: String, text: &'a str) -> Result<(String, &'a str), Stop>
+    ensures { Gives (λ p. (string_bytes p.0, chars p.1.now)) result
+        (spec.with_front (string_bytes content) (spec.end_at quote (chars text.now))) }
 {
-    match text {
-        [c, rest @ ..] => {
-            if *c == quote {
+    match first(text) {
+        Some((c, rest)) => {
+            if c == quote {
                 return Ok((content, rest));
             }
             Err(Stop::Refused)
         }
-        [] => Err(Stop::Refused),
+        None => Err(Stop::Refused),
     }
 }

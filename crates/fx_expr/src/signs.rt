@@ -1,45 +1,41 @@
 //! The signs of expressions.
-ghost use Rattle.std.specs.Prelude.{◌≡◌};
+ghost use Rattle.std.specs.Prelude.{◌≡◌, ◌∷◌};
 ghost use Rattle.std.specs.Option.{option_map};
-ghost use Rattle.fx_expr.specs.declared.tokens.Token.{Token as Piece};
+ghost use Rattle.std.specs.Str.{chars};
 ghost use Rattle.fx_expr.specs.Spelling.{double_sign, single_sign};
 ghost use Rattle.fx_expr.specs.Scanning.{sign_at, sign_of_one, sign_of_two};
 
+use crate::fronts::first;
 use crate::tokens::Token;
 use crate::tree::BinarySign;
 
-/// The longest sign at the front of the text, and what is behind it.
-pub fn sign(text: &[char]) -> Option<(Token, &[char])>
-    ensures { option_map (λ p. (p.0, p.1.now)) result ≡ sign_at text.now }
+/// The longest sign that begins with this character before the text, and what is behind it.
+pub fn sign(a: char, behind: &str) -> Option<(Token, &str)>
+    ensures { option_map (λ p. (p.0, chars p.1.now)) result ≡ sign_at (a ∷ chars behind.now) }
 {
-    match two_characters(text) {
+    match two_characters(a, behind) {
         Some(found) => Some(found),
-        None => one_character(text),
+        None => one_character(a, behind),
     }
 }
 
-fn two_characters(text: &[char]) -> Option<(Token, &[char])>
-    ensures { option_map (λ p. (p.0, p.1.now)) result ≡ sign_of_two text.now }
+fn two_characters(a: char, behind: &str) -> Option<(Token, &str)>
+    ensures { option_map (λ p. (p.0, chars p.1.now)) result ≡ sign_of_two (a ∷ chars behind.now) }
 {
-    match text {
-        [a, b, rest @ ..] => {
-            let sign = double(*a, *b)?;
+    match first(behind) {
+        Some((b, rest)) => {
+            let sign = double(a, b)?;
             Some((Token::Binary(sign), rest))
         }
-        _ => None,
+        None => None,
     }
 }
 
-fn one_character(text: &[char]) -> Option<(Token, &[char])>
-    ensures { option_map (λ p. (p.0, p.1.now)) result ≡ sign_of_one text.now }
+fn one_character(a: char, behind: &str) -> Option<(Token, &str)>
+    ensures { option_map (λ p. (p.0, chars p.1.now)) result ≡ sign_of_one (a ∷ chars behind.now) }
 {
-    match text {
-        [a, rest @ ..] => {
-            let token = single(*a)?;
-            Some((token, rest))
-        }
-        [] => None,
-    }
+    let token = single(a)?;
+    Some((token, behind))
 }
 
 fn double(a: char, b: char) -> Option<BinarySign>

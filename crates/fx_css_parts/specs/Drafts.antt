@@ -33,6 +33,10 @@ with_names n ps = record {
 abbrev pub names_of : NameLists → List Part → Option NameLists
 names_of n ps = if list_all is_part ps then Some (with_names n ps) else None
 
+-- what it became, if there was one more
+abbrev pub with_one : {A : Type 0} → Bool → A → Option A
+with_one more x = if more then Some x else None
+
 abbrev pub no_names : NameLists
 no_names = record { classes = []; ids = []; pseudos = [] }
 

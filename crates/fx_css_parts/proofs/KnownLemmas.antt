@@ -1,5 +1,5 @@
 -- A text that begins with the name of a style declaration and `:`, behind white, is read as a declaration of that name.
-use Rattle.std.proofs.Common.{◌≡◌, ℕ, ◌+◌, ◌-◌, ◌≤◌, ◌<◌, Bool, true, false, ◌&&◌, cond, List, [], ◌∷◌, ◌++◌, length, take, drop, slice_index_or, append_assoc, append-nil, Option, Some, None, refl, sym, ap, ◌∙◌, subst, arith}
+use Rattle.std.proofs.Common.{◌≡◌, ℕ, ◌+◌, ◌-◌, ◌≤◌, Bool, true, false, ◌&&◌, cond, List, [], ◌∷◌, ◌++◌, length, take, drop, slice_index_or, append_assoc, append-nil, Option, Some, None, refl, sym, ap, ◌∙◌, arith}
 use Rattle.std.specs.List.{list_all}
 use Rattle.std.specs.Option.{option_map}
 use Rattle.std.specs.Str.{bytes_eq}
@@ -11,7 +11,6 @@ use Rattle.std.proofs.lemmas.Slice.Eq.{bytes_eq-Decides}
 use Rattle.fx_look.specs.Styles.{StyleRow, styles}
 use Rattle.fx_look.specs.StyleRows.{style_at, style_named, style_row}
 use Rattle.fx_look.specs.declared.styles.StyleForm.TheVariants as form
-use Rattle.fx_look.specs.declared.styles.StyleName.{StyleName}
 use Rattle.fx_look.proofs.StyleLemmas.{style_found}
 use Rattle.fx_look.proofs.TableLemmas.{all_at, passes_at}
 use Rattle.fx_text.specs.Classes.{is_white}

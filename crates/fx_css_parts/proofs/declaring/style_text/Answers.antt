@@ -1,5 +1,5 @@
 -- a name of few bytes has few characters
-use Rattle.std.proofs.Common.{ℕ, ◌<◌, Err, length, ap, ◌∙◌, arith}
+use Rattle.std.proofs.Common.{◌<◌, Err, length, ap, ◌∙◌, arith}
 use Rattle.std.specs.Str.{chars}
 use Rattle.fx_base.proofs.TextLemmas.{length-chars-le}
 use Rattle.fx_css_parts.proofs.declaring.style_text.Goals as goal

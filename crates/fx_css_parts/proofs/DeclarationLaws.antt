@@ -201,7 +201,7 @@ white_no_colon c e = grind (arith, nat_tests, e)
 later_no_colon : (c : ℕ) → is_later c ≡ true → not_colon c ≡ true
 later_no_colon c e = grind (arith, nat_tests, e)
 
-name_no_colon : (before inner : List ℕ) → IsTrimmed before inner → is_ident inner ≡ true → list_all not_colon before ≡ true
+pub name_no_colon : (before inner : List ℕ) → IsTrimmed before inner → is_ident inner ≡ true → list_all not_colon before ≡ true
 name_no_colon before inner t i =
     ap (list_all not_colon) t.parts
     ∙ all_append not_colon t.before (inner ++ t.after) (all_more is_white not_colon white_no_colon t.before t.white_before)

@@ -36,3 +36,9 @@ declares text before after c value name row r b a e n d past h p =
     ap with_row r ∙ ap (λ y. Some (record { declaration = declaration name d; past = y })) p
     ∙ ap (λ y. option_map (λ d. record { declaration = d; past = past_in_value (form_of name) (length before + 1) value }) (option_map (declaration name) y)) h
     ∙ named_is text before after c value name b a e n
+
+pub named_fails : (text before after : List ℕ) (c : ℕ) (value name : List ℕ) → before ≡ front not_colon text → after ≡ behind not_colon text → after ≡ c ∷ value → Some name ≡ ident_at (trimmed before)
+    → None ≡ declared_at (form_of name) (trimmed value) → None ≡ declaration_at text
+named_fails text before after c value name b a e n h =
+    ap (λ y. option_map (λ d. record { declaration = d; past = past_in_value (form_of name) (length before + 1) value }) (option_map (declaration name) y)) h
+    ∙ named_is text before after c value name b a e n

@@ -7,4 +7,5 @@ pub mod SelectorLaws
 pub mod DeclarationLaws
 pub mod PastSelectorLaws
 pub mod PastLayerLaws
+pub mod KnownLemmas
 pub mod Bounds

@@ -6,11 +6,11 @@ use Rattle.std.proofs.lemmas.Bool.{and_from}
 use Rattle.std.proofs.lemmas.Bool.Decides.{nat_tests}
 use Rattle.fx_css_types.specs.declared.selectors.Combinator.{Combinator}
 use Rattle.fx_css_types.specs.declared.selectors.Compound.{Compound}
-use Rattle.fx_text.proofs.FrontLemmas.{behind_stops, then_gives}
+use Rattle.fx_text.proofs.FrontLemmas.{behind_stops, map_gives, then_gives}
 use Rattle.fx_css_parts.specs.Texts.{is_ident, ident_at}
 use Rattle.fx_css_parts.specs.Selecting.{Part, is_sign, is_part, not_sign, parts_at, names_behind, compound, with_parts, kind_at, is_gap, not_gap, links_at, link_at, linked_at, combinator_at, compound_at, selector, selector_at}
 use Rattle.fx_css_parts.specs.declared.compounds.Names.{Names}
-use Rattle.fx_css_parts.specs.Drafts.{NameLists, name_lists, no_names, with_names, names_of}
+use Rattle.fx_css_parts.specs.Drafts.{NameLists, name_lists, no_names, with_one, with_names, names_of}
 use Rattle.fx_text.specs.Fronts.{front, behind, stops}
 
 -- fronts
@@ -82,6 +82,13 @@ names_turn n m c cs name rest s i e r =
     ∙ ap (λ y. names_of n (p ∷ parts_at y)) r
     ∙ ap (λ y. names_of n ((record { sign = c; name = y }) ∷ parts_at (behind not_sign cs))) (sym same)
     ∙ ap (λ y. names_of n y) (sym (parts_first c cs sign))
+
+pub named_turn : (n m : NameLists) (c : ℕ) (cs word rest : List ℕ) (named : Bool) → named ≡ true → stops not_sign (c ∷ cs) ≡ true → word ≡ front not_sign cs
+    → with_one named m ≡ option_map (λ name. with_names n ((record { sign = c; name = name }) ∷ [])) (ident_at word) → rest ≡ behind not_sign cs → names_of m (parts_at rest) ≡ names_of n (parts_at (c ∷ cs))
+named_turn n m c cs word rest false f s w e r = absurd (cc)
+named_turn n m c cs word rest true f s w e r =
+    let found = map_gives (λ name. with_names n ((record { sign = c; name = name }) ∷ [])) (ident_at word) m (sym e) in
+    names_turn n m c cs found.0 rest s (sym (ap ident_at (sym w) ∙ found.1)) (sym found.2) r
 
 -- compounds
 

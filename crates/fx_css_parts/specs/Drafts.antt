@@ -1,12 +1,14 @@
 -- A compound as far as it is read, and how far the parts of a text are cut and counted.
-use Rattle.std.specs.Prelude.{ℕ, ◌+◌, ◌-◌, Bool, not, ◌&&◌, ◌||◌, true, false, ◌==◌, nat_le, if◌then◌else◌, List, [], ◌++◌, length, Option, Some, None, slice_get}
+use Rattle.std.specs.Prelude.{◌≡◌, ℕ, ◌+◌, ◌-◌, Bool, not, ◌&&◌, ◌||◌, true, false, ◌==◌, nat_le, if◌then◌else◌, List, [], ◌∷◌, ◌++◌, length, Option, Some, None, slice_get}
 use Rattle.std.specs.List.{list_all, find}
-use Rattle.std.specs.Option.{option_map}
+use Rattle.std.specs.Option.{option_map, unwrap_or}
 use Rattle.fx_text.specs.Characters.{colon, comma, full_stop, left_parenthesis, number_sign}
+use Rattle.fx_look.specs.StyleRows.{style_at, style_row}
 use Rattle.fx_css_types.specs.declared.selectors.Selector.{Selector}
 use Rattle.fx_css_parts.specs.declared.compounds.Names.{Names}
 use Rattle.fx_css_parts.specs.declared.limits.Count.{Count}
 use Rattle.fx_css_parts.specs.declared.limits.LayerCount.{LayerCount}
+use Rattle.fx_css_parts.specs.declared.naming.Known.{Known}
 use Rattle.fx_css_parts.specs.Layers.{separates, depth_behind}
 use Rattle.fx_css_parts.specs.Selecting.{Part, is_part, names_behind, is_gap}
 use Rattle.fx_css_parts.specs.Limits.{starts, is_past, layer_starts}
@@ -30,6 +32,10 @@ with_names n ps = record {
 -- the names of parts behind those that are read
 abbrev pub names_of : NameLists → List Part → Option NameLists
 names_of n ps = if list_all is_part ps then Some (with_names n ps) else None
+
+-- what it became, if there was one more
+abbrev pub with_one : {A : Type 0} → Bool → A → Option A
+with_one more x = if more then Some x else None
 
 abbrev pub no_names : NameLists
 no_names = record { classes = []; ids = []; pseudos = [] }
@@ -66,3 +72,12 @@ is_short s = nat_le (length s.compounds) 16
 
 abbrev pub are_few : List Selector → Bool
 are_few selectors = nat_le (length selectors) 64 && list_all is_short selectors
+
+-- the text begins with the name and `:` of this style declaration, and the value is behind them
+pub record IsKnown (text : List ℕ) (known : Known) : Type 0 where
+  pub row : style_at known.row.0 ≡ Some (style_row known.style.now)
+  pub parts : text ≡ known.style.now.name.now ++ (colon ∷ known.value.now)
+
+-- the second letter is as one of the style declarations has it
+abbrev pub may_be_style : List ℕ → Bool
+may_be_style name = (unwrap_or (slice_get name 1) 0 == 102) || (unwrap_or (slice_get name 1) 0 == 105)

@@ -4,10 +4,11 @@ ghost use Rattle.std.specs.Prelude.{◌≡◌, ◌≤◌, ◌++◌, IfOk, OnOk, 
 ghost use Rattle.std.specs.List.{prefix_len};
 ghost use Rattle.std.specs.Option.{option_map};
 ghost use Rattle.fx_css_parts.specs.Selecting.{is_sign, not_sign, is_any, kind_at, parts_at, compound_at};
-ghost use Rattle.fx_css_parts.specs.Drafts.{name_lists, with_names, names_of, no_names};
+ghost use Rattle.fx_css_parts.specs.Drafts.{name_lists, with_one, with_names, names_of, no_names};
+ghost use Rattle.fx_css_parts.specs.Texts.{ident_at};
 ghost use Rattle.fx_text.specs.Fronts.{front, behind, stops};
 
-use crate::texts::read_ident;
+use crate::texts::{is_ident, read_ident};
 use fx_base::{List, Text};
 use fx_css_types::{Combinator, Compound};
 use std::alloc::{AllocError, Global};
@@ -31,18 +32,30 @@ impl Names {
         }
     }
 
-    fn push(&mut self, sign: u8, name: Text) -> Result<(), AllocError>
-        ensures { OnOk result (name_lists self.new
-            ≡ with_names (name_lists self.old) ((record { sign = sign; name = name }) ∷ [])) }
+    /// Puts the word behind the names of its sign. Is it a name?
+    fn push(&mut self, alloc: Global, sign: u8, word: &[u8]) -> Result<bool, AllocError>
+        ensures { IfOk result (λ named. with_one named (name_lists self.new) ≡ option_map
+            (λ name. with_names (name_lists self.old) ((record { sign = sign; name = name }) ∷ [])) (ident_at word.now)) }
     {
         match sign {
-            b'.' => push_name(&mut self.classes, name)?,
-            b'#' => push_name(&mut self.ids, name)?,
-            b':' => push_name(&mut self.pseudos, name)?,
-            _ => {}
+            b'.' => push_word(alloc, &mut self.classes, word),
+            b'#' => push_word(alloc, &mut self.ids, word),
+            b':' => push_word(alloc, &mut self.pseudos, word),
+            _ => Ok(is_ident(word)),
         }
-        Ok(())
     }
+}
+
+/// Puts the word behind the names. Is it a name?
+fn push_word(alloc: Global, names: &mut Vec<Text>, word: &[u8]) -> Result<bool, AllocError>
+    ensures { IfOk result (λ named. with_one named names.new.items
+        ≡ option_map (λ name. names.old.items ++ (name ∷ [])) (ident_at word.now)) }
+{
+    let Some(name) = read_ident(alloc, word)? else {
+        return Ok(false);
+    };
+    push_name(names, name)?;
+    Ok(true)
 }
 
 /// Puts a name behind the others. The first is given room for itself alone, since few compounds have more.
@@ -119,10 +132,10 @@ fn read_names(alloc: Global, text: &[u8]) -> Result<Option<Names>, AllocError>
     let mut rest = text;
     while let Some((sign, behind)) = rest.split_first() {
         let (word, others) = split_word(behind);
-        let Some(name) = read_ident(alloc, word)? else {
+        let named = names.push(alloc, *sign, word)?;
+        if !named {
             return Ok(None);
-        };
-        names.push(*sign, name)?;
+        }
         rest = others;
     }
     Ok(Some(names))

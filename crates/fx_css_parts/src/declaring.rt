@@ -4,21 +4,71 @@ ghost use Rattle.std.specs.Prelude.{◌≡◌, ◌+◌, ◌≤◌, IfOk, length}
 ghost use Rattle.std.specs.List.{prefix_len};
 ghost use Rattle.fx_css_parts.specs.Declaring.{not_colon};
 ghost use Rattle.fx_css_parts.specs.Parts.{declaration_at};
+ghost use Rattle.fx_css_parts.specs.Drafts.{IsKnown};
+ghost use Rattle.fx_text.specs.Trimming.{trim_front};
 ghost use Rattle.fx_text.specs.Fronts.{front, behind};
 ghost use Rattle.fx_css_types.specs.Limits.{form_at};
 
 use crate::ReadDeclaration;
 use crate::limits::past_in_value;
-use crate::naming::row_named;
+use crate::naming::{Known, known_front, row_named};
 use crate::texts::read_ident;
 use crate::values::read_declared;
+use fx_base::{Text, TextError};
 use fx_css_types::Declaration;
 use fx_look::{StyleForm, StyleName};
-use fx_text::trimmed;
+use fx_text::{trim_front, trimmed};
 use std::alloc::{AllocError, Global};
 
 /// The declaration that the text spells, or none where it is bad.
 pub fn read_declaration(alloc: Global, text: &[u8]) -> Result<Option<ReadDeclaration>, AllocError>
+    ensures { IfOk result (λ o. o ≡ declaration_at text.now) }
+{
+    match known_front(trim_front(text)) {
+        Some(known) => read_known(alloc, text, known),
+        None => read_named(alloc, text),
+    }
+}
+
+/// The style declaration that the text spells, whose name is known.
+fn read_known(
+    alloc: Global,
+    text: &[u8],
+    known: Known<'_>,
+) -> Result<Option<ReadDeclaration>, AllocError>
+    requires { IsKnown (trim_front text.now) known }
+    ensures { IfOk result (λ o. o ≡ declaration_at text.now) }
+{
+    let Known { row, style, value } = known;
+    let form = Some(style.form);
+    let Some(declared) = read_declared(alloc, form, trimmed(value))? else {
+        return Ok(None);
+    };
+    let past = past_in_value(&declared, form, text.len() - value.len(), value);
+    Ok(Some(ReadDeclaration {
+        declaration: Declaration {
+            name: style_text(alloc, style.name)?,
+            row: Some(row),
+            value: declared,
+        },
+        past,
+    }))
+}
+
+/// The text of a style declaration's name.
+fn style_text(alloc: Global, name: &str) -> Result<Text, AllocError>
+    requires { length name.now ≤ 4096 }
+    ensures { IfOk result (λ text. text ≡ name.now) }
+{
+    match Text::from_str(alloc, name) {
+        Ok(text) => Ok(text),
+        Err(TextError::Memory) => Err(AllocError),
+        Err(TextError::TooLong) => unreachable!(),
+    }
+}
+
+/// The declaration that the text spells, of any name.
+fn read_named(alloc: Global, text: &[u8]) -> Result<Option<ReadDeclaration>, AllocError>
     ensures { IfOk result (λ o. o ≡ declaration_at text.now) }
 {
     let (before, after) = split_name(text);

@@ -5,7 +5,7 @@ use Rattle.fx_css_parts.specs.Limits.{past_in_value}
 use Rattle.fx_css_parts.proofs.DeclarationLemmas.{declares}
 use Rattle.fx_text.specs.Trimming.{trimmed}
 use Rattle.fx_css_types.specs.Limits.{form_at, form_of, row_of}
-use Rattle.fx_css_parts.proofs.declaring.read_declaration.Goals as goal
+use Rattle.fx_css_parts.proofs.declaring.read_named.Goals as goal
 
 pub returns : goal.returns
 returns c =

@@ -10,3 +10,4 @@ pub mod Whole
 pub mod Carried
 pub mod Keying
 pub mod Tagging
+pub mod Signing

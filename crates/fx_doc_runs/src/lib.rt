@@ -13,6 +13,7 @@ mod levels;
 mod light;
 mod modes;
 mod runs;
+mod signs;
 
 pub use absorbing::shown;
 pub use document::{Attribute, Content, DocError, Document, Element};

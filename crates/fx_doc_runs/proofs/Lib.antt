@@ -2,7 +2,6 @@ pub mod Trees
 pub mod Names
 pub mod Stacks
 pub mod Shorts
-pub mod Lights
 pub mod Calm
 pub mod Firsts
 pub mod Flowing

@@ -51,22 +51,16 @@ fn reference_ahead(entity: Entity, text: &str, most: usize) -> Option<(char, &st
     }
 }
 
-/// The text behind the signs with which a comment goes on behind its `<`.
-fn comment_begun(text: &str) -> Option<&str>
-    ensures { IfSome result (λ left. text.now ≡ 33 ∷ (45 ∷ (45 ∷ left.now))) }
+/// The text behind these three bytes, if it begins with them.
+fn behind_three(text: &str, first: u8, second: u8, third: u8) -> Option<&str>
+    requires first { first < 128 }
+    requires second { second < 128 }
+    requires third { third < 128 }
+    ensures { IfSome result (λ left. text.now ≡ first ∷ (second ∷ (third ∷ left.now))) }
 {
-    let rest = behind_byte(text, b'!')?;
-    let rest = behind_byte(rest, b'-')?;
-    behind_byte(rest, b'-')
-}
-
-/// The text behind the end of a comment.
-fn comment_ended(text: &str) -> Option<&str>
-    ensures { IfSome result (λ left. text.now ≡ 45 ∷ (45 ∷ (62 ∷ left.now))) }
-{
-    let rest = behind_byte(text, b'-')?;
-    let rest = behind_byte(rest, b'-')?;
-    behind_byte(rest, b'>')
+    let rest = behind_byte(text, first)?;
+    let rest = behind_byte(rest, second)?;
+    behind_byte(rest, third)
 }
 
 impl Reader {
@@ -84,7 +78,7 @@ impl Reader {
         let Some(behind) = behind_byte(rest, b'<') else {
             return self.take_reference(position, rest);
         };
-        if let Some(left) = comment_begun(behind) {
+        if let Some(left) = behind_three(behind, b'!', b'-', b'-') {
             self.mode = Mode::Commented;
             return Ok(left);
         }
@@ -188,7 +182,7 @@ impl Reader {
         ensures { (p : Position) → TookFlat rest.now p (view self.old) result.now (view self.new) }
     {
         let (_, left) = run_ahead(rest, b'-', b'-', rest.len());
-        match comment_ended(left) {
+        match behind_three(left, b'-', b'-', b'>') {
             Some(behind) => {
                 self.mode = Mode::Inside;
                 behind

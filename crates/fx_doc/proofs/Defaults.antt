@@ -4,9 +4,8 @@ pub use Rattle.fx_doc_runs.proofs.Calm.{quoted_rest}
 use Rattle.std.proofs.Common.{◌≡◌, ◌≢◌, ℕ, Bool, true, List, [], ◌∷◌, ◌++◌, refl, ap, ◌∙◌, ◌||◌, ◌+◌, length, length-append, arith}
 use lib.Dec.{ltb}
 use Rattle.fx_doc_grammar.specs.Characters.{in_name}
-use Rattle.fx_doc_grammar.specs.Grammar.{Head, is_quote}
-use Rattle.fx_doc_grammar.specs.Machine.{Held, at, some_if, is_open, with_sign, Inside, Instructing, Naming, Keyed, in_inside, in_instructing, in_naming, in_keyed, in_quoted, in_value}
-use Rattle.fx_doc_grammar.specs.declared.Quote.{Quote}
+use Rattle.fx_doc_grammar.specs.Grammar.{Head}
+use Rattle.fx_doc_grammar.specs.Machine.{Held, at, some_if, is_open, with_sign, Inside, Instructing, Naming, Keyed, in_inside, in_instructing, in_naming, in_keyed}
 use Rattle.fx_base.specs.declared.positions.Position.{Position}
 use Rattle.fx_doc_grammar.specs.declared.Class.{Class}
 use Rattle.fx_doc_grammar.specs.declared.Class.TheVariants.{White, Less, Greater, Slash, Equals, Question, Ampersand}

@@ -1,6 +1,6 @@
 -- How many elements are open, and steps past a limit.
 -- Below the answers on one character.
-use Rattle.std.proofs.Common.{◌≡◌, ℕ, ◌+◌, ◌<◌, ◌≤◌, [], ◌∷◌, suc, length, refl, sym, ◌∙◌, ap, subst, arith, Bool, true, false, ◌&&◌, Option, Some, None, List}
+use Rattle.std.proofs.Common.{◌≡◌, ℕ, ◌<◌, ◌≤◌, length, refl, sym, ◌∙◌, ap, subst, arith, Bool, true, false, ◌&&◌, Option, Some, None}
 use lib.Dec.{leb}
 use Rattle.fx_base.specs.declared.positions.Position.{Position}
 use Rattle.fx_doc_grammar.specs.Machine.{is_deep, is_naming, State, is_long}

@@ -1,12 +1,12 @@
 -- A loop over the characters of a text: what has come so far, the character at hand, and the rest; and what a turn gives.
 -- Below the answers on the reader's loop.
-use Rattle.std.proofs.Common.{◌≡◌, ℕ, ◌+◌, ◌<◌, ◌≤◌, ◌^◌, Bool, true, false, List, [], ◌∷◌, ◌++◌, suc, map, length, take, drop, get_or, drop-cons, refl, sym, ◌∙◌, ap, subst, arith, Some, None, Result, Ok, Err}
+use Rattle.std.proofs.Common.{◌≡◌, ℕ, ◌+◌, ◌<◌, ◌≤◌, ◌^◌, true, List, [], ◌∷◌, ◌++◌, suc, map, length, take, drop, get_or, drop-cons, sym, ◌∙◌, ap, subst, arith, Some, None, Result, Ok, Err}
 use Rattle.std.proofs.lemmas.List.{take-append-drop, map-id}
 use Rattle.std.specs.Result.{IsErrAnd}
 use lib.Dec.{leb}
 use Rattle.fx_base.specs.Positions.{start, after_all}
 use Rattle.fx_doc_grammar.specs.Grammar.{Spells}
-use Rattle.fx_doc_grammar.specs.Machine.{Mode, Naming, initial, run, answer, is_long, stack_depth}
+use Rattle.fx_doc_grammar.specs.Machine.{Mode, Naming, initial, run, answer, stack_depth}
 use Rattle.fx_doc_grammar.specs.Beginnings.{IsWithinLimits, IsStopped}
 use Rattle.fx_doc_grammar.proofs.Advance.{sound}
 use Rattle.fx_doc_grammar.proofs.Roots.{line_bound, column_bound}

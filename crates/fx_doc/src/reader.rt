@@ -38,9 +38,6 @@ fn step(alloc: Global, reader: &mut Reader, position: Position, c: char) -> Resu
     if reader.absorb(position, c)? {
         return Ok(true);
     }
-    if reader.step_lightly(position, c) {
-        return Ok(true);
-    }
     let mode = mem::replace(&mut reader.mode, Mode::Ended);
     match moved(alloc, &mut reader.held, mode, position, c)? {
         Some(mode) => {

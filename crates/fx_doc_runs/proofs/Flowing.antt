@@ -150,7 +150,7 @@ leveled imports st l = record { held = record { imports = imports; stack = st; l
 few : (n : ℕ) → n ≤ 4096 → ltb 4096 n ≡ false
 few n h = grind arith
 
-low_flat : (c : ℕ) → is_flat c ≡ true → c < 128
+pub low_flat : (c : ℕ) → is_flat c ≡ true → c < 128
 low_flat c e = grind (arith, e)
 
 none_more : (n : ℕ) → n ≡ n + 0

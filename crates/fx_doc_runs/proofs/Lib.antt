@@ -2,7 +2,6 @@ pub mod Trees
 pub mod Names
 pub mod Stacks
 pub mod Shorts
-pub mod Lights
 pub mod Calm
 pub mod Firsts
 pub mod Flowing
@@ -10,3 +9,4 @@ pub mod Whole
 pub mod Carried
 pub mod Keying
 pub mod Tagging
+pub mod Signing

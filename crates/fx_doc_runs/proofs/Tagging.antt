@@ -1,6 +1,6 @@
 -- Tags: the name behind a `<`, and the end of a tag, as the reader takes them.
 -- Above the lemmas on runs; the reader's answers cite these.
-use Rattle.std.proofs.Common.{◌≡◌, ℕ, ◌+◌, ◌≤◌, Bool, true, false, ◌&&◌, ◌==◌, List, [], ◌∷◌, ◌++◌, drop, Some, length, refl, sym, ◌∙◌, ap, subst, append_assoc, append-nil, length-append, arith}
+use Rattle.std.proofs.Common.{◌≡◌, ℕ, ◌+◌, ◌≤◌, Bool, true, false, ◌&&◌, ◌==◌, List, [], ◌∷◌, ◌++◌, Some, length, refl, sym, ◌∙◌, ap, subst, append_assoc, append-nil, length-append, arith}
 use lib.Dec.{leb, ltb}
 use Rattle.std.specs.List.{list_all}
 use Rattle.fx_base.specs.Positions.{after}
@@ -11,10 +11,10 @@ use Rattle.fx_doc_grammar.specs.Machine.{State, Held as HeldView, Inside, Openin
 use Rattle.fx_doc_grammar.specs.declared.Class.{Class}
 use Rattle.fx_doc_grammar.specs.declared.Class.TheVariants.{Letter, Digit, Dash}
 use Rattle.fx_doc_grammar.proofs.Marks.{as_state}
-use Rattle.fx_doc_drafts.specs.Ahead.{is_flat, is_gap, is_named, begins_name}
+use Rattle.fx_doc_drafts.specs.Ahead.{is_gap, is_named, begins_name}
 use Rattle.fx_doc_runs.specs.Reached.{Calm, TookFlat, IsRun}
 use Rattle.fx_doc_runs.specs.Keys.{IsNameAhead}
-use Rattle.fx_doc_runs.specs.Views.{bare_head, head_view, held_view, inside_view, mode_view, open_name, stack_view, view}
+use Rattle.fx_doc_runs.specs.Views.{bare_head, head_view, held_view, inside_view, mode_view, stack_view, view}
 use Rattle.fx_doc_runs.specs.declared.modes.Head.{Head}
 use Rattle.fx_doc_runs.specs.declared.modes.Held.{Held}
 use Rattle.fx_doc_runs.specs.declared.modes.Mode.{Mode}
@@ -24,7 +24,6 @@ use Rattle.fx_doc_runs.proofs.Calm.{one_calm, short_or, if_fresh}
 use Rattle.fx_doc_runs.proofs.Flowing.{gap_class, gap_all_flat, spaced_calm}
 use Rattle.fx_doc_runs.proofs.Whole.{all_flat, named_flat}
 use Rattle.fx_doc_runs.proofs.Shorts.{not_past, level_short}
-use Rattle.fx_doc_runs.proofs.Stacks.{byte_none}
 use Rattle.fx_doc_runs.proofs.Carried.{in_mode}
 
 both : (a b : Bool) → (a && b) ≡ true → (a ≡ true) × (b ≡ true)
@@ -101,16 +100,6 @@ opened_calm h q (c ∷ cs) rest s p l d m b n f w =
     one_calm p (as_state h (Opening q)) (as_state h (Naming q (c ∷ []))) c (cs ++ rest) s (begins_on h q c (class_of c) b m) d (short_or 1 (level_long h) one l)
     (naming_calm h q l d cs (c ∷ []) (c ∷ cs) rest s (after p c) refl a.1 f w)
 
-pub name_took : (h : HeldView) (q : Position) (text name rest : List ℕ) (p : Position) → level_long h ≡ false → leb 128 (stack_depth h.stack) ≡ false → may_begin h ≡ true → IsNameAhead text name rest
-    → TookFlat text p (as_state h (Opening q)) rest (as_state h (Naming q name))
-name_took h q text name rest p l d m a = record {
-  part = name;
-  split = a.split;
-  flat = ap (list_all is_flat) (sym (append-nil name)) ∙ all_flat is_named named_flat name [] a.named refl;
-  calm = subst (λ (y : List ℕ). Calm p (as_state h (Opening q)) y (as_state h (Naming q name))) (append-nil name)
-      (opened_calm h q name [] (as_state h (Naming q name)) p l d m a.begins a.named a.short (λ t. refl));
-}
-
 named_white : (h : HeldView) (q : Position) (name gap : List ℕ) (p : Position) → (gap ≡ [] → ⊥) → level_long h ≡ false → list_all is_gap gap ≡ true → Calm p (as_state h (Naming q name)) gap (as_state h (Spaced (bare_head q name)))
 named_white h q name [] p n l e = absurd (n refl)
 named_white h q name (c ∷ cs) p n l e =
@@ -135,18 +124,10 @@ same_code c = grind arith
 ending_on : (h : HeldView) (c : ℕ) (rest : List ℕ) → in_ending (c ∷ rest) h c (class_of c) ≡ Some (as_state h (Ending rest))
 ending_on h c rest = if_fresh (c == c) (at h (Ending rest)) (same_code c)
 
-ending_calm : (h : HeldView) (name : List ℕ) (p : Position) → level_long h ≡ false → Calm p (as_state h (Ending name)) name (as_state h (Ending []))
+pub ending_calm : (h : HeldView) (name : List ℕ) (p : Position) → level_long h ≡ false → Calm p (as_state h (Ending name)) name (as_state h (Ending []))
 ending_calm h [] p l = refl
 ending_calm h (c ∷ cs) p l =
     one_calm p (as_state h (Ending (c ∷ cs))) (as_state h (Ending cs)) c cs (as_state h (Ending [])) (ending_on h c cs) refl l (ending_calm h cs (after p c) l)
-
-pub ending_took : (h : HeldView) (text name rest : List ℕ) (p : Position) → level_long h ≡ false → IsNameAhead text name rest → TookFlat text p (as_state h (Ending name)) rest (as_state h (Ending []))
-ending_took h text name rest p l a = record {
-  part = name;
-  split = a.split;
-  flat = ap (list_all is_flat) (sym (append-nil name)) ∙ all_flat is_named named_flat name [] a.named refl;
-  calm = ending_calm h name p l;
-}
 
 -- over the reader's own values ---------------------------------------------------------------------
 
@@ -168,23 +149,5 @@ open_taken r m n b g text rest p f k i w s =
     (subst (λ (y : Mode). TookFlat text p (in_mode r y) rest (inside_view g)) (sym (sym f ∙ k))
     (open_took (held_view r.held) (held_view g) (head_view b) text rest p (not_past g.level.run.count g.level.run.short) w s))
 
-shallow : (n : ℕ) → ltb n 128 ≡ true → leb 128 n ≡ false
+pub shallow : (n : ℕ) → ltb n 128 ≡ true → leb 128 n ≡ false
 shallow n e = grind (arith, e)
-
-pub tag_taken : (r : Reader) (q : Position) (h : Head) (text name rest gap left key : List ℕ) (p : Position) → r.mode ≡ v.Opening q → ltb (stack_depth (stack_view r.held.stack.items)) 128 ≡ true → may_begin (held_view r.held) ≡ true
-    → IsNameAhead text name rest → IsRun is_gap rest gap left → (gap ≡ [] → ⊥) → key ≡ name → head_view h ≡ bare_head q key → TookFlat text p (view r) left (in_mode r (v.Spaced h))
-tag_taken r q h text name rest gap left key p e d m a g n k w =
-    let s : bare_head q name ≡ head_view h = sym (w ∙ ap (bare_head q) k) in
-    subst (λ (y : Mode). TookFlat text p (in_mode r y) left (in_mode r (v.Spaced h))) (sym e)
-    (subst (λ (y : HeadView). TookFlat text p (as_state (held_view r.held) (Opening q)) left (as_state (held_view r.held) (Spaced y))) s
-    (tag_took (held_view r.held) q text name rest gap left p (level_short r) (shallow (stack_depth (stack_view r.held.stack.items)) d) m a g n))
-
-pub ending_taken : (r : Reader) (n m : ℕ) (text name rest : List ℕ) (p : Position) → r.mode ≡ v.Ending n → n ≡ 0 → IsNameAhead text name rest → open_name (stack_view r.held.stack.items) ≡ name → m ≡ length name
-    → TookFlat text p (view r) rest (in_mode r (v.Ending m))
-ending_taken r n m text name rest p e z a o l =
-    let s : name ≡ drop n (open_name (stack_view r.held.stack.items)) = sym (ap (λ i. drop i (open_name (stack_view r.held.stack.items))) z ∙ o) in
-    let t : [] ≡ drop m (open_name (stack_view r.held.stack.items)) = sym (byte_none (open_name (stack_view r.held.stack.items)) name m o (omega (arith, l))) in
-    subst (λ (y : Mode). TookFlat text p (in_mode r y) rest (in_mode r (v.Ending m))) (sym e)
-    (subst (λ (y : List ℕ). TookFlat text p (as_state (held_view r.held) (Ending y)) rest (in_mode r (v.Ending m))) s
-    (subst (λ (y : List ℕ). TookFlat text p (as_state (held_view r.held) (Ending name)) rest (as_state (held_view r.held) (Ending y))) t
-    (ending_took (held_view r.held) text name rest p (level_short r) a)))

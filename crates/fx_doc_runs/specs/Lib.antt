@@ -4,3 +4,4 @@ pub mod Taking
 pub mod Reached
 pub mod Light
 pub mod Keys
+pub mod References

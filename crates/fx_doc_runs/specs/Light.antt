@@ -1,25 +1,18 @@
--- Modes that hold nothing but a position, as contracts see them.
+-- Modes of comments, which hold nothing, as contracts see them.
 -- The reader's own steps cite these; no public clause does.
 use Rattle.std.specs.Prelude.{◌≡◌, ℕ, Bool, true, false, List, ◌∷◌, drop, Option, Some, None}
 use Rattle.fx_doc_grammar.specs.declared.Entity.{Entity}
-use Rattle.fx_doc_grammar.specs.declared.Entity.TheVariants.{Begun}
 use Rattle.fx_doc_grammar.specs.declared.Turn.TheVariants.{Further}
 use Rattle.fx_doc_grammar.specs.Machine as m
-use Rattle.fx_doc_runs.specs.Views.{open_name}
 use Rattle.fx_doc_runs.specs.declared.light.Light.{Light}
 use Rattle.fx_doc_runs.specs.declared.light.Light.TheVariants as v
 
 abbrev pub light_view : m.Stack → Light → m.Mode
 light_view s v.Inside = m.Inside
-light_view s (v.Referring p) = m.Referring p Begun
-light_view s (v.Opening p) = m.Opening p
-light_view s v.Banged = m.Banged
 light_view s v.BangDashed = m.BangDashed
 light_view s v.Commented = m.Commented
 light_view s v.Dashed = m.Dashed
 light_view s v.DashDashed = m.DashDashed
-light_view s v.Asked = m.Asked
-light_view s v.Ending = m.Ending (open_name s)
 
 -- the machine goes on in such a mode, or not at all
 abbrev pub light_state : m.Held → m.Stack → Option Light → Option m.State

@@ -1,6 +1,6 @@
 //! What stands ahead of the reader, taken whole: a text, a value, an attribute, a name, the end of a tag, or the inside
 //! of a comment or of an instruction. Every other character, and every fault, is left to the reader's steps.
-ghost use Rattle.std.specs.Prelude.{◌≡◌, ◌+◌, ◌<◌, ◌^◌, length, IfOk, IfErr};
+ghost use Rattle.std.specs.Prelude.{◌≡◌, ◌+◌, ◌<◌, ◌≤◌, ◌^◌, length, IfOk, IfErr};
 ghost use Rattle.fx_doc_runs.specs.Reached.{TookFlat};
 ghost use Rattle.fx_doc_runs.specs.Views.{view};
 ghost use Rattle.fx_doc_runs.specs.declared.document.DocError.TheVariants as fault;
@@ -8,10 +8,9 @@ ghost use Rattle.fx_doc_runs.specs.declared.modes.Mode.TheVariants as kind;
 ghost use Rattle.fx_base.specs.declared.positions.Position.{Position};
 
 use crate::document::DocError;
-use crate::keys::name_ahead;
-use crate::modes::{Head, Mode, Reader};
+use crate::modes::{Mode, Reader};
 use crate::runs::{along, gap_ahead, run_ahead};
-use fx_base::{Position, Text};
+use fx_base::Position;
 use fx_doc_drafts::{attribute_ahead, behind_byte};
 use std::alloc::Global;
 use std::mem;
@@ -29,13 +28,8 @@ impl Reader {
         ensures memory { IfErr result (λ e. e ≡ fault.Memory) }
     {
         match &self.mode {
-            Mode::Inside => self.take_text(position, rest),
-            Mode::Opening(_) => self.take_name(alloc, rest),
-            Mode::Ending(_) => self.take_end_name(rest),
-            Mode::Commented => {
-                let (_, left) = run_ahead(rest, b'-', b'-', rest.len());
-                Ok(left)
-            }
+            Mode::Inside => self.take_inside(alloc, position, rest),
+            Mode::Commented => Ok(self.take_comment(rest)),
             Mode::Instructed(_, _) => self.take_instruction(rest),
             Mode::Quoted(_) => self.take_value(rest),
             Mode::Tight(_) => self.take_further(alloc, position, rest),
@@ -48,12 +42,31 @@ impl Reader {
         }
     }
 
+    /// Takes the text of an element that stands ahead, or white outside the elements, and what begins behind it.
+    fn take_inside<'a>(
+        &mut self,
+        alloc: Global,
+        position: Position,
+        rest: &'a str,
+    ) -> Result<&'a str, DocError>
+        requires inside { self.old.mode ≡ kind.Inside }
+        requires column { position.column + length rest.now < 2 ^ 32 }
+        ensures took { IfOk result (λ left. TookFlat rest.now position (view self.old) left.now (view self.new)) }
+        ensures memory { IfErr result (λ e. e ≡ fault.Memory) }
+    {
+        let left = self.take_text(position, rest)?;
+        let position = along(position, rest.len() - left.len());
+        self.take_sign(alloc, position, left)
+    }
+
     /// Takes the text of an element that stands ahead, or white outside the elements.
     fn take_text<'a>(&mut self, position: Position, rest: &'a str) -> Result<&'a str, DocError>
         requires inside { self.old.mode ≡ kind.Inside }
         requires column { position.column + length rest.now < 2 ^ 32 }
         ensures took { IfOk result (λ left. TookFlat rest.now position (view self.old) left.now (view self.new)) }
         ensures memory { IfErr result (λ e. e ≡ fault.Memory) }
+        ensures inside { self.new.mode ≡ kind.Inside }
+        ensures shorter { IfOk result (λ left. length left.now ≤ length rest.now) }
     {
         match self.held.take_text(position, rest) {
             Ok(left) => Ok(left),
@@ -168,58 +181,6 @@ impl Reader {
             Ok(()) => Ok(behind),
             Err(_) => Err(DocError::Memory),
         }
-    }
-
-    /// Takes the name of an element that begins, and white behind it.
-    fn take_name<'a>(&mut self, alloc: Global, rest: &'a str) -> Result<&'a str, DocError>
-        ensures took { (p : Position) → IfOk result (λ left. TookFlat rest.now p (view self.old) left.now
-            (view self.new)) }
-        ensures memory { IfErr result (λ e. e ≡ fault.Memory) }
-    {
-        let Mode::Opening(at) = &self.mode else {
-            return Ok(rest);
-        };
-        let at = *at;
-        if !self.held.has_depth() {
-            return Ok(rest);
-        }
-        if !self.held.may_begin() {
-            return Ok(rest);
-        }
-        let Some((name, behind)) = name_ahead(rest) else {
-            return Ok(rest);
-        };
-        let (gap, left) = gap_ahead(behind);
-        if gap.is_empty() {
-            return Ok(rest);
-        }
-        let Ok(name) = Text::from_str(alloc, name) else {
-            return Err(DocError::Memory);
-        };
-        self.mode = Mode::Spaced(Head::named(alloc, at, name));
-        Ok(left)
-    }
-
-    /// Takes the name of an end tag.
-    fn take_end_name<'a>(&mut self, rest: &'a str) -> Result<&'a str, DocError>
-        ensures took { (p : Position) → IfOk result (λ left. TookFlat rest.now p (view self.old) left.now
-            (view self.new)) }
-        ensures memory { IfErr result (λ e. e ≡ fault.Memory) }
-    {
-        let Mode::Ending(at) = &self.mode else {
-            return Ok(rest);
-        };
-        if *at != 0 {
-            return Ok(rest);
-        }
-        let Some((name, behind)) = name_ahead(rest) else {
-            return Ok(rest);
-        };
-        if !self.held.is_open_name(name) {
-            return Ok(rest);
-        }
-        self.mode = Mode::Ending(name.len());
-        Ok(behind)
     }
 
     /// Takes the attribute that stands ahead, if it is written as most are, and gives the text behind it.

@@ -1,5 +1,5 @@
 //! What the reader of documents holds between two characters, the tree that it makes, and what it takes in place: runs
-//! of characters, attributes, and steps that move nothing.
+//! of characters, tags, attributes, references, and steps that only make a text longer.
 //! Each is what the machine of `fx_doc_grammar` does; every other step, and the loop over a text, is left to `fx_doc`.
 #![tactic(auto)]
 
@@ -13,6 +13,7 @@ mod levels;
 mod light;
 mod modes;
 mod runs;
+mod signs;
 
 pub use absorbing::shown;
 pub use document::{Attribute, Content, DocError, Document, Element};

@@ -105,11 +105,11 @@ impl Graph {
         if place >= MOST_NAMES {
             return Err(GraphError::Full);
         }
-        let kept = value.copy(alloc)?;
         let lists = &mut self.lists;
         room::reserve_two(&mut lists.entries, &mut lists.users)?;
         room::reserve_three(&mut lists.unread, &mut lists.spare, &mut lists.newly)?;
         room::reserve_three(&mut lists.cache, &mut lists.fresh, &mut lists.work)?;
+        let kept = value.copy(alloc)?;
         let entry = Entry {
             kind,
             read_only,

@@ -14,6 +14,7 @@ mod room;
 mod unbinding;
 
 ghost use Rattle.std.specs.Prelude.{ℕ, map, option_copied, ◌≡◌, ◌≢◌, AllPairs, IsOk, None, true, ◌+◌, ◌≤◌, ◌<◌, length, IfOk, IfErr, OnOk, OnErr, false};
+ghost use Rattle.std.specs.List.{list_any, range_with_len};
 ghost use Rattle.fx_base.specs.declared.keys.Name.{Name as Named};
 ghost use Rattle.fx_base.specs.declared.values.Value.{Value as Content};
 ghost use Rattle.fx_base.specs.Printing.{kind_of};
@@ -435,6 +436,13 @@ impl Graph {
         ensures { result ≡ marked self.now.unread name.0 }
     {
         asking::is_marked(self.lists.unread.as_slice(), name)
+    }
+
+    /// Whether any of so many properties from this one on may have changed since it was read.
+    pub fn is_any_unread(&self, first: Name, count: usize) -> bool
+        ensures { result ≡ list_any (marked self.now.unread) (range_with_len first.0 count) }
+    {
+        looking::is_one_unread(self.lists.unread.as_slice(), first, count)
     }
 
     /// Where the present definition of a known property came from.

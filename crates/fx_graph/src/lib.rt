@@ -23,7 +23,7 @@ ghost use Rattle.fx_base.specs.Names.{numbers};
 ghost use Rattle.fx_graph_model.specs.Uses.{Ranked, bound_in, unknown_in};
 ghost use Rattle.fx_graph_model.specs.Unread.{marked, IsClosed, bound_unread, evaluations, evaluations_of};
 ghost use Rattle.fx_graph_model.specs.Eager.{eager};
-ghost use Rattle.fx_graph_model.specs.Equality.{same_kind};
+ghost use Rattle.fx_graph_model.specs.Equality.{same_kind, same_value};
 ghost use Rattle.fx_graph_model.specs.Sound.{AreSound, IsAcyclic};
 ghost use Rattle.fx_graph_model.specs.Changes as changes;
 ghost use Rattle.fx_base.specs.Answers.{IsAnswer, IsFirmAnswer};
@@ -363,6 +363,14 @@ impl Graph {
         }
         forgetting::forget_names(&mut self.lists, names);
         Ok(())
+    }
+
+    /// Whether the property, which isn't bound, has this value. It stays as unread as it is.
+    pub fn has_value(&self, name: Name, value: &Value) -> bool
+        requires { bound_in self.now.entries name.0 ≡ false }
+        ensures { result ≡ same_value (eager self.now.entries name.0) value.now }
+    {
+        giving::has_value(self.lists.entries.as_slice(), name, value)
     }
 
     /// The value of a known property that isn't bound. It stays as unread as it is.

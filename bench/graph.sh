@@ -1,9 +1,9 @@
 #!/bin/bash
 # Counts the instructions that the property graph takes: for each name of a chain of 10,000 bound ones that is marked by a change and
 # evaluated by the read after it, for a read of a name that isn't unread, for each of 10,000 users that a change marks,
-# for a change that marks none of them, and for each name that a refused binding looks at; and for a binding that is taken, among
-# 1,000 and among 40,000 names that aren't bound. Then it goes to the limits of names and of operands, 4,000,000 and 1,000,000, and one
-# past each, and tells how that ended.
+# for a change that marks none of them, and for each name that a refused binding looks at; for a name that is declared; and for a
+# binding that is taken, among 1,000 and among 40,000 names that aren't bound. Then it goes to the limits of names and of
+# operands, 4,000,000 and 1,000,000, and one past each, and tells how that ended.
 # It builds crates/graph_bench with `rt run`, and needs valgrind.
 set -euo pipefail
 source "$(dirname "$0")/program.sh" graph_bench chain 1 0 0 0
@@ -26,6 +26,8 @@ awk -v chain="$chain" -v evaluated="$evaluated" -v read="$read" -v refused="$ref
     printf "marked               %.1f instructions a user\n", (marked - star) / 10000
     printf "set and read one     %.1f instructions under 10,000 users that are unread, %.1f under 10\n", (again - marked) / 1000, (few - few_once) / 1000
 }'
+declared=$(instructions apart 1000 0 0 0)
+echo "declared             $(per 39000 "$(instructions apart 40000 0 0 0)" "$declared") instructions a name"
 for names in 1000 40000; do
     apart=$(instructions apart "$names" 0 0 0)
     echo "bound                $(per 1000 "$(instructions apart "$names" 0 0 1000)" "$apart") instructions a binding, among $names"

@@ -1,6 +1,7 @@
 pub mod AllowedLemmas
 pub mod BindLemmas
 pub mod FinishLemmas
+pub mod FlagLemmas
 pub mod ForgetLemmas
 pub mod GivenLemmas
 pub mod LookLemmas

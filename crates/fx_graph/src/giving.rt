@@ -108,7 +108,7 @@ fn gives(definition: &Definition, value: &Value) -> bool
 }
 
 /// Whether the name, which isn't bound, has this value.
-fn has_value(entries: &[Entry], name: Name, value: &Value) -> bool
+pub fn has_value(entries: &[Entry], name: Name, value: &Value) -> bool
     requires { bound_in entries.now name.0 ≡ false }
     ensures { (f : ℕ → Content) → result
         ≡ same_value (value_of_definition f (entry_of entries.now name.0).definition) value.now }

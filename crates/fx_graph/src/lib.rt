@@ -14,6 +14,7 @@ mod room;
 mod unbinding;
 
 ghost use Rattle.std.specs.Prelude.{ℕ, map, option_copied, ◌≡◌, ◌≢◌, AllPairs, IsOk, None, true, ◌+◌, ◌≤◌, ◌<◌, length, IfOk, IfErr, OnOk, OnErr, false};
+ghost use Rattle.std.specs.List.{list_any, range_with_len};
 ghost use Rattle.fx_base.specs.declared.keys.Name.{Name as Named};
 ghost use Rattle.fx_base.specs.declared.values.Value.{Value as Content};
 ghost use Rattle.fx_base.specs.Printing.{kind_of};
@@ -22,7 +23,7 @@ ghost use Rattle.fx_base.specs.Names.{numbers};
 ghost use Rattle.fx_graph_model.specs.Uses.{Ranked, bound_in, unknown_in};
 ghost use Rattle.fx_graph_model.specs.Unread.{marked, IsClosed, bound_unread, evaluations, evaluations_of};
 ghost use Rattle.fx_graph_model.specs.Eager.{eager};
-ghost use Rattle.fx_graph_model.specs.Equality.{same_kind};
+ghost use Rattle.fx_graph_model.specs.Equality.{same_kind, same_value};
 ghost use Rattle.fx_graph_model.specs.Sound.{AreSound, IsAcyclic};
 ghost use Rattle.fx_graph_model.specs.Changes as changes;
 ghost use Rattle.fx_base.specs.Answers.{IsAnswer, IsFirmAnswer};
@@ -105,11 +106,11 @@ impl Graph {
         if place >= MOST_NAMES {
             return Err(GraphError::Full);
         }
-        let kept = value.copy(alloc)?;
         let lists = &mut self.lists;
         room::reserve_two(&mut lists.entries, &mut lists.users)?;
         room::reserve_three(&mut lists.unread, &mut lists.spare, &mut lists.newly)?;
         room::reserve_three(&mut lists.cache, &mut lists.fresh, &mut lists.work)?;
+        let kept = value.copy(alloc)?;
         let entry = Entry {
             kind,
             read_only,
@@ -364,6 +365,14 @@ impl Graph {
         Ok(())
     }
 
+    /// Whether the property, which isn't bound, has this value. It stays as unread as it is.
+    pub fn has_value(&self, name: Name, value: &Value) -> bool
+        requires { bound_in self.now.entries name.0 ≡ false }
+        ensures { result ≡ same_value (eager self.now.entries name.0) value.now }
+    {
+        giving::has_value(self.lists.entries.as_slice(), name, value)
+    }
+
     /// The value of a known property that isn't bound. It stays as unread as it is.
     pub fn own_value(&self, alloc: Global, name: Name) -> Result<Value, AllocError>
         requires known { unknown_in self.now.entries name.0 ≡ false }
@@ -435,6 +444,13 @@ impl Graph {
         ensures { result ≡ marked self.now.unread name.0 }
     {
         asking::is_marked(self.lists.unread.as_slice(), name)
+    }
+
+    /// Whether any of so many properties from this one on may have changed since it was read.
+    pub fn is_any_unread(&self, first: Name, count: usize) -> bool
+        ensures { result ≡ list_any (marked self.now.unread) (range_with_len first.0 count) }
+    {
+        looking::is_one_unread(self.lists.unread.as_slice(), first, count)
     }
 
     /// Where the present definition of a known property came from.

@@ -1,6 +1,7 @@
 //! Several names at once: read one after another, or looked at, so that all stay as unread as they were. And one name,
 //! whose value is lent where it isn't unread.
-ghost use Rattle.std.specs.Prelude.{ℕ, ◌≡◌, ◌≤◌, ◌<◌, ◌+◌, true, false, Contains, length, map, option_copied, IfOk, OnOk, if◌then◌else◌};
+ghost use Rattle.std.specs.Prelude.{ℕ, ◌≡◌, ◌≤◌, ◌<◌, ◌+◌, true, false, Contains, length, map, take, option_copied, IfOk, OnOk, if◌then◌else◌};
+ghost use Rattle.std.specs.List.{list_any, range_with_len};
 ghost use Rattle.fx_base.specs.Names.{numbers};
 ghost use Rattle.fx_graph_model.specs.Eager.{eager};
 ghost use Rattle.fx_graph_model.specs.Unread.{marked, evaluations_of};
@@ -138,4 +139,27 @@ fn is_any_unread(names: &[Name], unread: &[bool]) -> bool
         }
     }
     false
+}
+
+/// Whether one of the first so many flags is set.
+fn is_one_set(flags: &[bool], count: usize) -> bool
+    ensures { result ≡ list_any (λ flag. flag) (take count flags.now) }
+{
+    if count >= flags.len() {
+        return flags.contains(&true);
+    }
+    let (asked, _) = flags.split_at(count);
+    asked.contains(&true)
+}
+
+/// Whether any of so many names from this one on is unread.
+pub fn is_one_unread(unread: &[bool], first: Name, count: usize) -> bool
+    ensures { result ≡ list_any (marked unread.now) (range_with_len first.0 count) }
+{
+    let from = first.0 as usize;
+    if from >= unread.len() {
+        return false;
+    }
+    let (_, rest) = unread.split_at(from);
+    is_one_set(rest, count)
 }

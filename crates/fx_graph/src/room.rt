@@ -4,6 +4,7 @@ ghost use Rattle.std.specs.Prelude.{◌≡◌, ◌<◌, ◌++◌, ◌∷◌, [],
 
 use std::alloc::AllocError;
 
+#[inline]
 pub fn reserve_two<A, B>(first: &mut Vec<A>, second: &mut Vec<B>) -> Result<(), AllocError>
     ensures first_items { first.new.items ≡ first.old.items }
     ensures second_items { second.new.items ≡ second.old.items }
@@ -14,6 +15,7 @@ pub fn reserve_two<A, B>(first: &mut Vec<A>, second: &mut Vec<B>) -> Result<(), 
     second.reserve(1)
 }
 
+#[inline]
 pub fn reserve_three<A, B, C>(
     first: &mut Vec<A>,
     second: &mut Vec<B>,
@@ -30,23 +32,14 @@ pub fn reserve_three<A, B, C>(
     third.reserve(1)
 }
 
-/// Pushes where there is room.
-pub fn push_reserved<T: Drop>(items: &mut Vec<T>, item: T)
-    requires { vec_len items.old < vec_capacity items.old }
-    ensures { items.new.items ≡ items.old.items ++ item ∷ [] }
-{
-    match items.push(item) {
-        Ok(()) => {}
-        Err(_) => unreachable!(),
-    }
-}
-
-pub fn push_two<A: Drop, B: Drop>(first: &mut Vec<A>, a: A, second: &mut Vec<B>, b: B)
+/// Pushes to both, where there is room.
+#[inline]
+pub fn push_two<A, B>(first: &mut Vec<A>, a: A, second: &mut Vec<B>, b: B)
     requires first_room { vec_len first.old < vec_capacity first.old }
     requires second_room { vec_len second.old < vec_capacity second.old }
     ensures first_items { first.new.items ≡ first.old.items ++ a ∷ [] }
     ensures second_items { second.new.items ≡ second.old.items ++ b ∷ [] }
 {
-    push_reserved(first, a);
-    push_reserved(second, b);
+    first.push_reserved(a);
+    second.push_reserved(b);
 }

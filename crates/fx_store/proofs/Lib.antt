@@ -1,3 +1,4 @@
+pub mod AgainLemmas
 pub mod Answering
 pub mod EndLemmas
 pub mod Ending

@@ -39,7 +39,7 @@ quiet_before change stored quiet =
     ap (λ names. with_unread (after_marking now.entries names now.unread) now) quiet
     ∙ ap (λ flags. with_unread flags now) (marking_none now.entries now.unread)
 
-quiet_tells : (change : Change) (stored : Stored) (notices : Notices) → IsQuiet change stored
+pub quiet_tells : (change : Change) (stored : Stored) (notices : Notices) → IsQuiet change stored
     → changed_notices stored.entries (made change stored).entries (made change stored).listeners ≡ []
     → notices.added ≡ added_by change stored → notices.invalid ≡ [] → notices.changed ≡ [] → Tells change stored notices
 quiet_tells change stored notices quiet same added invalid changed =

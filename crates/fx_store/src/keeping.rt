@@ -1,24 +1,29 @@
-//! Changes that make no property unread: the end of a binding, of a pair or of a name, and listeners that come and go.
-//! Each is made in one step; then every watched property is read, where an earlier want of memory left one unread.
-ghost use Rattle.std.specs.Prelude.{◌≡◌, ◌≢◌, ◌≤◌, ◌+◌, [], ◌∷◌, false, filter, not, Err, IfErr, IfOk, None, OnErr, OnOk};
+//! Changes that make no property unread: the end of a binding, of a pair or of a name, listeners that come and go, and a
+//! property that is set to the value that it has. Each is made in one step; then every watched property is read, where an
+//! earlier want of memory left one unread.
+ghost use Rattle.std.specs.Prelude.{ℕ, ◌≡◌, ◌≢◌, ◌≤◌, ◌+◌, [], ◌∷◌, false, filter, not, true, Err, IfErr, IfOk, None, OnErr, OnOk};
 ghost use Rattle.fx_handles.specs.Living.{IsSound};
 ghost use Rattle.fx_listen.specs.declared.entries.Listener.{Listener as Heard};
 ghost use Rattle.fx_listen.specs.Listening.{placed};
 ghost use Rattle.fx_base.specs.Names.{numbers};
+ghost use Rattle.fx_graph_model.specs.Eager.{eager};
+ghost use Rattle.fx_graph_model.specs.Equality.{same_value};
+ghost use Rattle.fx_graph_model.specs.Refusals.{set_refusal};
 ghost use Rattle.fx_graph_model.specs.Unread.{evaluations, marked};
 ghost use Rattle.fx_store_model.specs.Applied.{Applied};
 ghost use Rattle.fx_store_model.specs.declared.changes.Change.TheVariants as change;
-ghost use Rattle.fx_store_model.specs.Making.{made_forget, made_unbind, made_unlisten, new_listener, with_listeners, with_pairs};
+ghost use Rattle.fx_store_model.specs.Making.{made_forget, made_set, made_unbind, made_unlisten, new_listener, with_listeners, with_pairs};
 ghost use Rattle.fx_base.specs.Answers.{IsAnswer};
 ghost use Rattle.fx_store_model.specs.Refusals.{IsForgetAnswer, listen_refusal, unknown_of};
 ghost use Rattle.fx_store_model.specs.Step.{IsReadSome, due};
 ghost use Rattle.fx_store_model.specs.Stored.{after_watching};
 ghost use Rattle.fx_store_pairs.specs.Pairs.{is_among, without_pair};
 
+use crate::marking::{give, group_values};
 use crate::refusing::{of_listen, of_unlisten, of_unpair};
 use crate::store::Store;
 use crate::watching::read_watched;
-use fx_base::{Ledgers, List, Name, Work};
+use fx_base::{Ledgers, List, Name, Value, Work};
 use fx_handles::{Owner, Owners};
 use fx_listen::{ListenKind, Listeners};
 use fx_store_model::{Notices, StoreError};
@@ -59,6 +64,39 @@ impl Store {
         )?;
         self.behind = false;
         Ok(())
+    }
+
+    /// Gives the property, and those that are joined with it, the value that they have, now by code.
+    fn give_again(&mut self, alloc: Global, name: Name, value: &Value) -> Result<(), StoreError>
+        requires allowed { set_refusal ((name, value.now) ∷ []) self.old.entries ≡ None }
+        requires same { same_value (eager self.old.entries name.0) value.now ≡ true }
+        ensures ok { OnOk result (self.new ≡ made_set name.0 value.now self.old) }
+        ensures values { OnOk result ((other : ℕ) → eager self.new.entries other ≡ eager self.old.entries other) }
+        ensures err { OnErr result (self.new ≡ self.old) }
+        ensures memory { IfErr result (λ error. error ≡ StoreError.Memory) }
+    {
+        let values = group_values(alloc, &self.pairs, name, value)?;
+        give(alloc, &mut self.graph, values.as_slice())?;
+        Ok(())
+    }
+
+    /// Sets the property to the value that it has.
+    pub(crate) fn set_again<L: Ledgers>(
+        &mut self,
+        alloc: Global,
+        name: Name,
+        value: &Value,
+        work: &mut Work<L>,
+    ) -> Result<Notices, StoreError>
+        requires allowed { set_refusal ((name, value.now) ∷ []) self.old.entries ≡ None }
+        requires same { same_value (eager self.old.entries name.0) value.now ≡ true }
+        ensures applied { Applied (change.Set name value.now) self.old self.new result work.old.evaluated
+            work.new.evaluated }
+        ensures others { work.new ≡ record work.old { evaluated = work.new.evaluated } }
+    {
+        self.give_again(alloc, name, value)?;
+        self.catch_up(alloc, work)?;
+        Ok(silent(alloc, None))
     }
 
     /// Reads a bound property and gives it its value for its own; another one stays as it is.

@@ -88,7 +88,7 @@ fn with_value_but(
 }
 
 /// The value for each name that is joined with this one.
-fn group_values(
+pub(crate) fn group_values(
     alloc: Global,
     pairs: &Pairs,
     name: Name,
@@ -120,6 +120,22 @@ fn other_values(
     with_value_but(alloc, group.as_slice(), other, &value)
 }
 
+/// Gives the names these values, where nothing speaks against any.
+pub(crate) fn give(
+    alloc: Global,
+    graph: &mut Graph,
+    values: &[(Name, Value)],
+) -> Result<(), StoreError>
+    requires distinct { AllPairs (λ (first second : Named × Content). first.0 ≢ second.0) values.now }
+    requires allowed { set_refusal values.now graph.old.entries ≡ None }
+    ensures ok { OnOk result (graph.new ≡ after_values true values.now graph.old) }
+    ensures err { OnErr result (graph.new ≡ graph.old) }
+    ensures memory { IfErr result (λ error. error ≡ StoreError.Memory) }
+{
+    graph.set_group(alloc, values)?;
+    Ok(())
+}
+
 /// Adds the pair and gives the names these values, or leaves all as it was.
 fn join(
     alloc: Global,
@@ -138,9 +154,9 @@ fn join(
     ensures memory { IfErr result (λ error. error ≡ StoreError.Memory) }
 {
     pairs.add(one, other)?;
-    if let Err(error) = graph.set_group(alloc, values) {
+    if let Err(error) = give(alloc, graph, values) {
         pairs.remove_last();
-        return Err(StoreError::from(error));
+        return Err(error);
     }
     Ok(())
 }
@@ -227,6 +243,9 @@ impl Store {
         let given = [(name, value)];
         if let Some(refusal) = self.graph.refuses_set(&given) {
             return Err(StoreError::from(refusal));
+        }
+        if self.graph.has_value(name, &given[0].1) {
+            return self.set_again(alloc, name, &given[0].1, work);
         }
         let watch = self.look(alloc, work)?;
         let values = group_values(alloc, &self.pairs, name, &given[0].1)?;

@@ -1,6 +1,6 @@
 //! The store itself: its parts, what contracts see of them, and the calls that change nothing but one part.
 ghost use Rattle.std.specs.Prelude.{ℕ, ◌≡◌, ◌≢◌, ◌≤◌, ◌+◌, ◌↔◌, ◌==◌, ◌⊎◌, [], ◌∷◌, false, true, All, Contains, Err, IfErr, Some, IfOk, IsTrue, OnErr, OnOk, length, option_copied};
-ghost use Rattle.std.specs.List.{find, list_any};
+ghost use Rattle.std.specs.List.{find, list_any, range_with_len};
 ghost use Rattle.std.specs.Option.{option_map};
 ghost use Rattle.fx_base.specs.Names.{numbers};
 ghost use Rattle.fx_base.specs.Printing.{kind_of};
@@ -227,6 +227,13 @@ impl Store {
         ensures { result ≡ marked self.now.unread name.0 }
     {
         self.graph.is_unread(name)
+    }
+
+    /// Whether any of so many properties from this one on may have changed since it was read.
+    pub fn is_any_unread(&self, first: Name, count: usize) -> bool
+        ensures { result ≡ list_any (marked self.now.unread) (range_with_len first.0 count) }
+    {
+        self.graph.is_any_unread(first, count)
     }
 
     /// Where the present definition of a known property came from.

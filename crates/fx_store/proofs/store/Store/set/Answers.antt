@@ -1,9 +1,12 @@
-use Rattle.std.proofs.Common.{◌≡◌, [], ◌∷◌, None, sym, subst, ◌∙◌}
+use Rattle.std.proofs.Common.{◌≡◌, true, [], ◌∷◌, None, sym, subst, ◌∙◌}
 use Rattle.std.proofs.lemmas.Result.{err_from_is_err_and}
 use Rattle.fx_store_model.specs.declared.changes.Change.TheVariants.{Set}
 use Rattle.fx_store_model.specs.Stored.{Stored}
+use Rattle.fx_graph_model.specs.Eager.{eager}
+use Rattle.fx_graph_model.specs.Equality.{same_value}
 use Rattle.fx_graph_model.specs.Refusals.{set_refusal}
 use Rattle.fx_store.proofs.Stepping.{step_unmade}
+use Rattle.fx_store.proofs.Twins.{set_settable}
 use Rattle.fx_store.proofs.UnderLemmas.{allowed_set, failed_made, not_some, refused_set, set_unrefused, set_values, under_known, under_set}
 use Rattle.fx_store.proofs.store.Store.set.Goals as goal
 
@@ -12,6 +15,21 @@ returns-in-Some-clause-applied g c =
     refused_set c.self.inside.graph c.self.inside.pairs c.self.inside.listeners c.self.inside.owners c.self.inside.behind c.args.self.now
     c.args.name c.args.value c.in-Some.refusal c.from.result c.args.work.now.evaluated c.self.view_is
     (sym c.refuses_set.ensures ∙ c.in-Some.is) c.from.ensures
+
+pub has_value-requires : goal.has_value-requires
+has_value-requires g c =
+    (set_settable c.self.inside.graph.entries c.args.name c.args.value
+    (sym c.refuses_set.ensures ∙ not_some c.refuses_set.result c.in_default.not-Some)).free
+
+pub set_again-requires-clause-allowed : goal.set_again-requires-clause-allowed
+set_again-requires-clause-allowed g c =
+    subst (λ (stored : Stored). set_refusal ((c.args.name, c.args.value) ∷ []) stored.entries ≡ None) c.self.view_is
+    (sym c.refuses_set.ensures ∙ not_some c.refuses_set.result c.in_default.not-Some)
+
+pub set_again-requires-clause-same : goal.set_again-requires-clause-same
+set_again-requires-clause-same g c =
+    subst (λ (stored : Stored). same_value (eager stored.entries c.args.name.0) c.args.value ≡ true) c.self.view_is
+    (sym c.has_value.ensures ∙ c.if-has_value.true)
 
 pub returns-in_err-watch-clause-applied : goal.returns-in_err-watch-clause-applied
 returns-in_err-watch-clause-applied g c =

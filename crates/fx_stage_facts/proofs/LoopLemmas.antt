@@ -1,7 +1,8 @@
 -- Lists that are made piece by piece.
 use Rattle.std.proofs.Common.{◌≡◌, ◌∙◌, ◌<◌, ◌≤◌, ◌+◌, ◌-◌, ◌&&◌, ℕ, suc, Bool, true, false, cond, List, [], ◌∷◌, ◌++◌, add-one, append_assoc, arith, drop, drop-cons, filter, get_or, length, map, refl, sym, ap}
-use Rattle.std.specs.List.{range_with_len}
+use Rattle.std.specs.List.{list_any, range_with_len}
 use Rattle.std.proofs.Math.ListN.{get_or-map}
+use Rattle.std.proofs.lemmas.Bool.{or_parts}
 use Rattle.std.proofs.lemmas.List.{append-nil, drop_all, length-map, nil_from_length}
 use Rattle.fx_handles.proofs.Given.{range_with_len-suc}
 use Rattle.fx_graph_model.specs.Unread.{marked}
@@ -98,3 +99,28 @@ range_next start place old before now low pushed before_is =
     (ap (range_with_len start) next
     ∙ range_with_len-suc start (place - start)
     ∙ ap (λ (n : ℕ). range_with_len start (place - start) ++ n ∷ []) at))
+
+-- of properties of which none is unread, no name is left
+pub none_unread : (unread : List Bool) (name : ℕ) (ps : List ListedProperty)
+    → list_any (marked unread) (range_with_len name (length ps)) ≡ false
+    → filter (marked unread) (displayed_from name ps) ≡ []
+none_unread unread name [] none = refl
+none_unread unread name (p ∷ ps) none =
+    let parts = or_parts (marked unread name) (list_any (marked unread) (range_with_len (name + 1) (length ps))) none in
+    by (is_displayed p.name) (none_unread unread (name + 1) ps parts.1) parts.0
+  where
+    by : (b : Bool) → filter (marked unread) (displayed_from (name + 1) ps) ≡ [] → marked unread name ≡ false
+        → filter (marked unread) (one_if b name ++ displayed_from (name + 1) ps) ≡ []
+    by false rest read = rest
+    by true rest read =
+        ap (λ (m : Bool). cond m (name ∷ filter (marked unread) (displayed_from (name + 1) ps))
+        (filter (marked unread) (displayed_from (name + 1) ps))) read
+        ∙ rest
+
+-- the rows of a class, as the code lists them, are as many as the table's
+pub as_many : (class : Class) (list : List Property) → map listed_property list ≡ properties_of class
+    → length list ≡ length (properties_of class)
+as_many class list are = sym (length-map list listed_property) ∙ ap length are
+
+pub none_pushed : {X : Type 0} (done left : List X) → left ≡ [] → done ≡ done ++ left
+none_pushed done left none = sym (ap (λ xs. done ++ xs) none ∙ append-nil done)

@@ -73,6 +73,19 @@ fn push_unread(names: &mut Vec<Name>, store: &Store, node: &NodeData) -> Result<
     Ok(())
 }
 
+/// The same, at once where nothing of the node is unread.
+fn push_if_any(names: &mut Vec<Name>, store: &Store, node: &NodeData) -> Result<(), AllocError>
+    requires { node.now.first ≤ 4000000 }
+    ensures { OnOk result (numbers names.new.items
+        ≡ numbers names.old.items ++ unread_in store.now.unread (Some node.now)) }
+{
+    let rows = properties(node.class);
+    if !store.is_any_unread(Name(node.first), rows.len()) {
+        return Ok(());
+    }
+    push_unread(names, store, node)
+}
+
 /// Those properties of these nodes that a frame reads, and that are unread.
 pub(crate) fn unread_names(
     alloc: Global,
@@ -87,7 +100,7 @@ pub(crate) fn unread_names(
     for key in keys {
         match graph.node(*key) {
             None => {}
-            Some(node) => push_unread(&mut names, store, node)?,
+            Some(node) => push_if_any(&mut names, store, node)?,
         }
     }
     Ok(names)

@@ -35,7 +35,8 @@ impl Names {
     /// Puts the word behind the names of its sign. Is it a name?
     fn push(&mut self, alloc: Global, sign: u8, word: &[u8]) -> Result<bool, AllocError>
         ensures { IfOk result (λ named. with_one named (name_lists self.new) ≡ option_map
-            (λ name. with_names (name_lists self.old) ((record { sign = sign; name = name }) ∷ [])) (ident_at word.now)) }
+            (λ name. with_names (name_lists self.old) ((record { sign = sign; name = name }) ∷ []))
+            (ident_at word.now)) }
     {
         match sign {
             b'.' => push_word(alloc, &mut self.classes, word),

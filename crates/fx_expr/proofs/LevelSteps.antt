@@ -16,22 +16,27 @@ pub fails_on : {X Y : Type 0} (e : Stop) (a : Option X) (b : Option Y) → Fails
 fails_on stop.Memory a b f g = tt
 fails_on stop.Refused a b f g = g f
 
-pub more_some : (f : List Token → Option (Tree × List Token)) (m k j : ℕ) (x y : Tree) (ts next rest : List Token) (sign : BinarySign) → k ≡ suc j
-    → operator_at m ts ≡ Some (sign, next) → f next ≡ Some (y, rest) → more_of f m k x ts ≡ more_of f m j (Two sign x y) rest
+pub more_some : (f : List Token → Option (Tree × List Token)) (m k j : ℕ) (x y : Tree) (ts next rest : List Token)
+    (sign : BinarySign) → k ≡ suc j
+    → operator_at m ts ≡ Some (sign, next) → f next ≡ Some (y, rest) → more_of f m k x ts
+    ≡ more_of f m j (Two sign x y) rest
 unfolding more_of
 more_some f m k j x y ts next rest sign i o e = rw (i, o, e) refl
 
-pub more_none : (f : List Token → Option (Tree × List Token)) (m k j : ℕ) (x : Tree) (ts next : List Token) (sign : BinarySign) → k ≡ suc j
+pub more_none : (f : List Token → Option (Tree × List Token)) (m k j : ℕ) (x : Tree) (ts next : List Token)
+    (sign : BinarySign) → k ≡ suc j
     → operator_at m ts ≡ Some (sign, next) → f next ≡ None → more_of f m k x ts ≡ None
 unfolding more_of
 more_none f m k j x ts next sign i o e = rw (i, o, e) refl
 
-pub more_stops : (f : List Token → Option (Tree × List Token)) (m k : ℕ) (x : Tree) (ts : List Token) → operator_at m ts ≡ None → more_of f m k x ts ≡ Some (x, ts)
+pub more_stops : (f : List Token → Option (Tree × List Token)) (m k : ℕ) (x : Tree) (ts : List Token)
+    → operator_at m ts ≡ None → more_of f m k x ts ≡ Some (x, ts)
 unfolding more_of
 more_stops f m zero x ts o = refl
 more_stops f m (suc k) x ts o = rw o refl
 
-pub more_ends : (f : List Token → Option (Tree × List Token)) (m k : ℕ) (x : Tree) (ts : List Token) → k ≡ 0 → more_of f m k x ts ≡ Some (x, ts)
+pub more_ends : (f : List Token → Option (Tree × List Token)) (m k : ℕ) (x : Tree) (ts : List Token) → k ≡ 0
+    → more_of f m k x ts ≡ Some (x, ts)
 unfolding more_of
 more_ends f m k x ts i = rw i refl
 
@@ -43,12 +48,16 @@ front_twice a b (Some p) = ap (λ t. Some (t, p.1)) append_assoc'
     append_assoc' : (a ++ b) ++ p.0 ≡ a ++ (b ++ p.0)
     append_assoc' = simp append_assoc
 
-pub quoted_more : (quote k j : ℕ) (text rest so_far : List ℕ) (c : ℕ) (known : Option (List ℕ × List ℕ)) → k ≡ suc j → character_at quote text ≡ Some (c, rest)
-    → with_front so_far (quoted_at k quote text) ≡ known → with_front (so_far ++ encode_utf8 c) (quoted_at j quote rest) ≡ known
+pub quoted_more : (quote k j : ℕ) (text rest so_far : List ℕ) (c : ℕ) (known : Option (List ℕ × List ℕ)) → k ≡ suc j
+    → character_at quote text ≡ Some (c, rest)
+    → with_front so_far (quoted_at k quote text) ≡ known → with_front (so_far ++ encode_utf8 c)
+    (quoted_at j quote rest) ≡ known
 unfolding quoted_at
-quoted_more quote k j text rest so_far c known i e inv = front_twice so_far (encode_utf8 c) (quoted_at j quote rest) ∙ (rw (i, e) at inv)
+quoted_more quote k j text rest so_far c known i e inv = front_twice so_far (encode_utf8 c) (quoted_at j quote rest)
+    ∙ (rw (i, e) at inv)
 
-pub quoted_ends : (quote k : ℕ) (text : List ℕ) → (character_at quote text ≡ None) → quoted_at k quote text ≡ end_at quote text
+pub quoted_ends : (quote k : ℕ) (text : List ℕ) → (character_at quote text ≡ None) → quoted_at k quote text
+    ≡ end_at quote text
 unfolding quoted_at
 quoted_ends quote zero text e = refl
 quoted_ends quote (suc k) text e = rw e refl
@@ -58,19 +67,23 @@ unfolding quoted_at
 quoted_over quote k text e = rw e refl
 
 -- names
-names_twice : (a b : List (List ℕ)) (o : Option (List (List ℕ) × List ℕ)) → with_names (a ++ b) o ≡ with_names a (with_names b o)
+names_twice : (a b : List (List ℕ)) (o : Option (List (List ℕ) × List ℕ)) → with_names (a ++ b) o
+    ≡ with_names a (with_names b o)
 names_twice a b None = refl
 names_twice a b (Some p) = ap (λ t. Some (t, p.1)) grouped
   where
     grouped : (a ++ b) ++ p.0 ≡ a ++ (b ++ p.0)
     grouped = simp append_assoc
 
-pub names_more : (k j : ℕ) (text rest name : List ℕ) (so_far : List (List ℕ)) (known : Option (List (List ℕ) × List ℕ)) → k ≡ suc j → has_name text ≡ true → name_at (drop 1 text) ≡ Some (name, rest)
+pub names_more : (k j : ℕ) (text rest name : List ℕ) (so_far : List (List ℕ)) (known : Option (List (List ℕ) × List ℕ))
+    → k ≡ suc j → has_name text ≡ true → name_at (drop 1 text) ≡ Some (name, rest)
     → with_names so_far (names_at k text) ≡ known → with_names (so_far ++ (name ∷ [])) (names_at j rest) ≡ known
 unfolding names_at
-names_more k j text rest name so_far known i h e inv = names_twice so_far (name ∷ []) (names_at j rest) ∙ (rw (i, h, e) at inv)
+names_more k j text rest name so_far known i h e inv = names_twice so_far (name ∷ []) (names_at j rest)
+    ∙ (rw (i, h, e) at inv)
 
-pub names_fail : (k j : ℕ) (text : List ℕ) (so_far : List (List ℕ)) (known : Option (List (List ℕ) × List ℕ)) → k ≡ suc j → has_name text ≡ true → name_at (drop 1 text) ≡ None
+pub names_fail : (k j : ℕ) (text : List ℕ) (so_far : List (List ℕ)) (known : Option (List (List ℕ) × List ℕ)) → k
+    ≡ suc j → has_name text ≡ true → name_at (drop 1 text) ≡ None
     → with_names so_far (names_at k text) ≡ known → known ≡ None
 unfolding names_at
 names_fail k j text so_far known i h e inv = sym (rw (i, h, e) at inv)
@@ -92,24 +105,30 @@ tokens_twice a b (Some ts) = ap (λ (t : List Token). Some t) grouped
     grouped : (a ++ b) ++ ts ≡ a ++ (b ++ ts)
     grouped = simp append_assoc
 
-pub tokens_more : (k j : ℕ) (text rest : List ℕ) (t : Token) (so_far : List Token) (known : Option (List Token)) → k ≡ suc j → text ≢ [] → token_at text ≡ Some (t, rest)
-    → with_tokens so_far (tokens_of k text) ≡ known → with_tokens (so_far ++ (t ∷ [])) (tokens_of j (after_white rest)) ≡ known
+pub tokens_more : (k j : ℕ) (text rest : List ℕ) (t : Token) (so_far : List Token) (known : Option (List Token)) → k
+    ≡ suc j → text ≢ [] → token_at text ≡ Some (t, rest)
+    → with_tokens so_far (tokens_of k text) ≡ known → with_tokens (so_far ++ (t ∷ [])) (tokens_of j (after_white rest))
+    ≡ known
 unfolding tokens_of
 tokens_more k j [] rest t so_far known i n e inv = absurd (n refl)
-tokens_more k j (c ∷ cs) rest t so_far known i n e inv = tokens_twice so_far (t ∷ []) (tokens_of j (after_white rest)) ∙ (rw (i, e) at inv)
+tokens_more k j (c ∷ cs) rest t so_far known i n e inv = tokens_twice so_far (t ∷ []) (tokens_of j (after_white rest))
+    ∙ (rw (i, e) at inv)
 
-pub tokens_fail : (k j : ℕ) (text : List ℕ) (so_far : List Token) (known : Option (List Token)) → k ≡ suc j → text ≢ [] → token_at text ≡ None
+pub tokens_fail : (k j : ℕ) (text : List ℕ) (so_far : List Token) (known : Option (List Token)) → k ≡ suc j → text ≢ []
+    → token_at text ≡ None
     → with_tokens so_far (tokens_of k text) ≡ known → known ≡ None
 unfolding tokens_of
 tokens_fail k j [] so_far known i n e inv = absurd (n refl)
 tokens_fail k j (c ∷ cs) so_far known i n e inv = sym (rw (i, e) at inv)
 
-pub tokens_end : (k : ℕ) (text : List ℕ) (so_far : List Token) (known : Option (List Token)) → text ≡ [] → with_tokens so_far (tokens_of k text) ≡ known → known ≡ Some so_far
+pub tokens_end : (k : ℕ) (text : List ℕ) (so_far : List Token) (known : Option (List Token)) → text ≡ []
+    → with_tokens so_far (tokens_of k text) ≡ known → known ≡ Some so_far
 unfolding tokens_of
 tokens_end zero text so_far known e inv = sym (rw e at inv) ∙ ap (λ (t : List Token). Some t) (simp append-nil)
 tokens_end (suc k) text so_far known e inv = sym (rw e at inv) ∙ ap (λ (t : List Token). Some t) (simp append-nil)
 
-pub tokens_left : (k : ℕ) (text : List ℕ) (so_far : List Token) (known : Option (List Token)) → k ≡ 0 → text ≢ [] → with_tokens so_far (tokens_of k text) ≡ known → known ≡ None
+pub tokens_left : (k : ℕ) (text : List ℕ) (so_far : List Token) (known : Option (List Token)) → k ≡ 0 → text ≢ []
+    → with_tokens so_far (tokens_of k text) ≡ known → known ≡ None
 unfolding tokens_of
 tokens_left k [] so_far known i n inv = absurd (n refl)
 tokens_left k (c ∷ cs) so_far known i n inv = sym (rw i at inv)

@@ -19,21 +19,25 @@ whole_again : (o : Option (Tree × List Token)) → o ≡ option_and_then (λ x.
 whole_again None = refl
 whole_again (Some x) = refl
 
-twice : (f g : Tree → List Token → Option (Tree × List Token)) (o : Option (Tree × List Token)) → option_and_then (λ y. g y.0 y.1) (option_and_then (λ x. f x.0 x.1) o)
+twice : (f g : Tree → List Token → Option (Tree × List Token)) (o : Option (Tree × List Token))
+    → option_and_then (λ y. g y.0 y.1) (option_and_then (λ x. f x.0 x.1) o)
     ≡ option_and_then (λ x. option_and_then (λ y. g y.0 y.1) (f x.0 x.1)) o
 twice f g None = refl
 twice f g (Some x) = refl
 
-level_rises : (f : List Token → Option (Tree × List Token)) (n done m : ℕ) (ts : List Token) → m ≡ done + n → level_over f m ts ≡ option_and_then (λ x. rise f done n x.0 x.1) (level_over f done ts)
+level_rises : (f : List Token → Option (Tree × List Token)) (n done m : ℕ) (ts : List Token) → m ≡ done + n
+    → level_over f m ts ≡ option_and_then (λ x. rise f done n x.0 x.1) (level_over f done ts)
 unfolding level_over rise
 level_rises f zero done m ts e = let same : m ≡ done = omega (arith, e) in rw same (whole_again (level_over f done ts))
 level_rises f (suc n) done m ts e =
     let next : m ≡ suc done + n = omega (arith, e) in
     level_rises f n (suc done) m ts next
-    ∙ twice (λ x r. more_of (level_over f done) (suc done) (length r) x r) (λ x r. rise f (suc done) n x r) (level_over f done ts)
+    ∙ twice (λ x r. more_of (level_over f done) (suc done) (length r) x r) (λ x r. rise f (suc done) n x r)
+    (level_over f done ts)
 
 -- all strengths behind an operand
-pub level_from : (f : List Token → Option (Tree × List Token)) (m : ℕ) (ts : List Token) → level_over f m ts ≡ option_and_then (λ x. rise f 0 m x.0 x.1) (f ts)
+pub level_from : (f : List Token → Option (Tree × List Token)) (m : ℕ) (ts : List Token) → level_over f m ts
+    ≡ option_and_then (λ x. rise f 0 m x.0 x.1) (f ts)
 unfolding level_over
 level_from f m ts = let e : m ≡ 0 + m = omega arith in level_rises f m 0 m ts e
 
@@ -49,7 +53,8 @@ other_sign j (Binary sign ∷ ts) n = elim (eqb_tells (strength sign) (suc j)) [
   | inr t ↦ rw t.0 refl
 ]
 
-pub rise_stops : (f : List Token → Option (Tree × List Token)) (n done m : ℕ) (x : Tree) (ts : List Token) → m ≡ done + n
+pub rise_stops : (f : List Token → Option (Tree × List Token)) (n done m : ℕ) (x : Tree) (ts : List Token) → m
+    ≡ done + n
     → (done < strength_at ts → strength_at ts ≤ m → ⊥) → rise f done n x ts ≡ Some (x, ts)
 unfolding rise
 rise_stops f zero done m x ts e none = refl
@@ -60,8 +65,10 @@ rise_stops f (suc n) done m x ts e none =
     (rise_stops f n (suc done) m x ts next (λ a b. none (omega (arith, a)) b))
 
 -- the strengths below that of the sign that stands here
-pub rise_skips : (f : List Token → Option (Tree × List Token)) (n done m s : ℕ) (x : Tree) (ts : List Token) → m ≡ done + n → strength_at ts ≡ s → done < s → s ≤ m
-    → rise f done n x ts ≡ option_and_then (λ y. rise f s (m - s) y.0 y.1) (more_of (level_over f (s - 1)) s (length ts) x ts)
+pub rise_skips : (f : List Token → Option (Tree × List Token)) (n done m s : ℕ) (x : Tree) (ts : List Token) → m
+    ≡ done + n → strength_at ts ≡ s → done < s → s ≤ m
+    → rise f done n x ts ≡ option_and_then (λ y. rise f s (m - s) y.0 y.1)
+    (more_of (level_over f (s - 1)) s (length ts) x ts)
 unfolding rise
 rise_skips f zero done m s x ts e is above most = absurd (omega (arith, e, above, most))
 rise_skips f (suc n) done m s x ts e is above most = elim (eqb_tells s (suc done)) [
@@ -77,27 +84,36 @@ rise_skips f (suc n) done m s x ts e is above most = elim (eqb_tells s (suc done
       (rise_skips f n (suc done) m s x ts next is beyond most)
 ]
   where
-    here_is : (k p : ℕ) → done ≡ k → s ≡ suc done → n ≡ p → rise f done (suc n) x ts ≡ option_and_then (λ y. rise f s p y.0 y.1) (more_of (level_over f k) s (length ts) x ts)
+    here_is : (k p : ℕ) → done ≡ k → s ≡ suc done → n ≡ p
+        → rise f done (suc n) x ts
+        ≡ option_and_then (λ y. rise f s p y.0 y.1) (more_of (level_over f k) s (length ts) x ts)
     here_is k p a b c = rw (b, ← a, ← c) refl
 
-pub level_fails : (f : List Token → Option (Tree × List Token)) (m : ℕ) (ts : List Token) → f ts ≡ None → level_over f m ts ≡ None
+pub level_fails : (f : List Token → Option (Tree × List Token)) (m : ℕ) (ts : List Token) → f ts ≡ None
+    → level_over f m ts ≡ None
 level_fails f m ts e = level_from f m ts ∙ rw e refl
 
-pub level_starts : (f : List Token → Option (Tree × List Token)) (m : ℕ) (ts r : List Token) (x : Tree) → f ts ≡ Some (x, r) → level_over f m ts ≡ rise f 0 m x r
+pub level_starts : (f : List Token → Option (Tree × List Token)) (m : ℕ) (ts r : List Token) (x : Tree) → f ts
+    ≡ Some (x, r) → level_over f m ts ≡ rise f 0 m x r
 level_starts f m ts r x e = level_from f m ts ∙ rw e refl
 
-pub level_turn : (f : List Token → Option (Tree × List Token)) (done m s : ℕ) (x y : Tree) (ts r : List Token) → done ≤ m → (strength_at ts ≡ s) × (done < s) × (s ≤ m)
-    → more_of (level_over f (s - 1)) s (length ts) x ts ≡ Some (y, r) → rise f done (m - done) x ts ≡ rise f s (m - s) y r
+pub level_turn : (f : List Token → Option (Tree × List Token)) (done m s : ℕ) (x y : Tree) (ts r : List Token)
+    → done ≤ m → (strength_at ts ≡ s) × (done < s) × (s ≤ m)
+    → more_of (level_over f (s - 1)) s (length ts) x ts ≡ Some (y, r) → rise f done (m - done) x ts
+    ≡ rise f s (m - s) y r
 level_turn f done m s x y ts r within next e =
     let parts : m ≡ done + (m - done) = omega (arith, within) in
     rise_skips f (m - done) done m s x ts parts next.0 next.1 next.2 ∙ rw e refl
 
-pub turn_fails : (f : List Token → Option (Tree × List Token)) (done m s : ℕ) (x : Tree) (ts : List Token) → done ≤ m → (strength_at ts ≡ s) × (done < s) × (s ≤ m)
+pub turn_fails : (f : List Token → Option (Tree × List Token)) (done m s : ℕ) (x : Tree) (ts : List Token) → done ≤ m
+    → (strength_at ts ≡ s) × (done < s) × (s ≤ m)
     → more_of (level_over f (s - 1)) s (length ts) x ts ≡ None → rise f done (m - done) x ts ≡ None
 turn_fails f done m s x ts within next e =
     let parts : m ≡ done + (m - done) = omega (arith, within) in
     rise_skips f (m - done) done m s x ts parts next.0 next.1 next.2 ∙ rw e refl
 
-pub level_ends : (f : List Token → Option (Tree × List Token)) (done m : ℕ) (x : Tree) (ts : List Token) → done ≤ m → (done < strength_at ts → strength_at ts ≤ m → ⊥)
+pub level_ends : (f : List Token → Option (Tree × List Token)) (done m : ℕ) (x : Tree) (ts : List Token) → done ≤ m
+    → (done < strength_at ts → strength_at ts ≤ m → ⊥)
     → rise f done (m - done) x ts ≡ Some (x, ts)
-level_ends f done m x ts within none = let parts : m ≡ done + (m - done) = omega (arith, within) in rise_stops f (m - done) done m x ts parts none
+level_ends f done m x ts within none = let parts : m ≡ done + (m - done) = omega (arith, within) in
+    rise_stops f (m - done) done m x ts parts none

@@ -97,7 +97,8 @@ fn more_names<'a>(
 
 /// What is behind the point, if a point stands here and a name behind it.
 fn past_point(text: &str) -> Option<&str>
-    ensures some { IfSome result (λ behind. (has_name (chars text.now) ≡ true) × (chars behind.now ≡ drop 1 (chars text.now))) }
+    ensures some { IfSome result (λ behind. (has_name (chars text.now) ≡ true)
+        × (chars behind.now ≡ drop 1 (chars text.now))) }
     ensures none { IfNone result (has_name (chars text.now) ≡ false) }
 {
     let Some(('.', behind)) = first(text) else {

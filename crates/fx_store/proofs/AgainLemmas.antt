@@ -42,14 +42,17 @@ abbrev pub HasValue : List Entry → ℕ → Value → Type 0
 HasValue entries name value = IsOwn entries name × (same_value (eager entries name) value ≡ true)
 
 -- all that are joined with it have its value for their own, before and after
-definition_again : (es : List Entry) (pairs : List (ℕ × ℕ)) → ArePaired es pairs → (name : ℕ) (value : Value) → HasValue es name value
-    → (other : ℕ) → (entry_of (with_group (joined pairs name) value es) other).definition ≡ (entry_of es other).definition
+definition_again : (es : List Entry) (pairs : List (ℕ × ℕ)) → ArePaired es pairs → (name : ℕ) (value : Value)
+    → HasValue es name value
+    → (other : ℕ) → (entry_of (with_group (joined pairs name) value es) other).definition
+    ≡ (entry_of es other).definition
 definition_again es pairs paired name value has other =
     elim (cases_Bool (joined pairs name other)) [
       | inl together ↦
           let mine : IsOwn es other = joined_own es pairs paired name other together has.0 in
           ap (λ (e : Entry). e.definition)
-          (entry-group_in (joined pairs name) value es other (joined_within es pairs paired name other together has.0) together)
+          (entry-group_in (joined pairs name) value es other (joined_within es pairs paired name other together has.0)
+          together)
           ∙ ap (λ (v : Value). Base v)
           (sym ((Decides-value (eager es name) value).0 has.1) ∙ sym (joined_eager es pairs paired name other together)
           ∙ own_eager es other mine)
@@ -57,7 +60,8 @@ definition_again es pairs paired name value has other =
       | inr apart ↦ ap (λ (e : Entry). e.definition) (entry-group_out (joined pairs name) value es other apart)
     ]
 
-again_eager : (es : List Entry) (pairs : List (ℕ × ℕ)) → ArePaired es pairs → (name : ℕ) (value : Value) → HasValue es name value
+again_eager : (es : List Entry) (pairs : List (ℕ × ℕ)) → ArePaired es pairs → (name : ℕ) (value : Value)
+    → HasValue es name value
     → (other : ℕ) → eager (with_group (joined pairs name) value es) other ≡ eager es other
 again_eager es pairs paired name value has other =
     eager-agree (with_group (joined pairs name) value es) es (λ _. Unit {0}) (length-group (joined pairs name) value es)
@@ -81,22 +85,28 @@ tells_again name value stored mid is same each notices silent =
 
 -- what is seen of it
 pub record IsGivenAgain
-    (before : Stored) (now : State) (pairs : List (ℕ × ℕ)) (table : Table) (owners : Register) (behind : Bool) (name : Name) (value : Value)
+    (before : Stored) (now : State) (pairs : List (ℕ × ℕ)) (table : Table) (owners : Register) (behind : Bool)
+    (name : Name) (value : Value)
     : Type 0 where
   pub whole : stored_of now pairs table owners ≡ made_set name.0 value before
   pub values : (other : ℕ) → eager now.entries other ≡ eager before.entries other
   pub holds : IsKept now pairs table owners behind
 
-module _ (graph : State) (pairs : List (ℕ × ℕ)) (table : Table) (owners : Register) (behind : Bool) (kept : IsKept graph pairs table owners behind) where
-  pub again_made : (name : Name) (value : Value) (values : List (Name × Value)) → IsGroup values (joined pairs name.0) value graph.entries
+module _ (graph : State) (pairs : List (ℕ × ℕ)) (table : Table) (owners : Register) (behind : Bool)
+    (kept : IsKept graph pairs table owners behind) where
+  pub again_made : (name : Name) (value : Value) (values : List (Name × Value))
+      → IsGroup values (joined pairs name.0) value graph.entries
       → same_value (eager graph.entries name.0) value ≡ true
-      → stored_of (after_values true values graph) pairs table owners ≡ made_set name.0 value (stored_of graph pairs table owners)
+      → stored_of (after_values true values graph) pairs table owners
+      ≡ made_set name.0 value (stored_of graph pairs table owners)
   unfolding made
   again_made name value values g same =
       (made_set_group graph pairs table owners name value values kept.twins g).whole
-      ∙ quiet_before (Set name value) (stored_of graph pairs table owners) (set_quiet name value (stored_of graph pairs table owners) same)
+      ∙ quiet_before (Set name value) (stored_of graph pairs table owners)
+      (set_quiet name value (stored_of graph pairs table owners) same)
 
-  pub again_kept : (now : State) (name : Name) (value : Value) (values : List (Name × Value)) → now ≡ after_values true values graph
+  pub again_kept : (now : State) (name : Name) (value : Value) (values : List (Name × Value)) → now
+      ≡ after_values true values graph
       → IsGroup values (joined pairs name.0) value graph.entries → same_value (eager graph.entries name.0) value ≡ true
       → IsKept now pairs table owners behind
   again_kept now name value values made g same =
@@ -111,7 +121,8 @@ module _ (graph : State) (pairs : List (ℕ × ℕ)) (table : Table) (owners : R
         known = k.known;
         born = k.born;
         watched = λ level.
-            subst (λ (flags : List Bool). AreAllRead pairs (living_in owners.living table.entries) flags) (sym read) (kept.watched level);
+            subst (λ (flags : List Bool). AreAllRead pairs (living_in owners.living table.entries) flags) (sym read)
+            (kept.watched level);
       })
 
   pub given_again : (before : Stored) (now : State) (name : Name) (value : Value) (values : List (Name × Value))
@@ -147,8 +158,10 @@ pub again_done : (before mid now : Stored) (name : Name) (value : Value) (notice
     → Applied (Set name value) before now (Ok notices) evaluated spent
 unfolding made refusal
 again_done before mid now name value notices evaluated spent none same is each read silent few =
-    quiet_made (Set name value) before mid now notices evaluated evaluated spent (set_quiet name value before same) is read
-    (answer_ok Notices (of_graph_refusal (set_refusal ((name, value) ∷ []) before.entries)) notices (ap of_graph_refusal none))
+    quiet_made (Set name value) before mid now notices evaluated evaluated spent
+    (set_quiet name value before same) is read
+    (answer_ok Notices (of_graph_refusal (set_refusal ((name, value) ∷ []) before.entries)) notices
+    (ap of_graph_refusal none))
     (tells_again name value before mid is same each notices silent) (omega arith) few
 
 pub again_short : (before mid now : Stored) (name : Name) (value : Value) (evaluated spent : ℕ)
@@ -165,4 +178,5 @@ pub again_unmade : (before now : Stored) (name : Name) (value : Value) (cause : 
     → Applied (Set name value) before now (Err cause) evaluated evaluated
 again_unmade before now name value cause evaluated none short same =
     subst (λ (c : StoreError). Applied (Set name value) before now (Err c) evaluated evaluated) (sym short)
-    (step_unmade (Set name value) before now evaluated evaluated (allowed_set before name value none) same (omega arith))
+    (step_unmade (Set name value) before now evaluated evaluated (allowed_set before name value none) same
+    (omega arith))

@@ -32,7 +32,8 @@ abbrev pub IsQuiet : Change → Stored → Type 0
 IsQuiet change stored = changed_by change stored ≡ []
 
 -- nothing is marked
-pub quiet_before : (change : Change) (stored : Stored) → IsQuiet change stored → before_reads change stored ≡ made change stored
+pub quiet_before : (change : Change) (stored : Stored) → IsQuiet change stored → before_reads change stored
+    ≡ made change stored
 unfolding before_reads
 quiet_before change stored quiet =
     let now : Stored = made change stored in
@@ -78,22 +79,27 @@ forget_quiet names stored = refl
 
 -- what they tell: nothing but the number of a listener that was added
 
-pub tells_unpair : (one other : Name) (stored : Stored) (notices : Notices) → notices.added ≡ None → notices.invalid ≡ []
+pub tells_unpair : (one other : Name) (stored : Stored) (notices : Notices) → notices.added ≡ None → notices.invalid
+    ≡ []
     → notices.changed ≡ [] → Tells (Unpair one other) stored notices
 unfolding made
 tells_unpair one other stored notices added invalid changed =
-    quiet_tells (Unpair one other) stored notices (unpair_quiet one other stored) (changed_same stored.entries stored.listeners)
+    quiet_tells (Unpair one other) stored notices (unpair_quiet one other stored)
+    (changed_same stored.entries stored.listeners)
     added invalid changed
 
-pub tells_unlisten : (name : Name) (kind : ListenKind) (owner : Option Owner) (tag : ℕ) (stored : Stored) (notices : Notices)
-    → notices.added ≡ None → notices.invalid ≡ [] → notices.changed ≡ [] → Tells (Unlisten name kind owner tag) stored notices
+pub tells_unlisten : (name : Name) (kind : ListenKind) (owner : Option Owner) (tag : ℕ) (stored : Stored)
+    (notices : Notices)
+    → notices.added ≡ None → notices.invalid ≡ [] → notices.changed ≡ []
+    → Tells (Unlisten name kind owner tag) stored notices
 unfolding made
 tells_unlisten name kind owner tag stored notices added invalid changed =
     let change : Change = Unlisten name kind owner tag in
     quiet_tells change stored notices (unlisten_quiet name kind owner tag stored)
     (changed_same stored.entries (made change stored).listeners) added invalid changed
 
-pub tells_listen : (name : Name) (kind : ListenKind) (owner : Option Owner) (tag : ℕ) (stored : Stored) (notices : Notices)
+pub tells_listen : (name : Name) (kind : ListenKind) (owner : Option Owner) (tag : ℕ) (stored : Stored)
+    (notices : Notices)
     → notices.added ≡ Some (stored.given + 1) → notices.invalid ≡ [] → notices.changed ≡ []
     → Tells (Listen name kind owner tag) stored notices
 unfolding made
@@ -103,10 +109,12 @@ tells_listen name kind owner tag stored notices added invalid changed =
     (changed_same stored.entries (made change stored).listeners) added invalid changed
 
 -- a name that is unbound keeps its value, and so does who reads it
-pub unbound_eager : (es : List Entry) (rank : ℕ → ℕ) → Ranked es rank → (name : ℕ) → bound_in es name ≡ true → (other : ℕ)
+pub unbound_eager : (es : List Entry) (rank : ℕ → ℕ) → Ranked es rank → (name : ℕ) → bound_in es name ≡ true
+    → (other : ℕ)
     → eager (with_group (λ (o : ℕ). o == name) (eager es name) es) other ≡ eager es other
 unbound_eager es rank ranked name bound other =
-    ap (λ (fs : List Entry). eager fs other) (sym (set_group es name (eager es name) (known_within es name (bound_known es name bound))))
+    ap (λ (fs : List Entry). eager fs other) (sym (set_group es name (eager es name)
+    (known_within es name (bound_known es name bound))))
     ∙ eager-kept es rank ranked name other
 
 pub unbind_eager : (stored : Stored) (rank : ℕ → ℕ) → Ranked stored.entries rank → (name other : ℕ)
@@ -115,7 +123,8 @@ unbind_eager stored rank ranked name other =
     let after : Stored =
     with_entries (with_group (λ (o : ℕ). o == name) (eager stored.entries name) stored.entries)
     (with_unread (after_reading stored.entries name stored.unread) stored) in
-    cond_both (bound_in stored.entries name) after stored (λ (now : Stored). eager now.entries other ≡ eager stored.entries other)
+    cond_both (bound_in stored.entries name) after stored (λ (now : Stored). eager now.entries other
+    ≡ eager stored.entries other)
     (λ bound. unbound_eager stored.entries rank ranked name bound other) (λ _. refl)
 
 pub tells_unbind : (name : Name) (stored : Stored) (rank : ℕ → ℕ) → Ranked stored.entries rank → (notices : Notices)

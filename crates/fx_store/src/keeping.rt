@@ -1,6 +1,6 @@
-//! Changes that make no property unread: the end of a binding, of a pair or of a name, listeners that come and go, and a
-//! property that is set to the value that it has. Each is made in one step; then every watched property is read, where an
-//! earlier want of memory left one unread.
+//! Changes that make no property unread: the end of a binding, of a pair or of a name, listeners that come and go, and
+//! a property that is set to the value that it has. Each is made in one step; then every watched property is read,
+//! where an earlier want of memory left one unread.
 ghost use Rattle.std.specs.Prelude.{ℕ, ◌≡◌, ◌≢◌, ◌≤◌, ◌+◌, [], ◌∷◌, false, filter, not, true, Err, IfErr, IfOk, None, OnErr, OnOk};
 ghost use Rattle.fx_handles.specs.Living.{IsSound};
 ghost use Rattle.fx_listen.specs.declared.entries.Listener.{Listener as Heard};

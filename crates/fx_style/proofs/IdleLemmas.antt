@@ -1,5 +1,5 @@
 -- Nodes that keep what they have where it stands.
-use Rattle.std.proofs.Common.{◌≡◌, [], ◌<◌, ◌≤◌, ◌+◌, ℕ, zero, suc, Bool, true, false, List, Option, Some, None, length, refl, sym, ◌∙◌, ap, subst, arith}
+use Rattle.std.proofs.Common.{◌≡◌, ◌<◌, ◌+◌, ℕ, Bool, true, false, List, Option, Some, None, length, refl, sym, ◌∙◌, ap, subst, arith}
 use Rattle.std.specs.Prelude.{slice_get, option_and_then}
 use Rattle.std.specs.List.{filter_map}
 use Rattle.fx_css_types.specs.declared.sheets.SheetAt.{SheetAt}
@@ -16,7 +16,7 @@ use Rattle.fx_style.specs.Rules.{anew, needs, needs_by, renewed_by, ticks, worke
 use Rattle.fx_style.specs.Turns.{AreRightBelow, Stays}
 use Rattle.fx_style.proofs.CostLemmas.{worked_more}
 use Rattle.fx_style.proofs.FreshLemmas.{append-none}
-use Rattle.fx_style.proofs.TurnLemmas.{get_there, kept_ticks, stays_here, stays_style}
+use Rattle.fx_style.proofs.TurnLemmas.{kept_ticks, stays_here, stays_style}
 use Rattle.fx_style.proofs.UpdateLemmas.{now_of, right_more}
 
 -- a node that isn't listed, with its key where it stands
@@ -31,7 +31,8 @@ turn_of node at = record { at = at; key = node.key; listed = false; calm = false
 
 pub stays : (restyle : List ℕ) (looks : List Look) (rest : List Rest) (node : StyleFacts) (at : ℕ)
     → Idles restyle looks rest node at → Stays looks rest (turn_of node at)
-stays restyle looks rest node at idle = stays_here looks rest (turn_of node at) refl refl idle.place idle.in_looks idle.in_rest
+stays restyle looks rest node at idle = stays_here looks rest
+    (turn_of node at) refl refl idle.place idle.in_looks idle.in_rest
 
 pub kept_there : (looks : List Look) (rest : List Rest) (facts : List StyleFacts) (at : ℕ) (node : StyleFacts)
     → slice_get facts at ≡ Some node → kept_under looks rest node.key ≡ kept_at looks rest facts at
@@ -62,7 +63,8 @@ idle_cost facts restyle looks rest at next node is idle e =
     let kept = kept_at looks rest facts in
     let s = stays restyle looks rest node at idle in
     let nothing : ticks (needs restyle kept at) ≡ 0 =
-    ap (λ (o : Option NodeStyle). ticks (needs_by (is_among restyle at) o)) (sym (kept_there looks rest facts at node is))
+    ap (λ (o : Option NodeStyle). ticks (needs_by (is_among restyle at) o))
+    (sym (kept_there looks rest facts at node is))
     ∙ kept_ticks (is_among restyle at) (kept_under looks rest node.key) s.style idle.unlisted s.kept in
     let more : worked (needs restyle kept) at + ticks (needs restyle kept at) ≡ worked (needs restyle kept) next =
     worked_more (needs restyle kept) at next e in

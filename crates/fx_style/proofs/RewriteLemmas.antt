@@ -1,5 +1,5 @@
 -- Lengths that bindings give, written into the looks that are kept, make of these what an update makes.
-use Rattle.std.proofs.Common.{◌≡◌, ◌<◌, ◌+◌, ℕ, Bool, true, false, cond, List, [], Option, Some, None, get_or, length, refl, sym, ◌∙◌, ap, subst, arith, inl, inr}
+use Rattle.std.proofs.Common.{◌≡◌, ◌<◌, ℕ, Bool, true, false, cond, List, [], Option, Some, None, get_or, length, refl, sym, ◌∙◌, ap, subst, arith, inl, inr}
 use Rattle.std.specs.Prelude.{slice_get, is_none, is_some, IfSome}
 use Rattle.std.specs.Option.{option_map}
 use Rattle.std.proofs.lemmas.Bool.{cases_Bool, true≢false}
@@ -13,7 +13,7 @@ use Rattle.fx_node_style.specs.declared.node_styles.NodeStyle.{NodeStyle}
 use Rattle.fx_select.specs.Chains.{ParentsStandBefore}
 use Rattle.fx_style.specs.declared.kept.Entry.{Entry}
 use Rattle.fx_style.specs.declared.kept.Rest.{Rest}
-use Rattle.fx_style.specs.Kept.{Kept, entry, entry_in, is_among, joined}
+use Rattle.fx_style.specs.Kept.{Kept, entry, is_among, joined}
 use Rattle.fx_style.specs.Lasts.{AreStylesOf, rewritten}
 use Rattle.fx_style.specs.Places.{parent_at}
 use Rattle.fx_style.specs.Rewriting.{AreRecodedThere, bound_at, rewritten_at}
@@ -90,14 +90,16 @@ listed_entry sheets facts restyle marks old w at node is marked =
     λ p up. (let less = parent_before facts w.before at p up in
     sym (w.marked p (omega (arith, less, within))) ∙ there.calm marked p up) in
     ap (λ (b : Bool). joined (written b (slice_get facts at) (slice_get old.looks at)) (slice_get old.rest at)) marked
-    ∙ (ap (λ (o : Option StyleFacts). joined (option_map (bound_at o) (slice_get old.looks at)) (slice_get old.rest at)) is
+    ∙ (ap (λ (o : Option StyleFacts). joined (option_map (bound_at o) (slice_get old.looks at))
+    (slice_get old.rest at)) is
     ∙ (entry_rewritten node (slice_get old.looks at) (slice_get old.rest at)
     ∙ (ap (option_map (λ (e : Entry). entry e.key (rewritten node.codes e.style))) (w.are.styles at recoded.old was)
     ∙ (over_key recoded.old.key node.codes (style_of sheets w.olds at)
     ∙ (ap (λ (k : NodeKey). option_map (entry k) (option_map (rewritten node.codes) (style_of sheets w.olds at))) key
     ∙ ap (option_map (entry node.key))
     (ap (λ (n : StyleFacts). option_map (rewritten n.codes) (style_of sheets w.olds at)) (sym same)
-    ∙ sym (style_recoded_at sheets facts w.olds restyle old.looks old.rest w.before w.are at recoded.old recoded.node was
+    ∙ sym (style_recoded_at sheets facts w.olds restyle old.looks old.rest w.before w.are at recoded.old recoded.node
+    was
     recoded.is recoded.differs calm)))))))
 
 idles : (sheets : List SheetAt) (facts : List StyleFacts) (restyle : List ℕ) (marks : List Bool) (old : Kept)
@@ -128,7 +130,8 @@ other_entry sheets facts restyle marks old w at node is marked =
     (w.are.right at within idle.unlisted stay.style
     (sym (kept_there old.looks old.rest facts at node is) ∙ stay.kept)))
 
-pub update_is : (sheets : List SheetAt) (facts : List StyleFacts) (restyle : List ℕ) (marks : List Bool) (old new : Kept)
+pub update_is : (sheets : List SheetAt) (facts : List StyleFacts) (restyle : List ℕ) (marks : List Bool)
+    (old new : Kept)
     → IsRewriting sheets facts restyle marks old → length new.looks ≡ length old.looks
     → ((at : ℕ) → slice_get new.looks at ≡ rewritten_at marks facts old.looks at) → new.rest ≡ old.rest
     → IsUpdate sheets facts restyle old new

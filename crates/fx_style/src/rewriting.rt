@@ -41,7 +41,8 @@ fn is_recoded_there(scene: Scene<'_>, rest: &[Rest], marks: &[bool], at: usize) 
     requires keys { HaveDifferentKeys rest.now }
     requires long { length marks.now ≡ length scene.facts.now }
     requires there { at < length scene.facts.now }
-    ensures { IsTrue result → IsRecodedThere (option_copied scene.entry.last) scene.entry.facts.now rest.now marks.now at }
+    ensures { IsTrue result
+        → IsRecodedThere (option_copied scene.entry.last) scene.entry.facts.now rest.now marks.now at }
 {
     let node = &scene.facts[at];
     if !stands_at(rest, node.key, at) {

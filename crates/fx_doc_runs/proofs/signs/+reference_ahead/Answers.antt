@@ -8,7 +8,14 @@ pub behind_byte-requires : goal.behind_byte-requires
 behind_byte-requires t c = low_flat c.in_ok-byte.field-0.now (sym c.is_flat.ensures ∙ c.if-not-is_flat.false)
 
 pub returns-in-Some-Whole : goal.returns-in-Some-Whole
-returns-in-Some-Whole t c = refers_ends c.args.entity c.args.text.now c.in_ok-rest.rest.now c.in_ok-byte.field-0.now c.in-Some-Whole.found c.in_ok-rest.ensures.some (sym c.is_flat.ensures ∙ c.if-not-is_flat.false) (sym (c.step.ensures ∙ ap (entity_step c.args.entity) c.from.ensures) ∙ (c.in-Some-Whole.is ∙ ap Some c.in-Some-Whole.field-0-is))
+returns-in-Some-Whole t c = refers_ends c.args.entity c.args.text.now c.in_ok-rest.rest.now c.in_ok-byte.field-0.now
+    c.in-Some-Whole.found c.in_ok-rest.ensures.some (sym c.is_flat.ensures ∙ c.if-not-is_flat.false)
+    (sym (c.step.ensures ∙ ap (entity_step c.args.entity) c.from.ensures)
+    ∙ (c.in-Some-Whole.is ∙ ap Some c.in-Some-Whole.field-0-is))
 
 pub returns-in-Some-Further : goal.returns-in-Some-Further
-returns-in-Some-Further t c = refers_next c.reference_ahead.result (λ x. x.0) (λ x. x.1.now) c.args.entity c.in-Some-Further.next c.args.text.now c.in_ok-rest.rest.now c.in_ok-byte.field-0.now c.in_ok-rest.ensures.some (sym c.is_flat.ensures ∙ c.if-not-is_flat.false) (sym (c.step.ensures ∙ ap (entity_step c.args.entity) c.from.ensures) ∙ (c.in-Some-Further.is ∙ ap Some c.in-Some-Further.field-0-is)) c.reference_ahead.ensures
+returns-in-Some-Further t c = refers_next c.reference_ahead.result (λ x. x.0)
+    (λ x. x.1.now) c.args.entity c.in-Some-Further.next c.args.text.now c.in_ok-rest.rest.now c.in_ok-byte.field-0.now
+    c.in_ok-rest.ensures.some (sym c.is_flat.ensures ∙ c.if-not-is_flat.false)
+    (sym (c.step.ensures ∙ ap (entity_step c.args.entity) c.from.ensures)
+    ∙ (c.in-Some-Further.is ∙ ap Some c.in-Some-Further.field-0-is)) c.reference_ahead.ensures

@@ -14,8 +14,11 @@ use Rattle.fx_expr.proofs.decimals.number.Goals as goal
 pub returns-clause-number : goal.returns-clause-number
 returns-clause-number c =
     let fits : SFits w64 c.rounded-number.result = search rules in
-    let whole = c.number_of.ensures ∙ ap (λ (ds : List ℕ). min (number_behind 0 ds) (2 ^ 64 - 1)) (c.as_bytes.ensures.value ∙ c.digits.ensures.digits) in
+    let whole = c.number_of.ensures ∙ ap (λ (ds : List ℕ). min (number_behind 0 ds) (2 ^ 64 - 1))
+    (c.as_bytes.ensures.value ∙ c.digits.ensures.digits) in
     ap (λ (n : ℤ). Constant (value.Int n))
     (to_z-of_z w64 c.rounded-number.result fits
-    ∙ (c.rounded-number.ensures ∙ decimal_is (front is_ascii_digit (chars c.args.text.now)) (fraction_digits (behind is_ascii_digit (chars c.args.text.now))) c.fraction-up.result.0 c.number_of.result
-    (fraction_pass (behind is_ascii_digit (chars c.args.text.now))) (rw c.digits.ensures.rest at c.fraction-up.ensures.up) whole))
+    ∙ (c.rounded-number.ensures ∙ decimal_is (front is_ascii_digit (chars c.args.text.now))
+    (fraction_digits (behind is_ascii_digit (chars c.args.text.now))) c.fraction-up.result.0 c.number_of.result
+    (fraction_pass (behind is_ascii_digit (chars c.args.text.now)))
+    (rw c.digits.ensures.rest at c.fraction-up.ensures.up) whole))

@@ -2,10 +2,14 @@ use Rattle.fx_expr.proofs.RunLemmas.{low_letter, run_behind, run_ends, run_front
 use Rattle.fx_expr.proofs.fronts.letters.Goals as goal
 
 pub split_at-requires : goal.split_at-requires
-split_at-requires c = run_ends _ low_letter c.args.text.now c.letter_count.result (rw c.as_bytes.ensures.value at c.letter_count.ensures.count) (rw c.as_bytes.ensures.value at c.letter_count.ensures.within) c.utf8.text
+split_at-requires c = run_ends _ low_letter c.args.text.now c.letter_count.result
+    (rw c.as_bytes.ensures.value at c.letter_count.ensures.count)
+    (rw c.as_bytes.ensures.value at c.letter_count.ensures.within) c.utf8.text
 
 pub returns-clause-letters : goal.returns-clause-letters
-returns-clause-letters c = run_front _ low_letter c.args.text.now _ c.letter_count.result (rw c.as_bytes.ensures.value at c.letter_count.ensures.count) c.utf8.text c.split_at.ensures.front
+returns-clause-letters c = run_front _ low_letter c.args.text.now _ c.letter_count.result
+    (rw c.as_bytes.ensures.value at c.letter_count.ensures.count) c.utf8.text c.split_at.ensures.front
 
 pub returns-clause-rest : goal.returns-clause-rest
-returns-clause-rest c = run_behind _ low_letter c.args.text.now _ c.letter_count.result (rw c.as_bytes.ensures.value at c.letter_count.ensures.count) c.utf8.text c.split_at.ensures.back
+returns-clause-rest c = run_behind _ low_letter c.args.text.now _ c.letter_count.result
+    (rw c.as_bytes.ensures.value at c.letter_count.ensures.count) c.utf8.text c.split_at.ensures.back

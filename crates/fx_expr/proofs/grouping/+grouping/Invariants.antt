@@ -23,5 +23,6 @@ invariant-level-loop-next l = (l.done ≤ l.strength)
     ≡ rise (operand_of l.paths l.depth) 0 l.strength (tree l.initial.left) l.initial.rest)
 
 abbrev pub invariant-more_operands-loop : goal.invariant-more_operands-loop
-invariant-more_operands-loop l = more_of (level_of l.paths l.depth (l.strength - 1)) l.strength (length l.tokens - l.counter) (tree l.left) l.rest
+invariant-more_operands-loop l = more_of (level_of l.paths l.depth (l.strength - 1)) l.strength
+    (length l.tokens - l.counter) (tree l.left) l.rest
     ≡ more_of (level_of l.paths l.depth (l.strength - 1)) l.strength (length l.tokens) (tree l.fn.first) l.tokens

@@ -8,4 +8,5 @@ use Rattle.fx_expr.proofs.scanning.scan.Given as goal
 
 abbrev pub invariant-loop : goal.invariant-loop
 invariant-loop l = shadow (Utf8 l.rest)
-    × (with_tokens l.tokens.items (tokens_of (length (chars l.text) - l.counter) (chars l.rest)) ≡ tokens_of (length (chars l.text)) (after_white (chars l.text)))
+    × (with_tokens l.tokens.items (tokens_of (length (chars l.text) - l.counter) (chars l.rest))
+    ≡ tokens_of (length (chars l.text)) (after_white (chars l.text)))

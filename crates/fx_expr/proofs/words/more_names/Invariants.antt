@@ -8,4 +8,5 @@ use Rattle.fx_expr.proofs.words.more_names.Given as goal
 
 abbrev pub invariant-loop : goal.invariant-loop
 invariant-loop l = shadow (Utf8 l.rest)
-    × (with_names l.names.items (names_at (length (chars l.text) - l.counter) (chars l.rest)) ≡ with_names l.fn.first.items (names_at (length (chars l.text)) (chars l.text)))
+    × (with_names l.names.items (names_at (length (chars l.text) - l.counter) (chars l.rest))
+    ≡ with_names l.fn.first.items (names_at (length (chars l.text)) (chars l.text)))

@@ -3,21 +3,19 @@ use Rattle.std.specs.Prelude.{slice_get, is_some, option_and_then}
 use Rattle.std.specs.List.{filter_map}
 use Rattle.std.specs.Option.{option_map}
 use Rattle.std.proofs.lemmas.Bool.{cases_eq}
-use Rattle.std.proofs.lemmas.Option.{slice_get-get_or, slice_get_read, slice_get_within}
+use Rattle.std.proofs.lemmas.Option.{slice_get-get_or, slice_get_read}
 use Rattle.fx_base.specs.declared.work.Work.{Work}
 use Rattle.fx_kinds.specs.declared.facts.StyleFacts.{StyleFacts}
 use Rattle.fx_node_style.specs.declared.node_styles.NodeStyle.{NodeStyle}
 use Rattle.fx_style.specs.declared.kept.Entry.{Entry}
 use Rattle.fx_style.specs.declared.kept.Fresh.{Fresh}
-use Rattle.fx_style.specs.Kept.{entry, fresh_at, is_among, kept_at, kept_under, place_of_key}
+use Rattle.fx_style.specs.Kept.{entry, fresh_at, is_among, kept_at, kept_under}
 use Rattle.fx_style.specs.Places.{parent_at, places_up}
 use Rattle.fx_style.specs.Plans.{AreSteps, drafted, made_fresh, put_step}
 use Rattle.fx_style.specs.Rules.{anew, needs, needs_by, renewed_by, ticks, worked}
 use Rattle.fx_style.specs.Turns.{AreRightBelow}
 use Rattle.fx_style.proofs.CostLemmas.{worked_more}
 use Rattle.fx_style.proofs.FreshLemmas.{AreFew, few_more, fresh-here, fresh-other, long_more, steps_more}
-use Rattle.fx_look.specs.declared.looks.Look.{Look}
-use Rattle.fx_style.specs.declared.kept.Rest.{Rest}
 use Rattle.fx_style.proofs.RecodedLemmas.{parent_is}
 use Rattle.fx_style.proofs.IdleLemmas.{Idles, idle_cost, idle_right}
 use Rattle.fx_style.proofs.UpdateLemmas.{now_of, right_more}

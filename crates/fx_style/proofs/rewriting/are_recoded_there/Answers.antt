@@ -9,6 +9,7 @@ loop-at-preserved c = λ k less.
     elim (cases_lt k c.loop-at.at) [
       | inl before ↦ c.loop-at.invariant k before
       | inr last ↦ (let here : c.loop-at.at ≡ k = omega (arith, less, last) in
-          subst (IsRecodedThere (option_copied c.args.scene.last) c.args.scene.facts.now c.args.rest.now c.args.marks.now)
+          subst (IsRecodedThere (option_copied c.args.scene.last) c.args.scene.facts.now c.args.rest.now
+          c.args.marks.now)
           here (c.is_recoded_there.ensures c.if-not-is_recoded_there.false))
     ]

@@ -12,7 +12,8 @@ use Rattle.fx_store.proofs.store.Store.set.Goals as goal
 
 pub returns-in-Some-clause-applied : goal.returns-in-Some-clause-applied
 returns-in-Some-clause-applied g c =
-    refused_set c.self.inside.graph c.self.inside.pairs c.self.inside.listeners c.self.inside.owners c.self.inside.behind c.args.self.now
+    refused_set c.self.inside.graph c.self.inside.pairs c.self.inside.listeners c.self.inside.owners
+    c.self.inside.behind c.args.self.now
     c.args.name c.args.value c.in-Some.refusal c.from.result c.args.work.now.evaluated c.self.view_is
     (sym c.refuses_set.ensures ∙ c.in-Some.is) c.from.ensures
 
@@ -38,7 +39,8 @@ returns-in_err-watch-clause-applied g c =
     subst (λ (stored : Stored). set_refusal ((c.args.name, c.args.value) ∷ []) stored.entries ≡ None) c.self.view_is
     (sym c.refuses_set.ensures ∙ not_some c.refuses_set.result c.in_default.not-Some) in
     rw (p.1, p.2)
-    (step_unmade _ _ _ _ _ (allowed_set c.args.self.now c.args.name c.args.value none) c.look.ensures.same c.look.ensures.cost)
+    (step_unmade _ _ _ _ _ (allowed_set c.args.self.now c.args.name c.args.value none) c.look.ensures.same
+    c.look.ensures.cost)
 
 pub returns-in_err-values-clause-applied : goal.returns-in_err-values-clause-applied
 returns-in_err-values-clause-applied g c =
@@ -47,7 +49,8 @@ returns-in_err-values-clause-applied g c =
     subst (λ (stored : Stored). set_refusal ((c.args.name, c.args.value) ∷ []) stored.entries ≡ None) c.self.view_is
     (sym c.refuses_set.ensures ∙ not_some c.refuses_set.result c.in_default.not-Some) in
     rw (p.1, p.2)
-    (step_unmade _ _ _ _ _ (allowed_set c.args.self.now c.args.name c.args.value none) c.look.ensures.same c.look.ensures.cost)
+    (step_unmade _ _ _ _ _ (allowed_set c.args.self.now c.args.name c.args.value none) c.look.ensures.same
+    c.look.ensures.cost)
 
 pub set_group-requires : goal.set_group-requires
 set_group-requires g c =
@@ -55,8 +58,10 @@ set_group-requires g c =
     subst (λ (stored : Stored). set_refusal ((c.args.name, c.args.value) ∷ []) stored.entries ≡ None) c.self.view_is
     (sym c.refuses_set.ensures ∙ not_some c.refuses_set.result c.in_default.not-Some) in
     let group =
-    set_values c.self-2.inside.graph c.self-2.inside.pairs c.self-2.inside.listeners c.self-2.inside.owners c.self-2.inside.behind
-    c.args.self.now c.args.name c.args.value c.as_slice.result.now (c.self-2.view_is ∙ c.look.ensures.same) c.self-2.invariant none
+    set_values c.self-2.inside.graph c.self-2.inside.pairs c.self-2.inside.listeners c.self-2.inside.owners
+    c.self-2.inside.behind
+    c.args.self.now c.args.name c.args.value c.as_slice.result.now
+    (c.self-2.view_is ∙ c.look.ensures.same) c.self-2.invariant none
     (c.in_ok-values.ensures.0, c.in_ok-values.ensures.1, c.as_slice.ensures.value ∙ c.in_ok-values.ensures.2) in
     group.distinct
 
@@ -67,16 +72,21 @@ returns-in_err-set_group-clause-applied g c =
     subst (λ (stored : Stored). set_refusal ((c.args.name, c.args.value) ∷ []) stored.entries ≡ None) c.self.view_is
     (sym c.refuses_set.ensures ∙ not_some c.refuses_set.result c.in_default.not-Some) in
     let group =
-    set_values c.self-2.inside.graph c.self-2.inside.pairs c.self-2.inside.listeners c.self-2.inside.owners c.self-2.inside.behind
-    c.args.self.now c.args.name c.args.value c.as_slice.result.now (c.self-2.view_is ∙ c.look.ensures.same) c.self-2.invariant none
+    set_values c.self-2.inside.graph c.self-2.inside.pairs c.self-2.inside.listeners c.self-2.inside.owners
+    c.self-2.inside.behind
+    c.args.self.now c.args.name c.args.value c.as_slice.result.now
+    (c.self-2.view_is ∙ c.look.ensures.same) c.self-2.invariant none
     (c.in_ok-values.ensures.0, c.in_ok-values.ensures.1, c.as_slice.ensures.value ∙ c.in_ok-values.ensures.2) in
     rw (p.1, p.2)
-    (failed_made c.self-2.inside.graph c.self-2.inside.pairs c.self-2.inside.listeners c.self-2.inside.owners c.self-2.inside.behind
+    (failed_made c.self-2.inside.graph c.self-2.inside.pairs c.self-2.inside.listeners c.self-2.inside.owners
+    c.self-2.inside.behind
     (Set c.args.name c.args.value) c.args.self.now (set_refusal c.as_slice.result.now c.self-2.inside.graph.entries)
     c.in_err-set_group.field-0.0 c.set_group.new.self c.args.work.now.evaluated c.look.new.work.evaluated
     (c.self-2.view_is ∙ c.look.ensures.same) (allowed_set c.args.self.now c.args.name c.args.value none)
-    (set_unrefused c.self-2.inside.graph c.self-2.inside.pairs c.self-2.inside.listeners c.self-2.inside.owners c.self-2.inside.behind
-    c.args.self.now c.args.name c.args.value c.as_slice.result.now (c.self-2.view_is ∙ c.look.ensures.same) c.self-2.invariant none group)
+    (set_unrefused c.self-2.inside.graph c.self-2.inside.pairs c.self-2.inside.listeners c.self-2.inside.owners
+    c.self-2.inside.behind
+    c.args.self.now c.args.name c.args.value c.as_slice.result.now
+    (c.self-2.view_is ∙ c.look.ensures.same) c.self-2.invariant none group)
     c.in_err-set_group.ensures.answer c.in_err-set_group.ensures.err c.look.ensures.cost)
 
 pub finish-requires-clause-known : goal.finish-requires-clause-known
@@ -85,11 +95,14 @@ finish-requires-clause-known g c =
     subst (λ (stored : Stored). set_refusal ((c.args.name, c.args.value) ∷ []) stored.entries ≡ None) c.self.view_is
     (sym c.refuses_set.ensures ∙ not_some c.refuses_set.result c.in_default.not-Some) in
     let group =
-    set_values c.self-2.inside.graph c.self-2.inside.pairs c.self-2.inside.listeners c.self-2.inside.owners c.self-2.inside.behind
-    c.args.self.now c.args.name c.args.value c.as_slice.result.now (c.self-2.view_is ∙ c.look.ensures.same) c.self-2.invariant none
+    set_values c.self-2.inside.graph c.self-2.inside.pairs c.self-2.inside.listeners c.self-2.inside.owners
+    c.self-2.inside.behind
+    c.args.self.now c.args.name c.args.value c.as_slice.result.now
+    (c.self-2.view_is ∙ c.look.ensures.same) c.self-2.invariant none
     (c.in_ok-values.ensures.0, c.in_ok-values.ensures.1, c.as_slice.ensures.value ∙ c.in_ok-values.ensures.2) in
     let under =
-    under_set c.self-2.inside.graph c.self-2.inside.pairs c.self-2.inside.listeners c.self-2.inside.owners c.self-2.inside.behind
+    under_set c.self-2.inside.graph c.self-2.inside.pairs c.self-2.inside.listeners c.self-2.inside.owners
+    c.self-2.inside.behind
     c.args.self.now c.set_group.new.self c.args.name c.args.value c.as_slice.result.now c.in_ok-watch.watch.names.items
     c.in_ok-watch.watch.heard.items c.in_ok-watch.watch.before.items c.args.work.now.evaluated c.look.new.work.evaluated
     (c.self-2.view_is ∙ c.look.ensures.same) c.self-2.invariant
@@ -103,11 +116,14 @@ invariant_of-self-2 g c =
     subst (λ (stored : Stored). set_refusal ((c.args.name, c.args.value) ∷ []) stored.entries ≡ None) c.self.view_is
     (sym c.refuses_set.ensures ∙ not_some c.refuses_set.result c.in_default.not-Some) in
     let group =
-    set_values c.self-2.inside.graph c.self-2.inside.pairs c.self-2.inside.listeners c.self-2.inside.owners c.self-2.inside.behind
-    c.args.self.now c.args.name c.args.value c.as_slice.result.now (c.self-2.view_is ∙ c.look.ensures.same) c.self-2.invariant none
+    set_values c.self-2.inside.graph c.self-2.inside.pairs c.self-2.inside.listeners c.self-2.inside.owners
+    c.self-2.inside.behind
+    c.args.self.now c.args.name c.args.value c.as_slice.result.now
+    (c.self-2.view_is ∙ c.look.ensures.same) c.self-2.invariant none
     (c.in_ok-values.ensures.0, c.in_ok-values.ensures.1, c.as_slice.ensures.value ∙ c.in_ok-values.ensures.2) in
     let under =
-    under_set c.self-2.inside.graph c.self-2.inside.pairs c.self-2.inside.listeners c.self-2.inside.owners c.self-2.inside.behind
+    under_set c.self-2.inside.graph c.self-2.inside.pairs c.self-2.inside.listeners c.self-2.inside.owners
+    c.self-2.inside.behind
     c.args.self.now c.set_group.new.self c.args.name c.args.value c.as_slice.result.now c.in_ok-watch.watch.names.items
     c.in_ok-watch.watch.heard.items c.in_ok-watch.watch.before.items c.args.work.now.evaluated c.look.new.work.evaluated
     (c.self-2.view_is ∙ c.look.ensures.same) c.self-2.invariant
@@ -121,14 +137,18 @@ returns-clause-applied g c =
     subst (λ (stored : Stored). set_refusal ((c.args.name, c.args.value) ∷ []) stored.entries ≡ None) c.self.view_is
     (sym c.refuses_set.ensures ∙ not_some c.refuses_set.result c.in_default.not-Some) in
     let group =
-    set_values c.self-2.inside.graph c.self-2.inside.pairs c.self-2.inside.listeners c.self-2.inside.owners c.self-2.inside.behind
-    c.args.self.now c.args.name c.args.value c.as_slice.result.now (c.self-2.view_is ∙ c.look.ensures.same) c.self-2.invariant none
+    set_values c.self-2.inside.graph c.self-2.inside.pairs c.self-2.inside.listeners c.self-2.inside.owners
+    c.self-2.inside.behind
+    c.args.self.now c.args.name c.args.value c.as_slice.result.now
+    (c.self-2.view_is ∙ c.look.ensures.same) c.self-2.invariant none
     (c.in_ok-values.ensures.0, c.in_ok-values.ensures.1, c.as_slice.ensures.value ∙ c.in_ok-values.ensures.2) in
     let under =
-    under_set c.self-2.inside.graph c.self-2.inside.pairs c.self-2.inside.listeners c.self-2.inside.owners c.self-2.inside.behind
+    under_set c.self-2.inside.graph c.self-2.inside.pairs c.self-2.inside.listeners c.self-2.inside.owners
+    c.self-2.inside.behind
     c.args.self.now c.set_group.new.self c.args.name c.args.value c.as_slice.result.now c.in_ok-watch.watch.names.items
     c.in_ok-watch.watch.heard.items c.in_ok-watch.watch.before.items c.args.work.now.evaluated c.look.new.work.evaluated
     (c.self-2.view_is ∙ c.look.ensures.same) c.self-2.invariant
     (record { watch = c.in_ok-watch.ensures.watch; few = c.look.ensures.cost }) group none
     c.in_ok-set_group.ensures.ok in
-    c.finish.ensures.told (Set c.args.name c.args.value) c.args.self.now c.self-2.inside.pairs c.args.work.now.evaluated under
+    c.finish.ensures.told (Set c.args.name c.args.value) c.args.self.now c.self-2.inside.pairs
+    c.args.work.now.evaluated under

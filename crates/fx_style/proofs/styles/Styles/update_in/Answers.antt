@@ -87,7 +87,8 @@ returns-then-are_recoded_there-clause-cost g c =
     (c.are_recoded_there.ensures.there c.if-are_recoded_there.true)) in
     let same : worked (λ at. get_or c.as_slice-then-are_recoded_there.result.now at false) (length facts)
     ≡ worked (needs restyle (kept_of old facts)) (length facts) =
-    ap (λ (m : List Bool). worked (λ at. get_or m at false) (length facts)) c.as_slice-then-are_recoded_there.ensures.value
+    ap (λ (m : List Bool). worked (λ at. get_or m at false) (length facts))
+    c.as_slice-then-are_recoded_there.ensures.value
     ∙ cost_is sheets facts restyle marks old
     (rewriting_of sheets facts restyle marks old last c.requires.before
     (c.are_recoded_there.ensures.last c.if-are_recoded_there.true) c.requires.last c.in_ok-marks.ensures.marks

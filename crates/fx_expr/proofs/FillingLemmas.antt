@@ -1,5 +1,5 @@
 -- What filling means, and that its places are within those that are left.
-use Rattle.std.proofs.Common.{◌≡◌, ◌<◌, ℕ, true, List, [], ◌∷◌, zero, suc, length, take, get_or, refl, ap, ◌∙◌, arith, Option, None, Some, is_none, cond}
+use Rattle.std.proofs.Common.{◌≡◌, ◌<◌, ◌≤◌, ℕ, true, List, [], ◌∷◌, zero, suc, length, take, get_or, refl, ap, ◌∙◌, arith, Option, None, Some, is_none, cond}
 use Rattle.std.proofs.lemmas.List.Sums.{sum_by-cons}
 use Rattle.std.proofs.lemmas.Bool.Decides.{Decides-ltb}
 use Rattle.fx_base.specs.declared.values.Value.{Value}
@@ -58,3 +58,38 @@ filled_means known left (Two sign x y) e long =
     let both = and_parts (is_within x (length known)) (is_within y (length known)) e in
     ap (λ m. binary_of sign m (mean (filled known y) left)) (filled_means known left x both.0 long)
     ∙ ap (λ n. binary_of sign (mean x (merged known left)) n) (filled_means known left y both.1 long)
+
+unknown_few : (known : List (Option Value)) → unknowns known ≤ length known
+unknown_few [] = omega arith
+unknown_few (Some v ∷ known) = let e = known_more v known in let few = unknown_few known in omega arith
+unknown_few (None ∷ known) = let e = unknown_more known in let few = unknown_few known in omega arith
+
+-- where none is known, an operand keeps its number
+operand_stays : (known : List (Option Value)) (i : ℕ) → i < length known → unknowns known ≡ length known
+    → Place i ≡ filled_operand (get_or known i None) (unknowns (take i known))
+operand_stays [] i below all = absurd (omega arith)
+operand_stays (Some v ∷ known) i below all =
+    absurd (let e = known_more v known in let few = unknown_few known in
+    let z : unknowns (Some v ∷ known) ≡ suc (length known) = all in omega arith)
+operand_stays (None ∷ known) zero below all = refl
+operand_stays (None ∷ known) (suc i) below all =
+    rw (unknown_more (take i known))
+    (placed (get_or known i None) (unknowns (take i known)) i (operand_stays known i (omega arith) left))
+  where
+    left : unknowns known ≡ length known
+    left = let e = unknown_more known in let z : unknowns (None ∷ known) ≡ suc (length known) = all in omega arith
+
+    placed : (o : Option Value) (m n : ℕ) → Place n ≡ filled_operand o m → Place (suc n) ≡ filled_operand o (suc m)
+    placed (Some v) m n e = absurd cc
+    placed None m n e = let same : n ≡ m = cc in ap (λ k. Place (suc k)) same
+
+-- where none is known, nothing is filled
+pub none_filled : (known : List (Option Value)) (t : Tree) → unknowns known ≡ length known
+    → is_within t (length known) ≡ true → t ≡ filled known t
+none_filled known (Leaf v) all e = refl
+none_filled known (Place i) all e = operand_stays known i ((Decides-ltb i (length known)).0 e) all
+none_filled known (One sign x) all e = ap (One sign) (none_filled known x all e)
+none_filled known (Two sign x y) all e =
+    let both = and_parts (is_within x (length known)) (is_within y (length known)) e in
+    ap (λ m. Two sign m y) (none_filled known x all both.0)
+    ∙ ap (λ n. Two sign (filled known x) n) (none_filled known y all both.1)

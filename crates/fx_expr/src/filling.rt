@@ -25,7 +25,19 @@ pub fn fill(alloc: Global, parsed: Parsed, known: Vec<Option<Value>>) -> Result<
     filled_with(alloc, expr, known.as_slice())
 }
 
+/// The expression with the known values in it. Where none is known it stays as it is.
+#[tactic(auto, using(crate::proofs::FillingLemmas::none_filled))]
 fn filled_with(alloc: Global, expr: Expr, known: &[Option<Value>]) -> Result<Expr, AllocError>
+    requires { IsTrue (is_within (tree expr) (length known.now)) }
+    ensures { IfOk result (λ e. tree e ≡ filled known.now (tree expr)) }
+{
+    if count_unknown(known) == known.len() {
+        return Ok(expr);
+    }
+    filled_in(alloc, expr, known)
+}
+
+fn filled_in(alloc: Global, expr: Expr, known: &[Option<Value>]) -> Result<Expr, AllocError>
     requires { IsTrue (is_within (tree expr) (length known.now)) }
     ensures { IfOk result (λ e. tree e ≡ filled known.now (tree expr)) }
 {
@@ -33,12 +45,12 @@ fn filled_with(alloc: Global, expr: Expr, known: &[Option<Value>]) -> Result<Exp
         Expr::Const(value) => Ok(Expr::Const(value)),
         Expr::Operand(place) => operand(alloc, place, known),
         Expr::Unary(sign, inner) => {
-            let inner = filled_with(alloc, Box::into_inner(inner), known)?;
+            let inner = filled_in(alloc, Box::into_inner(inner), known)?;
             Ok(Expr::Unary(sign, Box::new(alloc, inner)?))
         }
         Expr::Binary(sign, left, right) => {
-            let left = filled_with(alloc, Box::into_inner(left), known)?;
-            let right = filled_with(alloc, Box::into_inner(right), known)?;
+            let left = filled_in(alloc, Box::into_inner(left), known)?;
+            let right = filled_in(alloc, Box::into_inner(right), known)?;
             let left = Box::new(alloc, left)?;
             Ok(Expr::Binary(sign, left, Box::new(alloc, right)?))
         }

@@ -1,3 +1,2 @@
 pub mod Appending
 pub mod Rows
-pub mod Runs

@@ -1,10 +1,9 @@
 //! Printing a row. Equal pixels one after another are printed from one text.
-ghost use Rattle.std.specs.Prelude.{◌≡◌, ◌∷◌, OnOk};
-ghost use Rattle.std.specs.List.{flat_map};
+ghost use Rattle.std.specs.Prelude.{◌≡◌, ◌∷◌, ◌≤◌, ◌==◌, OnOk, length};
+ghost use Rattle.std.specs.List.{flat_map, prefix_len};
 ghost use Rattle.fx_text.specs.Characters.{space};
 ghost use Rattle.fx_row_text.specs.Appending.{Appends};
-ghost use Rattle.fx_row_text.specs.Rows.{pixel_text, pixels_text, row_text};
-ghost use Rattle.fx_row_text.specs.Runs.{IsRun};
+ghost use Rattle.fx_row_text.specs.Rows.{copies, pixel_text, pixels_text, row_text, spaced_text};
 
 use fx_text::hex_digit;
 use std::alloc::AllocError;
@@ -40,43 +39,49 @@ fn print_pixels(text: &mut Vec<u8>, row: &[u32]) -> Result<(), AllocError>
     }
 }
 
+/// Each pixel behind a space. Equal pixels one after another are printed from one text.
 fn print_behind(text: &mut Vec<u8>, row: &[u32]) -> Result<(), AllocError>
-    ensures { Appends text.old.items text.new.items result (flat_map (λ p. space ∷ pixel_text p) row.now) }
+    ensures { Appends text.old.items text.new.items result (spaced_text row.now) }
 {
-    let mut run = Run::of(0);
-    for pixel in row {
-        run.go_on(*pixel);
-        text.extend_from_slice(&run.text)?;
+    let mut rest = row;
+    while let Some((pixel, others)) = rest.split_first() {
+        let equal = equal_count(*pixel, others);
+        print_run(text, *pixel, equal + 1)?;
+        rest = others.split_at(equal).1;
     }
     Ok(())
 }
 
-/// A pixel with its text, which serves as long as the pixels are the same.
-#[derive(Clone, Copy)]
-struct Run {
-    pixel: u32,
-    text: [u8; 7],
+/// How many pixels in front of the row are this one.
+fn equal_count(pixel: u32, row: &[u32]) -> usize
+    ensures count { result ≡ prefix_len (λ p. p == pixel) row.now }
+    ensures within { result ≤ length row.now }
+{
+    row.iter().take_while(|other| **other == pixel).count()
 }
 
-impl Run {
-    fn of(pixel: u32) -> Run
-        ensures { IsRun result × (result.pixel ≡ pixel) }
-    {
-        Run {
-            pixel,
-            text: spaced_digits(pixel),
-        }
+/// So many equal pixels, each behind a space.
+fn print_run(text: &mut Vec<u8>, pixel: u32, count: usize) -> Result<(), AllocError>
+    ensures { Appends text.old.items text.new.items result (copies count (space ∷ pixel_text pixel)) }
+{
+    let eight = eight_times(spaced_digits(pixel));
+    let mut left = count;
+    while left > 8 {
+        text.extend_from_slice(&eight)?;
+        left -= 8;
     }
+    text.extend_from_slice(&eight[..7 * left])?;
+    Ok(())
+}
 
-    /// Behind the next pixel.
-    fn go_on(&mut self, pixel: u32)
-        requires { IsRun self.old }
-        ensures { IsRun self.new × (self.new.pixel ≡ pixel) }
-    {
-        if self.pixel != pixel {
-            *self = Run::of(pixel);
-        }
-    }
+fn eight_times(text: [u8; 7]) -> [u8; 56]
+    ensures { result ≡ copies 8 text }
+{
+    let [a, b, c, d, e, f, g] = text;
+    [
+        a, b, c, d, e, f, g, a, b, c, d, e, f, g, a, b, c, d, e, f, g, a, b, c, d, e, f, g, a, b,
+        c, d, e, f, g, a, b, c, d, e, f, g, a, b, c, d, e, f, g, a, b, c, d, e, f, g,
+    ]
 }
 
 #[tactic(auto, unfolding(crate::specs::Rows::pixel_text))]

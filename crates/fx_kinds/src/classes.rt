@@ -63,6 +63,13 @@ static CLASSES: &[Class] = &[
     Class::Boolean,
 ];
 
+/// Every class, once.
+pub fn all_classes() -> &'static [Class]
+    ensures { result.now ≡ classes }
+{
+    CLASSES
+}
+
 /// The class of this simple name, whose letters keep their case.
 pub fn class_of(simple: &str) -> Option<Class>
     ensures found { IfSome result (λ class. name_of class ≡ simple.now) }

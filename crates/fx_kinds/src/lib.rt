@@ -10,7 +10,7 @@ mod presets;
 mod property_table;
 
 pub use classes::{
-    Class, birth_style, class_of, is_control, is_node, name_of, one_class, package_of,
+    Class, all_classes, birth_style, class_of, is_control, is_node, name_of, one_class, package_of,
     takes_children, value_kind,
 };
 pub use constraints::{

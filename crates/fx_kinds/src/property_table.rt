@@ -240,7 +240,8 @@ fn find_property(list: &[Property], name: &str) -> Option<usize>
 fn find_row(list: &[Property], name: &str) -> Option<usize>
     ensures { result ≡ position (λ p. bytes_eq p.name.now name.now) list.now }
 {
-    list.iter().position(|p| p.name == name)
+    list.iter()
+        .position(|p| p.name.len() == name.len() && p.name == name)
 }
 
 /// The declaration that styles a property names it back, and its values are of the property's kind.

@@ -1,42 +1,19 @@
 //! Classes by their names.
-ghost use Rattle.std.specs.Prelude.{◌≡◌};
+ghost use Rattle.std.specs.Prelude.{◌≡◌, ◌≢◌, ◌++◌, ◌∷◌, ℕ, List, MatchOption};
 ghost use Rattle.std.specs.List.{find};
+ghost use Rattle.std.specs.Str.{bytes_eq};
+ghost use Rattle.fx_text.specs.Characters.{full_stop};
+ghost use Rattle.fx_kinds.specs.Classes.{name_of, package_of};
 ghost use Rattle.fx_scene_names.specs.Names as spec;
 
-use fx_kinds::{Class, name_of};
-
-pub(crate) static CLASSES: &[Class] = &[
-    Class::Pane,
-    Class::Region,
-    Class::HBox,
-    Class::VBox,
-    Class::BorderPane,
-    Class::StackPane,
-    Class::AnchorPane,
-    Class::GridPane,
-    Class::Label,
-    Class::Button,
-    Class::ColumnConstraints,
-    Class::RowConstraints,
-    Class::Priority,
-    Class::Insets,
-    Class::Pos,
-    Class::HPos,
-    Class::VPos,
-    Class::Font,
-    Class::Url,
-    Class::String,
-    Class::Integer,
-    Class::Double,
-    Class::Boolean,
-];
+use fx_kinds::{Class, all_classes, name_of, package_of};
 
 /// The class that an element's name means: its simple name, or its full name.
 #[tactic(auto, unfolding(crate::specs::Names::class_named))]
 pub fn class_named(name: &str) -> Option<Class>
     ensures { result ≡ spec.class_named name.now }
 {
-    find_class(CLASSES, name)
+    find_class(all_classes(), name)
 }
 
 fn find_class(table: &[Class], name: &str) -> Option<Class>
@@ -48,36 +25,53 @@ fn find_class(table: &[Class], name: &str) -> Option<Class>
 fn is_called(class: Class, name: &str) -> bool
     ensures { result ≡ spec.is_called name.now class }
 {
-    name_of(class) == name || full_name(class) == name
+    is_simple(class, name) || is_full(class, name)
 }
 
-/// The name of the class with its package in front.
-pub fn full_name(class: Class) -> &'static str
-    ensures { result.now ≡ spec.full_name class }
+/// Is this the simple name of the class? Lengths tell most names apart.
+pub(crate) fn is_simple(class: Class, name: &str) -> bool
+    ensures { result ≡ bytes_eq (name_of class) name.now }
 {
-    match class {
-        Class::Pane => "javafx.scene.layout.Pane",
-        Class::Region => "javafx.scene.layout.Region",
-        Class::HBox => "javafx.scene.layout.HBox",
-        Class::VBox => "javafx.scene.layout.VBox",
-        Class::BorderPane => "javafx.scene.layout.BorderPane",
-        Class::StackPane => "javafx.scene.layout.StackPane",
-        Class::AnchorPane => "javafx.scene.layout.AnchorPane",
-        Class::GridPane => "javafx.scene.layout.GridPane",
-        Class::Label => "javafx.scene.control.Label",
-        Class::Button => "javafx.scene.control.Button",
-        Class::ColumnConstraints => "javafx.scene.layout.ColumnConstraints",
-        Class::RowConstraints => "javafx.scene.layout.RowConstraints",
-        Class::Priority => "javafx.scene.layout.Priority",
-        Class::Insets => "javafx.geometry.Insets",
-        Class::Pos => "javafx.geometry.Pos",
-        Class::HPos => "javafx.geometry.HPos",
-        Class::VPos => "javafx.geometry.VPos",
-        Class::Font => "javafx.scene.text.Font",
-        Class::Url => "java.net.URL",
-        Class::String => "java.lang.String",
-        Class::Integer => "java.lang.Integer",
-        Class::Double => "java.lang.Double",
-        Class::Boolean => "java.lang.Boolean",
+    let simple = name_of(class);
+    simple.len() == name.len() && simple == name
+}
+
+/// Is this the full name of the class?
+#[tactic(auto, using(crate::proofs::ClassLemmas::unqualified))]
+fn is_full(class: Class, name: &str) -> bool
+    ensures { result ≡ bytes_eq (spec.full_name class) name.now }
+{
+    match behind_package(class, name) {
+        Some(rest) => rest == name_of(class).as_bytes(),
+        None => false,
+    }
+}
+
+/// What stands behind the package of the class and a full stop.
+#[tactic(auto, using(crate::proofs::ClassLemmas::no_front, crate::proofs::ClassLemmas::behind_front))]
+pub(crate) fn behind_package(class: Class, text: &str) -> Option<&[u8]>
+    ensures { MatchOption result ((rest : List ℕ) → text.now ≢ package_of class ++ (full_stop ∷ rest))
+        (λ rest. text.now ≡ package_of class ++ (full_stop ∷ rest.now)) }
+{
+    match behind(package_of(class).as_bytes(), text.as_bytes()) {
+        Some(rest) => behind_stop(rest),
+        None => None,
+    }
+}
+
+fn behind<'a>(front: &[u8], text: &'a [u8]) -> Option<&'a [u8]>
+    ensures { MatchOption result ((rest : List ℕ) → text.now ≢ front.now ++ rest)
+        (λ rest. text.now ≡ front.now ++ rest.now) }
+{
+    text.strip_prefix(front)
+}
+
+fn behind_stop(text: &[u8]) -> Option<&[u8]>
+    ensures { MatchOption result ((rest : List ℕ) → text.now ≢ full_stop ∷ rest)
+        (λ rest. text.now ≡ full_stop ∷ rest.now) }
+{
+    match text.split_first() {
+        Some((&b'.', rest)) => Some(rest),
+        _ => None,
     }
 }

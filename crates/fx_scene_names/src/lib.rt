@@ -7,7 +7,7 @@ mod imports;
 mod owners;
 mod shapes;
 
-pub use classes::{class_named, full_name};
+pub use classes::class_named;
 pub use imports::{is_imported, lacks_import};
 pub use owners::lacks_owner;
 pub use shapes::{is_instance, is_static};

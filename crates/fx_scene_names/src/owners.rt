@@ -6,11 +6,11 @@ ghost use Rattle.std.specs.Str.{bytes_eq};
 ghost use Rattle.fx_kinds.specs.Classes.{name_of};
 ghost use Rattle.fx_scene_names.specs.Names as spec;
 
-use crate::classes::CLASSES;
+use crate::classes::is_simple;
 use crate::imports::is_imported;
 use crate::shapes::is_static;
 use fx_base::Text;
-use fx_kinds::{Class, name_of};
+use fx_kinds::{Class, all_classes};
 
 /// Is the class in front of the static property known, but not imported?
 #[tactic(auto, unfolding(crate::specs::Names::lacks_owner))]
@@ -39,7 +39,7 @@ fn owner_in(front: &str, rest: &str) -> Option<Class>
     if is_static(rest) {
         None
     } else {
-        find_simple(CLASSES, front)
+        find_simple(all_classes(), front)
     }
 }
 
@@ -53,5 +53,5 @@ fn split_name(name: &str) -> Option<(&str, &str)>
 fn find_simple(table: &[Class], name: &str) -> Option<Class>
     ensures { result ≡ find (λ class. bytes_eq (name_of class) name.now) table.now }
 {
-    table.iter().copied().find(|class| name_of(*class) == name)
+    table.iter().copied().find(|class| is_simple(*class, name))
 }

@@ -2,6 +2,7 @@ pub mod AllowedLemmas
 pub mod BindLemmas
 pub mod FinishLemmas
 pub mod FlagLemmas
+pub mod ForeseeLemmas
 pub mod ForgetLemmas
 pub mod GivenLemmas
 pub mod LookLemmas

@@ -4,31 +4,18 @@ ghost use Rattle.std.specs.Prelude.{ℕ, List, ◌≡◌, ◌≤◌, ◌<◌, �
 ghost use Rattle.fx_expr.specs.Meaning.{no_value};
 ghost use Rattle.fx_base.specs.Names.{numbers};
 ghost use Rattle.fx_graph_model.specs.Uses.{entry_of};
-ghost use Rattle.fx_graph_model.specs.Unread.{marked, unmarked};
-ghost use Rattle.fx_graph_model.specs.Marking.{MarksAll};
+ghost use Rattle.fx_graph_model.specs.Unread.{marked};
 ghost use Rattle.fx_graph_model.specs.Refusals.{IsFree, IsForgetRefusal, unknown_name};
 ghost use Rattle.fx_graph_model.specs.Changes.{after_forget, forgotten};
 ghost use Rattle.fx_graph.specs.Forgotten.{AreFlagged, IsOutside, IsSomeOutside, Keeps};
 ghost use Rattle.fx_graph.specs.Store.{Holds, shown};
 
 use crate::lists::Lists;
+use crate::marking::mark_names;
 use fx_base::{Name, Value};
-use fx_graph_edges::{Users, mark_one, operands_at, release_at, take_back};
+use fx_graph_edges::{Users, operands_at, release_at, take_back};
 use fx_graph_model::{Definition, Entry, GraphError};
 use fx_graph_refusals::asking::unknown_among;
-
-/// Marks these names in flags of which none is set, and lists them in the front of the work list: how many there are.
-fn mark_names(names: &[Name], flags: &mut [bool], work: &mut [usize]) -> usize
-    requires known { (name : ℕ) → Contains (numbers names.now) name → name < length flags.old }
-    requires room { length flags.old ≤ length work.old }
-    ensures { MarksAll (numbers names.now) flags.old work.old 0 flags.new work.new result }
-{
-    let mut end = 0;
-    for name in names {
-        end = mark_one(flags, work, end, name.0 as usize);
-    }
-    end
-}
 
 fn is_set(flags: &[bool], place: usize) -> bool
     ensures { result ≡ marked flags.now place }

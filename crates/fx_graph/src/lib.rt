@@ -4,6 +4,7 @@
 #![tactic(auto)]
 
 mod binding;
+mod foreseeing;
 mod forgetting;
 mod giving;
 mod lists;
@@ -21,7 +22,7 @@ ghost use Rattle.fx_base.specs.Printing.{kind_of};
 ghost use Rattle.fx_expr.specs.Tree.{is_within};
 ghost use Rattle.fx_base.specs.Names.{numbers};
 ghost use Rattle.fx_graph_model.specs.Uses.{Ranked, bound_in, unknown_in};
-ghost use Rattle.fx_graph_model.specs.Unread.{marked, IsClosed, bound_unread, evaluations, evaluations_of};
+ghost use Rattle.fx_graph_model.specs.Unread.{marked, newly_marked, IsClosed, bound_unread, evaluations, evaluations_of};
 ghost use Rattle.fx_graph_model.specs.Eager.{eager};
 ghost use Rattle.fx_graph_model.specs.Equality.{same_kind, same_value};
 ghost use Rattle.fx_graph_model.specs.Sound.{AreSound, IsAcyclic};
@@ -157,6 +158,16 @@ impl Graph {
         ensures { result ≡ refusals.publish_refusal pairs.now self.now.entries }
     {
         refusals::of_publish(self.lists.entries.as_slice(), pairs)
+    }
+
+    /// Lists what would become unread if these known properties changed, as what became so last. Nothing else changes.
+    pub fn foresee(&mut self, names: &[Name])
+        requires { changes.AreKnown self.old.entries names.now }
+        ensures { self.new ≡ record self.old {
+          newly = newly_marked self.old.entries (numbers names.now) self.old.unread;
+        } }
+    {
+        foreseeing::foresee(&mut self.lists, names);
     }
 
     /// Gives read-only properties values, all or none. Their origins stay.

@@ -1,5 +1,5 @@
-//! The end of each change: marks spread to all that reads what changed, and the names that became unread are listed.
-ghost use Rattle.std.specs.Prelude.{ℕ, List, Bool, ◌≡◌, ◌≤◌, length, take};
+//! Names that are marked, and the end of each change: marks spread to all that reads what changed, and the names that became unread are listed.
+ghost use Rattle.std.specs.Prelude.{ℕ, List, Bool, ◌≡◌, ◌≤◌, ◌<◌, Contains, length, take};
 ghost use Rattle.fx_base.specs.Names.{numbers};
 ghost use Rattle.fx_graph_model.specs.Uses.{Ranked};
 ghost use Rattle.fx_graph_model.specs.Unread.{after_marking, newly_marked};
@@ -8,7 +8,21 @@ ghost use Rattle.fx_graph_model.specs.Users.{Mirrors};
 ghost use Rattle.fx_graph.specs.Store.{IsMarked, IsRoomy};
 
 use crate::lists::Lists;
-use fx_graph_edges::{list_newly, spread};
+use fx_base::Name;
+use fx_graph_edges::{list_newly, mark_one, spread};
+
+/// Marks these names, and lists those that weren't marked in the front of the work list: how many there are.
+pub fn mark_names(names: &[Name], flags: &mut [bool], work: &mut [usize]) -> usize
+    requires known { (name : ℕ) → Contains (numbers names.now) name → name < length flags.old }
+    requires room { length flags.old ≤ length work.old }
+    ensures { MarksAll (numbers names.now) flags.old work.old 0 flags.new work.new result }
+{
+    let mut end = 0;
+    for name in names {
+        end = mark_one(flags, work, end, name.0 as usize);
+    }
+    end
+}
 
 /// Marks who reads one of the first `count` of the work list, and who reads those, to the end, and lists all that
 /// became unread. The names that were marked before it, and in which flags, are whatever they were.

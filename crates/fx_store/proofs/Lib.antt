@@ -6,8 +6,10 @@ pub mod Fewer
 pub mod Grouped
 pub mod KeepLemmas
 pub mod Lasting
+pub mod Looked
 pub mod Made
 pub mod MarkLemmas
+pub mod Near
 pub mod Pairing
 pub mod QuietLemmas
 pub mod Silent

@@ -1,7 +1,6 @@
 -- A change that marks names, from its steps to all that is said of it: it looks at what is watched, it is made in one call of
 -- the graph, and then every watched name is read.
 use Rattle.std.proofs.Common.{◌≡◌, ℕ, ◌+◌, ◌≤◌, Bool, List, Ok, Err, None, refl, subst}
-use Rattle.fx_base.specs.declared.values.Value.{Value}
 use Rattle.fx_store_model.specs.declared.changes.Change.{Change}
 use Rattle.fx_store_model.specs.declared.changes.Notices.{Notices}
 use Rattle.fx_store_model.specs.declared.errors.StoreError.TheVariants as error
@@ -16,7 +15,7 @@ use Rattle.fx_graph_model.specs.declared.entries.Entry.{Entry}
 use Rattle.fx_graph_model.specs.Changes.{IsSomeRead, State, after_read_all}
 use Rattle.fx_graph_model.specs.Unread.{evaluations_of}
 use Rattle.fx_store.specs.Kept.{IsKept, stored_of}
-use Rattle.fx_store.specs.Watching.{values_of, watch_list}
+use Rattle.fx_store.specs.Watching.{watch_list}
 use Rattle.fx_store.proofs.Ending.{AreWatched, applied_made, applied_short, cost_made, cost_unmade, due_by, made_read, made_some_read, unmade_as_was, watch_are}
 use Rattle.fx_store.proofs.Made.{IsMade, tells_made}
 use Rattle.fx_store.proofs.Staying.{known_living}
@@ -45,12 +44,10 @@ step_unmade change before now began looked allowed same few =
     applied_short change before now began looked allowed (unmade_as_was change before now same) (cost_unmade change before began looked few)
 
 -- what tells of a change, as a call over the graph says it
-pub record AreNotices (before : List Entry) (graph : State) (listeners heard : List Listener) (values : List Value) (notices : Notices) : Type 0 where
+pub record AreNotices (before : List Entry) (graph : State) (listeners : List Listener) (notices : Notices) : Type 0 where
   pub added : notices.added ≡ None
   pub invalid : notices.invalid ≡ invalid_notices graph.newly listeners
-  pub values_before : values ≡ values_of before heard
-  pub changed : (entries : List Entry) → values ≡ values_of entries heard
-      → notices.changed ≡ changed_notices entries graph.entries listeners
+  pub changed : notices.changed ≡ changed_notices before graph.entries listeners
 
 module _ (change : Change) (before : Stored) (graph now : State) (pairs : List (ℕ × ℕ)) (table : Table) (owners : Register) (names : List ℕ) where
   reads_few : (looked spent : ℕ) → IsMade change before graph pairs table owners
@@ -60,17 +57,16 @@ module _ (change : Change) (before : Stored) (graph now : State) (pairs : List (
       subst (λ few. spent ≤ looked + few) (due_by (before_reads change before) graph pairs table owners names is.whole watched) cost
 
   -- all is made, read and told
-  pub step_done : (notices : Notices) (heard : List Listener) (values : List Value) (began looked spent : ℕ)
+  pub step_done : (notices : Notices) (began looked spent : ℕ)
       → IsChangeAnswer {T = Notices} change before (Ok notices) → added_by change before ≡ None
       → IsMade change before graph pairs table owners
       → AreWatched names (stored_of graph pairs table owners) → now ≡ after_read_all names graph
-      → AreNotices before.entries graph (living_in owners.living table.entries) heard values notices
+      → AreNotices before.entries graph (living_in owners.living table.entries) notices
       → looked ≤ began + due before → spent ≤ looked + evaluations_of graph.entries names graph.unread
       → Applied change before (stored_of now pairs table owners) (Ok notices) began spent
-  step_done notices heard values began looked spent answer none is watched read tells look cost =
+  step_done notices began looked spent answer none is watched read tells look cost =
       applied_made change before (stored_of now pairs table owners) notices began spent answer
-      (tells_made change before graph pairs table owners notices is none tells.added tells.invalid
-      (tells.changed before.entries tells.values_before))
+      (tells_made change before graph pairs table owners notices is none tells.added tells.invalid tells.changed)
       (made_read change before graph now pairs table owners names is.whole read watched)
       (cost_made change before began looked spent look (reads_few looked spent is watched cost))
 

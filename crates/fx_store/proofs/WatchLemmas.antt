@@ -19,22 +19,23 @@ use Rattle.fx_graph_model.specs.Uses.{unknown_in}
 use Rattle.fx_graph_model.specs.Unread.{evaluations_of}
 use Rattle.fx_graph_model.proofs.ManyReads.{evaluations_more}
 use Rattle.fx_store_pairs.specs.Pairs.{pairs_of}
-use Rattle.fx_store.specs.Watching.{ends_of, heard_of, names_of, properties_of, values_of, watch_list}
+use Rattle.fx_store.specs.Watching.{ends_of, heard_of, names_of, properties_of, told_as, values_of, watch_list}
 
 -- it is told of changed values
 abbrev hears : Listener → Bool
 hears listener = same_kind listener.kind Change
 
 pub heard_living : (living : List Owner) (entries : List Listener)
-    → filter (λ (listener : Listener). same_kind listener.kind Change && is_live living listener) entries
+    → map told_as (filter (λ (listener : Listener). same_kind listener.kind Change && is_live living listener) entries)
     ≡ heard_of (living_in living entries)
 heard_living living entries =
-    filter_agree (λ (l : Listener). hears l && is_live living l) (λ (l : Listener). is_live living l && hears l)
+    ap (map told_as)
+    (filter_agree (λ (l : Listener). hears l && is_live living l) (λ (l : Listener). is_live living l && hears l)
     (λ (l : Listener). and-comm (hears l) (is_live living l)) entries
-    ∙ sym (filter-filter hears (is_live living) entries)
+    ∙ sym (filter-filter hears (is_live living) entries))
 
-pub numbers_heard : (heard : List Listener) → numbers (properties_of heard) ≡ names_of heard
-numbers_heard heard = map-map (λ (name : Name). name.0) (λ (listener : Listener). listener.name) heard
+pub numbers_heard : (heard : List (Name × ℕ)) → numbers (properties_of heard) ≡ names_of heard
+numbers_heard heard = map-map (λ (name : Name). name.0) (λ (to : Name × ℕ). to.0) heard
 
 -- both ends
 abbrev ends : Name × Name → List ℕ
@@ -71,42 +72,43 @@ all_first P xs ys all k d h =
     subst P (get_or_append_left xs ys d k h) (all k d (omega (arith, length-append xs ys)))
 
 -- reads of the first ones cost no more than those of all
-evaluations_first : (entries : List Entry) (xs ys : List ℕ) (flags : List Bool)
+pub evaluations_first : (entries : List Entry) (xs ys : List ℕ) (flags : List Bool)
     → evaluations_of entries xs flags ≤ evaluations_of entries (xs ++ ys) flags
 evaluations_first entries xs ys flags =
     evaluations_more entries xs (xs ++ ys) flags (λ n c. Contains-append_left xs ys n c)
 
 -- the watched names, of listeners that were lent as a slice
-pub watch_is : (pairs : List (ℕ × ℕ)) (listeners heard lent : List Listener) (names : List Name) → heard ≡ heard_of listeners
-    → lent ≡ heard → numbers names ≡ names_of lent ++ ends_of pairs → numbers names ≡ watch_list pairs listeners
+pub watch_is : (pairs : List (ℕ × ℕ)) (listeners : List Listener) (heard lent : List (Name × ℕ)) (names : List Name)
+    → heard ≡ heard_of listeners → lent ≡ heard → numbers names ≡ names_of lent ++ ends_of pairs → numbers names ≡ watch_list pairs listeners
 watch_is pairs listeners heard lent names listening loan same =
-    same ∙ ap (λ (ls : List Listener). names_of ls ++ ends_of pairs) (loan ∙ listening)
+    same ∙ ap (λ (ls : List (Name × ℕ)). names_of ls ++ ends_of pairs) (loan ∙ listening)
 
--- the first of them
-pub first_is : (heard lent : List Listener) (names given : List Name) → lent ≡ heard → names ≡ properties_of lent → given ≡ names
+-- the properties of listeners that were lent as a slice
+pub first_is : (heard lent : List (Name × ℕ)) (names given : List Name) → lent ≡ heard → names ≡ properties_of lent → given ≡ names
     → numbers given ≡ names_of heard
 first_is heard lent names given loan same gift =
     ap numbers (gift ∙ same) ∙ numbers_heard lent ∙ ap names_of loan
 
-pub first_known : (entries : List Entry) (pairs : List (ℕ × ℕ)) (listeners heard : List Listener) (given : List Name)
-    → heard ≡ heard_of listeners → numbers given ≡ names_of heard
-    → All (λ (name : ℕ). unknown_in entries name ≡ false) (watch_list pairs listeners) → AreKnown entries given
-first_known entries pairs listeners heard given listening first known =
-    known_names entries given (names_of (heard_of listeners)) (first ∙ ap names_of listening)
+-- those of all listeners are known
+pub first_known : (entries : List Entry) (pairs : List (ℕ × ℕ)) (listeners : List Listener) (heard : List (Name × ℕ))
+    → heard ≡ heard_of listeners → All (λ (name : ℕ). unknown_in entries name ≡ false) (watch_list pairs listeners)
+    → All (λ (name : ℕ). unknown_in entries name ≡ false) (names_of heard)
+first_known entries pairs listeners heard listening known =
+    subst (λ (ls : List (Name × ℕ)). All (λ (name : ℕ). unknown_in entries name ≡ false) (names_of ls)) (sym listening)
     (all_first (λ (name : ℕ). unknown_in entries name ≡ false) (names_of (heard_of listeners)) (ends_of pairs) known)
 
-pub first_cost : (entries : List Entry) (pairs : List (ℕ × ℕ)) (listeners heard : List Listener) (given : List Name)
-    (flags : List Bool) (began spent : ℕ) → heard ≡ heard_of listeners → numbers given ≡ names_of heard
-    → spent ≤ began + evaluations_of entries (numbers given) flags
+pub first_cost : (entries : List Entry) (pairs : List (ℕ × ℕ)) (listeners : List Listener) (heard : List (Name × ℕ))
+    (flags : List Bool) (began spent : ℕ) → heard ≡ heard_of listeners
+    → spent ≤ began + evaluations_of entries (names_of heard) flags
     → spent ≤ began + evaluations_of entries (watch_list pairs listeners) flags
-first_cost entries pairs listeners heard given flags began spent listening first cost =
-    let same : evaluations_of entries (numbers given) flags ≡ evaluations_of entries (names_of (heard_of listeners)) flags =
-    ap (λ (ns : List ℕ). evaluations_of entries ns flags) (first ∙ ap names_of listening) in
+first_cost entries pairs listeners heard flags began spent listening cost =
+    let same : evaluations_of entries (names_of heard) flags ≡ evaluations_of entries (names_of (heard_of listeners)) flags =
+    ap (λ (ls : List (Name × ℕ)). evaluations_of entries (names_of ls) flags) listening in
     let most : evaluations_of entries (names_of (heard_of listeners)) flags ≤ evaluations_of entries (watch_list pairs listeners) flags =
     evaluations_first entries (names_of (heard_of listeners)) (ends_of pairs) flags in
     omega arith
 
-pub first_values : (entries : List Entry) (heard : List Listener) (given : List Name) (values : List Value)
+pub first_values : (entries : List Entry) (heard : List (Name × ℕ)) (given : List Name) (values : List Value)
     → numbers given ≡ names_of heard → values ≡ map (eager entries) (numbers given) → values ≡ values_of entries heard
 first_values entries heard given values first same =
-    same ∙ ap (map (eager entries)) first ∙ map-map (eager entries) (λ (listener : Listener). listener.name.0) heard
+    same ∙ ap (map (eager entries)) first ∙ map-map (eager entries) (λ (to : Name × ℕ). to.0.0) heard

@@ -1,9 +1,10 @@
 -- Names that are watched: the list that a step reads has just those that are in a pair or have a change listener.
-use Rattle.std.proofs.Common.{sym, ◌≡◌, ℕ, ◌==◌, ◌<◌, ◌⊎◌, Bool, true, false, not, ◌||◌, List, [], ◌∷◌, length, Contains, refl, subst, ap, inl, inr, ◌∙◌, All, append_assoc, ◌++◌}
+use Rattle.std.proofs.Common.{sym, ◌≡◌, ℕ, ◌==◌, ◌<◌, ◌⊎◌, Bool, true, false, not, ◌||◌, List, [], ◌∷◌, filter, length, Contains, refl, subst, ap, inl, inr, ◌∙◌, All, append_assoc, ◌++◌}
 use Rattle.std.specs.List.{range_with_len}
 use Rattle.std.proofs.lemmas.Bool.{and_from, and_parts, and_right, both_ways, eq-eqb, eqb-true, false_from_ne_true, or_cases, or_left, or_right}
 use Rattle.std.proofs.lemmas.List.Elements.{All-contains, Contains-append_cases, Contains-append_left, Contains-append_right}
 use Rattle.std.proofs.lemmas.List.Concat.{flat_map-append}
+use Rattle.fx_base.specs.declared.keys.Name.{Name}
 use Rattle.fx_store_model.specs.Stored.{Stored, after_watching, is_heard, watched_names, with_unread}
 use Rattle.fx_listen.specs.declared.entries.Listener.{Listener}
 use Rattle.fx_listen.specs.declared.entries.ListenKind.TheVariants.{Change}
@@ -16,7 +17,7 @@ use Rattle.fx_graph_model.proofs.Changed.{known_within}
 use Rattle.fx_graph_model.proofs.ManyReads.{marked-reads, reached-at, reads_again}
 use Rattle.fx_graph_model.proofs.Members.{any_at, any_from, contains_cases, contains_filter, contains_first, contains_later, contains_map, filter_contains, in_range, map_contains, none_in_nil}
 use Rattle.fx_store.specs.Kept.{AreAllRead, AreOnKnown, ArePaired}
-use Rattle.fx_store.specs.Watching.{ends_of, heard_of, names_of, watch_list}
+use Rattle.fx_store.specs.Watching.{ends_of, heard_of, names_of, told_as, watch_list}
 use Rattle.fx_store.proofs.Twins.{all_from, paired_known}
 
 -- it is in a pair or has a change listener
@@ -54,19 +55,24 @@ paired_ends (pair ∷ pairs) name e =
 
 -- properties of change listeners
 
+abbrev hears : Listener → Bool
+hears listener = same_kind listener.kind Change
+
 names_heard : (listeners : List Listener) (name : ℕ) → Contains (names_of (heard_of listeners)) name → is_heard listeners name ≡ true
 names_heard listeners name c =
-    let found = map_contains (λ (l : Listener). l.name.0) (heard_of listeners) name c in
-    let member = filter_contains (λ (l : Listener). same_kind l.kind Change) listeners found.0 found.1 in
-    any_at (tells name Change) listeners found.0 member.0 (and_from _ _ (eq-eqb found.0.name.0 name found.2) member.1)
+    let to = map_contains (λ (to : Name × ℕ). to.0.0) (heard_of listeners) name c in
+    let found = map_contains told_as (filter hears listeners) to.0 to.1 in
+    let member = filter_contains hears listeners found.0 found.1 in
+    any_at (tells name Change) listeners found.0 member.0
+    (and_from _ _ (eq-eqb found.0.name.0 name (ap (λ (to : Name × ℕ). to.0.0) found.2 ∙ to.2)) member.1)
 
 heard_names : (listeners : List Listener) (name : ℕ) → is_heard listeners name ≡ true → Contains (names_of (heard_of listeners)) name
 heard_names listeners name e =
     let found = any_from (tells name Change) listeners e in
     let parts = and_parts (found.0.name.0 == name) (same_kind found.0.kind Change) found.2 in
     subst (Contains (names_of (heard_of listeners))) (eqb-true found.0.name.0 name parts.0)
-    (contains_map (λ (l : Listener). l.name.0) (heard_of listeners) found.0
-    (contains_filter (λ (l : Listener). same_kind l.kind Change) listeners found.0 found.1 parts.1))
+    (contains_map (λ (to : Name × ℕ). to.0.0) (heard_of listeners) (told_as found.0)
+    (contains_map told_as (filter hears listeners) found.0 (contains_filter hears listeners found.0 found.1 parts.1)))
 
 -- the list and the test
 

@@ -1,13 +1,13 @@
 //! Changes that make properties unread. Each looks at what it may tell of, makes the change in one call of the graph,
 //! and tells.
-ghost use Rattle.std.specs.Prelude.{ℕ, List, ◌≡◌, ◌≢◌, ◌≤◌, ◌+◌, ◌++◌, ◌∷◌, ◌==◌, [], false, true, not, if◌then◌else◌, filter, AllPairs, IfErr, IfOk, None, OnErr, OnOk, Some, length, map};
+ghost use Rattle.std.specs.Prelude.{ℕ, List, ◌≡◌, ◌≢◌, ◌≤◌, ◌+◌, ◌++◌, ◌∷◌, ◌==◌, [], false, true, not, if◌then◌else◌, filter, All, AllPairs, IfErr, IfOk, None, OnErr, OnOk, Some, length, map};
 ghost use Rattle.fx_base.specs.declared.keys.Name.{Name as Named};
 ghost use Rattle.fx_base.specs.declared.values.Value.{Value as Content};
 ghost use Rattle.fx_expr.specs.Tree.{is_within};
 ghost use Rattle.fx_listen.specs.Listening.{living_in};
 ghost use Rattle.fx_store_pairs.specs.Pairs.{is_paired};
 ghost use Rattle.fx_graph_model.specs.declared.entries.Entry.{Entry};
-ghost use Rattle.fx_graph_model.specs.Changes.{AreKnown, after_values};
+ghost use Rattle.fx_graph_model.specs.Changes.{AreKnown, after_values, changed};
 ghost use Rattle.fx_graph_model.specs.Eager.{eager};
 ghost use Rattle.fx_base.specs.Names.{numbers};
 ghost use Rattle.fx_graph_model.specs.Refusals.{set_refusal};
@@ -22,17 +22,18 @@ ghost use Rattle.fx_store_model.specs.Stored.{Stored};
 ghost use Rattle.fx_store.specs.Groups.{AreJoinedWith};
 ghost use Rattle.fx_store.specs.Kept.{IsKept, stored_of};
 ghost use Rattle.fx_store.specs.UnderWay.{IsUnderWay};
+ghost use Rattle.fx_store.specs.Looking.{IsEnough, IsLook};
 ghost use Rattle.fx_store.specs.Watching.{IsWatch, watch_list};
 
 use crate::refusing::of_pair;
 use crate::store::Store;
 use crate::telling::tell;
-use crate::watching::{Watched, push_two, watch};
+use crate::watching::{Watched, joined_ends, listeners_on, push_two, watch, watch_on};
 use fx_base::{Ledgers, List, Name, Value, Work};
 use fx_graph::Graph;
 use fx_graph_model::{Formula, GraphError};
 use fx_handles::Owners;
-use fx_listen::Listeners;
+use fx_listen::{ListenKind, Listeners};
 use fx_store_model::{Notices, StoreError};
 use fx_store_pairs::Pairs;
 use std::alloc::{AllocError, Global};
@@ -101,23 +102,53 @@ pub(crate) fn group_values(
     with_value(alloc, group.as_slice(), value)
 }
 
-/// The second property's value for each name that is joined with the first, but for the second.
+/// The property's value for each of the names but the property itself.
 fn other_values(
     alloc: Global,
     graph: &Graph,
-    pairs: &Pairs,
-    one: Name,
+    names: &[Name],
     other: Name,
 ) -> Result<Vec<(Name, Value)>, AllocError>
     requires known { unknown_in graph.now.entries other.0 ≡ false }
     requires free { bound_in graph.now.entries other.0 ≡ false }
-    ensures { IfOk result (λ values. (names : List Named) × AreJoinedWith pairs.now one.0 names
-        × (values.items ≡ map (λ (name : Named). (name, eager graph.now.entries other.0))
-        (filter (λ (name : Named). not (name.0 == other.0)) names))) }
+    ensures { IfOk result (λ values. values.items ≡ map (λ (name : Named). (name, eager graph.now.entries other.0))
+        (filter (λ (name : Named). not (name.0 == other.0)) names.now)) }
 {
     let value = graph.own_value(alloc, other)?;
-    let group = pairs.group(alloc, one)?;
-    with_value_but(alloc, group.as_slice(), other, &value)
+    with_value_but(alloc, names, other, &value)
+}
+
+/// Puts the name behind the others, unless the property, which isn't bound, has the value.
+fn push_changing(
+    names: &mut Vec<Name>,
+    graph: &Graph,
+    pair: &(Name, Value),
+) -> Result<(), AllocError>
+    requires { bound_in graph.now.entries pair.now.0.0 ≡ false }
+    ensures { OnOk result (numbers names.new.items
+        ≡ numbers names.old.items ++ changed (pair.now ∷ []) graph.now.entries) }
+{
+    if graph.has_value(pair.0, &pair.1) {
+        return Ok(());
+    }
+    names.push(pair.0)?;
+    Ok(())
+}
+
+/// Of these properties, which aren't bound, those that have another value than the one here.
+fn changing_names(
+    alloc: Global,
+    graph: &Graph,
+    pairs: &[(Name, Value)],
+) -> Result<Vec<Name>, AllocError>
+    requires { All (λ (pair : Named × Content). bound_in graph.now.entries pair.0.0 ≡ false) pairs.now }
+    ensures { IfOk result (λ names. numbers names.items ≡ changed pairs.now graph.now.entries) }
+{
+    let mut names = Vec::new(alloc);
+    for pair in pairs {
+        push_changing(&mut names, graph, pair)?;
+    }
+    Ok(names)
 }
 
 /// Gives the names these values, where nothing speaks against any.
@@ -161,7 +192,7 @@ fn join(
     Ok(())
 }
 
-/// Tells of a change that was made in the graph, and reads every watched property. The store is behind until then.
+/// Tells of a change that was made in the graph, and has every watched property read. The store is behind until then.
 fn finish<L: Ledgers>(
     alloc: Global,
     graph: &mut Graph,
@@ -172,11 +203,11 @@ fn finish<L: Ledgers>(
     work: &mut Work<L>,
 ) -> Result<Notices, StoreError>
     requires known { AreKnown graph.old.entries watch.now.names.items }
-    requires watch { (entries : List Entry) × (pairs : List (ℕ × ℕ))
-        × IsWatch entries pairs (living_in owners.now.living listeners.now.entries) watch.now.heard.items
-        watch.now.names.items watch.now.before.items }
+    requires watch { (entries : List Entry)
+        × IsWatch entries watch.now.heard.items watch.now.names.items watch.now.before.items }
     ensures kept { (pairs : List (ℕ × ℕ)) → IsKept graph.old pairs listeners.now owners.now true
-        → numbers watch.now.names.items ≡ watch_list pairs (living_in owners.now.living listeners.now.entries)
+        → IsEnough graph.old.unread (watch_list pairs (living_in owners.now.living listeners.now.entries))
+        (numbers watch.now.names.items)
         → IsKept graph.new pairs listeners.now owners.now behind.new }
     ensures told { (change : Changing) → (before : Stored) → (pairs : List (ℕ × ℕ)) → (began : ℕ)
         → IsUnderWay change before graph.old pairs listeners.now owners.now (numbers watch.now.names.items)
@@ -185,6 +216,7 @@ fn finish<L: Ledgers>(
     ensures others { work.new ≡ record work.old { evaluated = work.new.evaluated } }
 {
     *behind = true;
+    graph.laws();
     let notices = tell(alloc, graph, listeners, owners, watch, work)?;
     *behind = false;
     Ok(notices)
@@ -211,22 +243,46 @@ fn as_of_store(refusal: Option<GraphError>) -> Option<StoreError>
 }
 
 impl Store {
-    /// Looks at what a change may tell of; nothing is read.
-    fn look<L: Ledgers>(&mut self, alloc: Global, work: &mut Work<L>) -> Result<Watched, AllocError>
+    /// Looks at what a change of these properties may tell of; nothing is read. Where all that are watched are read, it
+    /// looks at what will be unread alone, and these further names are to be read as well.
+    fn look<L: Ledgers>(
+        &mut self,
+        alloc: Global,
+        changing: &[Name],
+        more: &[Name],
+        work: &mut Work<L>,
+    ) -> Result<Watched, AllocError>
+        requires { AreKnown self.old.entries changing.now }
         ensures same { self.new ≡ self.old }
-        ensures watch { IfOk result (λ watch. IsWatch self.old.entries self.old.pairs self.old.listeners
-            watch.heard.items watch.names.items watch.before.items) }
+        ensures watch { IfOk result (λ watch. IsWatch self.old.entries watch.heard.items watch.names.items
+            watch.before.items) }
+        ensures look { IfOk result (λ watch. IsLook self.old.entries self.old.unread self.old.pairs self.old.listeners
+            (numbers changing.now) (numbers more.now) watch.heard.items watch.names.items) }
         ensures cost { work.new.evaluated ≤ work.old.evaluated + due self.old }
         ensures others { work.new ≡ record work.old { evaluated = work.new.evaluated } }
     {
-        watch(
+        if self.behind {
+            return watch(
+                alloc,
+                &mut self.graph,
+                self.pairs.as_slice(),
+                &self.listeners,
+                &self.owners,
+                work,
+            );
+        }
+        self.graph.laws();
+        self.listeners.laws();
+        self.graph.foresee(changing);
+        let heard = listeners_on(
             alloc,
-            &mut self.graph,
-            self.pairs.as_slice(),
             &self.listeners,
             &self.owners,
-            work,
-        )
+            self.graph.newly(),
+            ListenKind::Change,
+        )?;
+        let watch = watch_on(alloc, &mut self.graph, heard, more, work)?;
+        Ok(watch)
     }
 
     pub(crate) fn set<L: Ledgers>(
@@ -247,8 +303,11 @@ impl Store {
         if self.graph.has_value(name, &given[0].1) {
             return self.set_again(alloc, name, &given[0].1, work);
         }
-        let watch = self.look(alloc, work)?;
-        let values = group_values(alloc, &self.pairs, name, &given[0].1)?;
+        let group = self.pairs.group(alloc, name)?;
+        let names = group.as_slice();
+        let more = joined_ends(&self.pairs, name, names);
+        let watch = self.look(alloc, names, more, work)?;
+        let values = with_value(alloc, names, &given[0].1)?;
         self.graph.set_group(alloc, values.as_slice())?;
         finish(
             alloc,
@@ -276,7 +335,9 @@ impl Store {
         if let Some(refusal) = self.graph.refuses_publish(given) {
             return Err(StoreError::from(refusal));
         }
-        let watch = self.look(alloc, work)?;
+        self.graph.laws();
+        let changing = changing_names(alloc, &self.graph, given)?;
+        let watch = self.look(alloc, changing.as_slice(), &[], work)?;
         self.graph.publish(alloc, given)?;
         finish(
             alloc,
@@ -307,7 +368,7 @@ impl Store {
             Some(refusal) => return Err(refusal),
             None => {}
         }
-        let watch = self.look(alloc, work)?;
+        let watch = self.look(alloc, &[name], &[], work)?;
         self.graph.make_binding(name, expr, operands.into_vec())?;
         finish(
             alloc,
@@ -355,9 +416,12 @@ impl Store {
         if let Some(refusal) = of_pair(&self.graph, &self.pairs, one, other) {
             return Err(refusal);
         }
-        let mut watch = self.look(alloc, work)?;
+        let group = self.pairs.group(alloc, one)?;
+        let names = group.as_slice();
+        let more = joined_ends(&self.pairs, one, names);
+        let mut watch = self.look(alloc, names, more, work)?;
         self.graph.laws();
-        let values = other_values(alloc, &self.graph, &self.pairs, one, other)?;
+        let values = other_values(alloc, &self.graph, names, other)?;
         push_two(&mut watch.names, one, other)?;
         join(
             alloc,

@@ -1,107 +1,85 @@
 //! What a change tells, after it was made.
-ghost use Rattle.std.specs.Prelude.{ℕ, List, ◌≡◌, ◌++◌, ◌∷◌, ◌≤◌, ◌+◌, [], None, if◌then◌else◌, length, map, take, IfOk, OnOk};
+ghost use Rattle.std.specs.Prelude.{ℕ, List, ◌≡◌, ◌++◌, ◌∷◌, ◌≤◌, ◌+◌, [], None, false, if◌then◌else◌, length, All, IfOk, OnOk};
 ghost use Rattle.std.specs.List.{flat_map};
-ghost use Rattle.fx_store_model.specs.Step.{changed_notice, changed_notices, invalid_notices};
+ghost use Rattle.fx_store_model.specs.Step.{invalid_notices};
 ghost use Rattle.fx_listen.specs.Listening.{living_in};
 ghost use Rattle.fx_graph_model.specs.declared.entries.Entry.{Entry};
 ghost use Rattle.fx_graph_model.specs.Equality.{same_value};
 ghost use Rattle.fx_base.specs.Names.{numbers};
-ghost use Rattle.fx_graph_model.specs.Unread.{evaluations_of};
+ghost use Rattle.fx_base.specs.declared.keys.Name.{Name as Named};
+ghost use Rattle.fx_graph_model.specs.Eager.{eager};
+ghost use Rattle.fx_graph_model.specs.Unread.{evaluations_of, marked};
+ghost use Rattle.fx_graph_model.specs.Uses.{unknown_in};
 ghost use Rattle.fx_graph_model.specs.Changes.{AreKnown, after_read_all, IsSomeRead};
-ghost use Rattle.fx_store.specs.Watching.{IsWatch, values_of};
+ghost use Rattle.fx_store.specs.Watching.{IsWatch, notice_to, values_of};
 
-use crate::watching::Watched;
+use crate::watching::{Watched, listeners_on};
 use fx_base::{Ledgers, List, Name, Value, Work};
 use fx_graph::Graph;
 use fx_graph_model::are_same;
 use fx_handles::Owners;
-use fx_listen::{ListenKind, Listener, Listeners};
+use fx_listen::{ListenKind, Listeners};
 use fx_store_model::Notices;
 use std::alloc::{AllocError, Global};
-
-/// One notice for each of these listeners of the property.
-fn push_invalid(
-    notices: &mut Vec<(Name, u32)>,
-    name: Name,
-    numbers: &[u32],
-) -> Result<(), AllocError>
-    ensures { OnOk result (notices.new.items ≡ notices.old.items ++ map (λ (number : ℕ). (name, number)) numbers.now) }
-{
-    for number in numbers {
-        notices.push((name, *number))?;
-    }
-    Ok(())
-}
-
-/// What the invalidation listeners of these properties are told.
-fn tell_invalid(
-    alloc: Global,
-    listeners: &Listeners,
-    owners: &Owners,
-    names: &[Name],
-) -> Result<Vec<(Name, u32)>, AllocError>
-    ensures { IfOk result (λ notices. notices.items
-        ≡ invalid_notices (numbers names.now) (living_in owners.now.living listeners.now.entries)) }
-{
-    let mut notices = Vec::new(alloc);
-    for name in names {
-        let told = listeners.live_on(alloc, owners, *name, ListenKind::Invalid)?;
-        push_invalid(&mut notices, *name, told.as_slice())?;
-    }
-    Ok(notices)
-}
 
 /// Tells the listener of both values, unless they are one.
 fn push_changed(
     alloc: Global,
     notices: &mut Vec<(Name, u32, Value, Value)>,
-    listener: Listener,
+    to: (Name, u32),
     before: &Value,
     after: &Value,
 ) -> Result<(), AllocError>
     ensures { OnOk result (notices.new.items
         ≡ (if same_value before.now after.now
         then notices.old.items
-        else notices.old.items ++ (listener.name, listener.number, before.now, after.now) ∷ [])) }
+        else notices.old.items ++ (to.0, to.1, before.now, after.now) ∷ [])) }
 {
     if are_same(before, after) {
         return Ok(());
     }
     let was = before.copy(alloc)?;
     let is = after.copy(alloc)?;
-    notices.push((listener.name, listener.number, was, is))?;
+    notices.push((to.0, to.1, was, is))?;
     Ok(())
 }
 
-/// What the change listeners are told, where these are the values of their properties before, and after with others
-/// behind.
+/// Lends the value of a known property that is read.
+fn value_in(graph: &Graph, name: Name) -> &Value
+    requires known { unknown_in graph.now.entries name.0 ≡ false }
+    requires read { marked graph.now.unread name.0 ≡ false }
+    ensures { result.now ≡ eager graph.now.entries name.0 }
+{
+    match graph.value(name) {
+        Some(value) => value,
+        None => unreachable!(),
+    }
+}
+
+/// What the change listeners are told, whose properties are read, where these are the values before. What isn't told
+/// isn't copied.
 fn tell_changed(
     alloc: Global,
-    heard: &[Listener],
+    graph: &Graph,
+    heard: &[(Name, u32)],
     before: &[Value],
-    after: &[Value],
 ) -> Result<Vec<(Name, u32, Value, Value)>, AllocError>
     requires before { length before.now ≡ length heard.now }
-    requires after { length heard.now ≤ length after.now }
-    ensures { IfOk result (λ notices. (was is : List Entry) → before.now ≡ values_of was heard.now
-        → take (length heard.now) after.now ≡ values_of is heard.now
-        → notices.items ≡ flat_map (changed_notice was is) heard.now) }
+    requires known { All (λ (to : Named × ℕ). unknown_in graph.now.entries to.0.0 ≡ false) heard.now }
+    requires read { All (λ (to : Named × ℕ). marked graph.now.unread to.0.0 ≡ false) heard.now }
+    ensures { IfOk result (λ notices. (was : List Entry) → before.now ≡ values_of was heard.now
+        → notices.items ≡ flat_map (notice_to was graph.now.entries) heard.now) }
 {
     let mut notices = Vec::new(alloc);
-    for (place, listener) in heard.iter().enumerate() {
-        push_changed(
-            alloc,
-            &mut notices,
-            *listener,
-            &before[place],
-            &after[place],
-        )?;
+    for (place, to) in heard.iter().enumerate() {
+        let after = value_in(graph, to.0);
+        push_changed(alloc, &mut notices, *to, &before[place], after)?;
     }
     Ok(notices)
 }
 
-/// Tells the invalidation listeners of what became unread, then reads every watched name, and tells the change
-/// listeners of what has another value.
+/// Tells the invalidation listeners of what became unread, then reads every name that is to be read, and tells the
+/// change listeners of what has another value.
 pub fn tell<L: Ledgers>(
     alloc: Global,
     graph: &mut Graph,
@@ -111,9 +89,8 @@ pub fn tell<L: Ledgers>(
     work: &mut Work<L>,
 ) -> Result<Notices, AllocError>
     requires known { AreKnown graph.old.entries watch.now.names.items }
-    requires watch { (entries : List Entry) × (pairs : List (ℕ × ℕ))
-        × IsWatch entries pairs (living_in owners.now.living listeners.now.entries) watch.now.heard.items
-        watch.now.names.items watch.now.before.items }
+    requires watch { (entries : List Entry)
+        × IsWatch entries watch.now.heard.items watch.now.names.items watch.now.before.items }
     ensures ok { OnOk result (graph.new ≡ after_read_all (numbers watch.now.names.items) graph.old) }
     ensures part { IsSomeRead graph.old graph.new }
     ensures added { IfOk result (λ notices. notices.added ≡ None) }
@@ -121,19 +98,18 @@ pub fn tell<L: Ledgers>(
         ≡ invalid_notices graph.old.newly (living_in owners.now.living listeners.now.entries)) }
     ensures changed { IfOk result (λ notices. (before : List Entry)
         → watch.now.before.items ≡ values_of before watch.now.heard.items
-        → notices.changed ≡ changed_notices before graph.old.entries
-        (living_in owners.now.living listeners.now.entries)) }
+        → notices.changed ≡ flat_map (notice_to before graph.old.entries) watch.now.heard.items) }
     ensures cost { work.new.evaluated ≤ work.old.evaluated
         + evaluations_of graph.old.entries (numbers watch.now.names.items) graph.old.unread }
     ensures others { work.new ≡ record work.old { evaluated = work.new.evaluated } }
 {
-    let invalid = tell_invalid(alloc, listeners, owners, graph.newly())?;
-    let after = graph.read_all(alloc, watch.names.as_slice(), work)?;
+    let invalid = listeners_on(alloc, listeners, owners, graph.newly(), ListenKind::Invalid)?;
+    graph.settle_all(alloc, watch.names.as_slice(), work)?;
     let changed = tell_changed(
         alloc,
+        graph,
         watch.heard.as_slice(),
         watch.before.as_slice(),
-        after.as_slice(),
     )?;
     Ok(Notices {
         added: None,

@@ -14,14 +14,14 @@ returns-in_err-notices-clause-told g c =
 
 pub returns-clause-kept : goal.returns-clause-kept
 returns-clause-kept g c =
-    λ pairs kept watched.
+    λ pairs kept enough.
     finish_kept c.args.graph.now c.tell.new.graph pairs c.args.listeners.now c.args.owners.now
-    (numbers c.args.watch.now.names.items) c.in_ok-notices.ensures.ok kept watched
+    (numbers c.args.watch.now.names.items) c.in_ok-notices.ensures.ok c.laws.ensures.closed kept enough
 
 pub returns-clause-told : goal.returns-clause-told
 returns-clause-told g c =
     λ change before pairs began under.
     finish_done change before c.args.graph.now c.tell.new.graph pairs c.args.listeners.now c.args.owners.now
     (numbers c.args.watch.now.names.items) c.args.watch.now.heard.items c.args.watch.now.before.items c.in_ok-notices.notices began
-    c.args.work.now.evaluated c.tell.new.work.evaluated c.in_ok-notices.ensures.ok c.in_ok-notices.ensures.added
+    c.args.work.now.evaluated c.tell.new.work.evaluated c.in_ok-notices.ensures.ok c.laws.ensures.closed c.in_ok-notices.ensures.added
     c.in_ok-notices.ensures.invalid c.in_ok-notices.ensures.changed c.tell.ensures.cost under

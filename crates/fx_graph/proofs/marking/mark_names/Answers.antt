@@ -4,7 +4,7 @@ use Rattle.fx_graph_model.specs.Unread.{unmarked}
 use Rattle.fx_graph_model.proofs.Flags.{unmarked_most}
 use Rattle.fx_graph_model.proofs.MarkSteps.{marks_none, marks_more}
 use Rattle.fx_graph_edges.proofs.RowLemmas.{number_at, numbers_more}
-use Rattle.fx_graph.proofs.forgetting.mark_names.Goals as goal
+use Rattle.fx_graph.proofs.marking.mark_names.Goals as goal
 
 pub loop-name-init : goal.loop-name-init
 loop-name-init c = marks_none _ _ _

@@ -1,6 +1,6 @@
 -- One turn of the loop over a text, and its end.
 -- The answers on the loop cite these.
-use Rattle.std.proofs.Common.{◌≡◌, ℕ, suc, ◌+◌, ◌-◌, ◌<◌, ◌≤◌, List, [], ◌∷◌, ◌++◌, length, Ok, Err, Result, None, Some, refl, sym, ◌∙◌, ap, subst, append_assoc, append-nil, length-append, arith}
+use Rattle.std.proofs.Common.{◌≡◌, ℕ, suc, ◌+◌, ◌<◌, ◌≤◌, List, [], ◌∷◌, ◌++◌, length, Ok, Err, Result, None, Some, refl, sym, ◌∙◌, ap, subst, append_assoc, append-nil, length-append, arith}
 use Rattle.std.specs.Result.{IsErrAnd}
 use Rattle.std.specs.Str.{chars, IsUtf8}
 use Rattle.std.proofs.lemmas.Str.{chars-nil}
@@ -12,13 +12,13 @@ use Rattle.fx_base.specs.declared.positions.Position.{Position}
 use Rattle.fx_doc_grammar.proofs.Bounds.{within_start}
 use Rattle.fx_doc_grammar.proofs.Roots.{line_bound, column_bound, answered_root}
 use Rattle.fx_doc.specs.Reads.{IsNext, IsRead}
-use Rattle.fx_doc_runs.specs.Reached.{Calm, Said, TookFlat, IsReached}
+use Rattle.fx_doc_runs.specs.Reached.{Calm, Said, Took, IsReached}
 use Rattle.fx_doc_runs.specs.Views.{view, reading}
 use Rattle.fx_doc_runs.specs.declared.document.Document.{Document}
 use Rattle.fx_doc_runs.specs.declared.document.DocError.{DocError}
 use Rattle.fx_doc_runs.specs.declared.modes.Reader.{Reader}
 use Rattle.fx_doc_runs.proofs.Calm.{said_more}
-use Rattle.fx_doc_runs.proofs.Firsts.{flat_chars, utf8_behind, along_is}
+use Rattle.fx_doc_runs.proofs.Firsts.{low_chars, utf8_behind}
 use Rattle.fx_doc.proofs.Loops.{goes_on, within_on, stops, passed, ends_read, ends_stopped}
 use Rattle.fx_doc_grammar.proofs.Turns.{place_more}
 
@@ -65,20 +65,21 @@ one_reached text rest behind p q r r' c h e k u n w =
       };
     }
 
--- behind a part of plain ASCII
-pub flat_reached : (text rest left : List ℕ) (p q : Position) (r r' : Reader) → IsReached text rest p (view r) → TookFlat rest p (view r) left (view r') → q.line ≡ p.line → q.column ≡ p.column + (length rest - length left) → IsReached text left q (view r')
-flat_reached text rest left p q r r' h t e f =
+-- behind a part in ASCII
+pub took_reached : (text rest left : List ℕ) (p q : Position) (r r' : Reader) → IsReached text rest p (view r)
+    → Took rest p (view r) left q (view r') → IsReached text left q (view r')
+took_reached text rest left p q r r' h t =
     let l : length rest ≡ length t.part + length left = ap length t.split ∙ length-append t.part left in
     let m : length (h.said ++ t.part) ≡ length h.said + length t.part = length-append h.said t.part in
     let g : length h.said + length rest ≤ length text = h.fewer in
-    let n : length rest - length left ≡ length t.part = omega arith in
-    let w : q ≡ after_all p t.part = (λ i. record { line = e i; column = (f ∙ ap (λ y. p.column + y) n) i }) ∙ sym (along_is p t.part t.flat) in
     record {
       said = h.said ++ t.part;
-      split = h.split ∙ (ap (λ y. h.said ++ y) (ap chars t.split ∙ flat_chars t.part left t.flat) ∙ sym (append_assoc h.said t.part (chars left)));
+      split = h.split ∙ (ap (λ y. h.said ++ y) (ap chars t.split ∙ low_chars t.part left t.low) ∙ sym (append_assoc
+          h.said t.part (chars left)));
       fewer = omega arith;
-      utf8 = utf8_behind t.part left t.flat (subst IsUtf8 t.split h.utf8);
-      reached = subst (λ (y : Position). Said (h.said ++ t.part) y (view r')) (sym w) (said_more h.said p (view r) t.part (view r') h.reached t.calm);
+      utf8 = utf8_behind t.part left t.low (subst IsUtf8 t.split h.utf8);
+      reached = subst (λ (y : Position). Said (h.said ++ t.part) y (view r')) (sym t.place) (said_more h.said p (view
+          r) t.part (view r') h.reached t.calm);
     }
 
 -- nothing was taken
@@ -86,8 +87,9 @@ nothing : (p : Position) (s s' : State) (part : List ℕ) → length part ≡ 0 
 nothing p s s' [] e k = k
 nothing p s s' (c ∷ part) e k = absurd (let f : suc (length part) ≡ 0 = e in omega arith)
 
-pub still_reached : (text rest left : List ℕ) (p : Position) (s s' : State) → IsReached text rest p s → TookFlat rest p s left s' → (length left < length rest → ⊥) → IsReached text rest p s'
-still_reached text rest left p s s' h t n =
+pub still_reached : (text rest left : List ℕ) (p q : Position) (s s' : State) → IsReached text rest p s
+    → Took rest p s left q s' → (length left < length rest → ⊥) → IsReached text rest p s'
+still_reached text rest left p q s s' h t n =
     let l : length rest ≡ length t.part + length left = ap length t.split ∙ length-append t.part left in
     let none : length t.part ≡ 0 = omega arith in
     subst (λ (y : State). IsReached text rest p y) (nothing p s s' t.part none t.calm) h

@@ -6,7 +6,7 @@ ghost use Rattle.fx_doc.specs.Reads.{IsRead};
 
 use crate::reader::{into_document, read_character};
 use fx_base::Position;
-use fx_doc_runs::{DocError, Document, Reader, along};
+use fx_doc_runs::{DocError, Document, Reader, Rest};
 use std::alloc::Global;
 
 /// The first character, and the text behind it.
@@ -26,21 +26,24 @@ pub fn read_text(alloc: Global, text: &str) -> Result<Document, DocError>
     ensures { IsRead (chars text.now) result }
 {
     let mut reader = Reader::new(alloc);
-    let mut position = Position::START;
-    let mut rest = text;
-    while let Some((c, behind)) = first_character(rest) {
-        let left = reader.take_ahead(alloc, position, rest)?;
-        if left.len() < rest.len() {
-            position = along(position, rest.len() - left.len());
-            rest = left;
+    let mut at = Rest {
+        position: Position::START,
+        text,
+    };
+    while let Some((c, behind)) = first_character(at.text) {
+        let left = reader.take_ahead(alloc, at)?;
+        if left.text.len() < at.text.len() {
+            at = left;
             continue;
         }
-        read_character(alloc, &mut reader, position, c)?;
-        position = position.after(c);
-        rest = behind;
+        read_character(alloc, &mut reader, at.position, c)?;
+        at = Rest {
+            position: at.position.after(c),
+            text: behind,
+        };
     }
     match into_document(reader) {
         Some(document) => Ok(document),
-        None => Err(DocError::Markup(position)),
+        None => Err(DocError::Markup(at.position)),
     }
 }

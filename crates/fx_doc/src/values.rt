@@ -57,14 +57,7 @@ fn whole(alloc: Global, held: &Held, valued: Valued) -> Result<Option<Mode>, Hal
         (with_attribute (head_view valued.head) valued.position (string_bytes valued.key.text)
         (string_bytes valued.value.text))) held.now result }
 {
-    let Valued {
-        head,
-        position,
-        key,
-        quote: _,
-        value,
-    } = valued;
-    let head = head.with_attribute(alloc, position, key, value.into_text())?;
+    let head = valued.into_head(alloc)?;
     goes(held, Mode::Tight(head))
 }
 

@@ -6,7 +6,7 @@ use Rattle.std.specs.Str.{chars, IsUtf8}
 use Rattle.std.specs.Char.{encode_utf8, IsScalar}
 use lib.Utf8.{encode, encodes, scalars}
 use Rattle.std.proofs.lemmas.Str.{chars-append, chars-encodes, chars-nil, chars-IsAscii, length-le-encodes, encodes-chars}
-use Rattle.fx_doc_drafts.specs.Ahead.{is_flat}
+use Rattle.fx_doc_drafts.specs.Ahead.{is_low}
 
 pub chars_more : (bs cs : List ℕ) (c n : ℕ) → IsUtf8 bs → IsScalar c → length (chars bs) ≡ n → cs ≡ bs ++ encode_utf8 c → length (chars cs) ≡ n + 1
 chars_more bs cs c n u s e w =
@@ -48,17 +48,19 @@ both : (a b : Bool) → (a && b) ≡ true → (a ≡ true) × (b ≡ true)
 both true b e = (refl, e)
 both false b e = Prim.cc
 
-flat_low : (c : ℕ) → is_flat c ≡ true → c < 128
-flat_low c e = grind (arith, e)
+low : (c : ℕ) → is_low c ≡ true → c < 128
+low c e = grind (arith, e)
 
-pub flat_ascii : (part : List ℕ) → list_all is_flat part ≡ true → (i : ℕ) → slice_index part i < 128
-flat_ascii [] e i = nothing
+pub low_ascii : (part : List ℕ) → list_all is_low part ≡ true → (i : ℕ) → slice_index part i < 128
+low_ascii [] e i = nothing
   where
     nothing : 0 < 128
     nothing = omega arith
-flat_ascii (c ∷ part) e zero = flat_low c (both (is_flat c) (list_all is_flat part) e).0
-flat_ascii (c ∷ part) e (suc i) = flat_ascii part (both (is_flat c) (list_all is_flat part) e).1 i
+low_ascii (c ∷ part) e zero = low c (both (is_low c) (list_all is_low part) e).0
+low_ascii (c ∷ part) e (suc i) = low_ascii part (both (is_low c) (list_all is_low part) e).1 i
 
-pub chars_longer : (bs cs piece : List ℕ) (n : ℕ) → IsUtf8 bs → list_all is_flat piece ≡ true → length (chars bs) ≡ n → cs ≡ bs ++ piece → length (chars cs) ≡ n + length piece
+pub chars_longer : (bs cs piece : List ℕ) (n : ℕ) → IsUtf8 bs → list_all is_low piece ≡ true
+    → length (chars bs) ≡ n → cs ≡ bs ++ piece → length (chars cs) ≡ n + length piece
 chars_longer bs cs piece n u f e w =
-    ap (λ y. length (chars y)) w ∙ (ap length (chars-append bs piece u) ∙ (length-append (chars bs) (chars piece) ∙ (ap (λ y. y + length (chars piece)) e ∙ ap (λ y. n + length y) (chars-IsAscii piece (flat_ascii piece f)))))
+    ap (λ y. length (chars y)) w ∙ (ap length (chars-append bs piece u) ∙ (length-append (chars bs) (chars piece) ∙
+    (ap (λ y. y + length (chars piece)) e ∙ ap (λ y. n + length y) (chars-IsAscii piece (low_ascii piece f)))))

@@ -1,24 +1,11 @@
-//! Attributes as most are written, `name="value"` or `name='value'` with nothing but plain ASCII between the quotes:
-//! found ahead as slices.
-//! Every other attribute, and every fault, is left to the reader's steps.
+//! What stands in front of a text: the characters of a name, plain characters of a value, a quote, or a byte.
 ghost use Rattle.std.specs.Prelude.{◌≡◌, ◌∷◌, ◌<◌, ◌≤◌, ℕ, List, length, IfSome, IfNone};
 ghost use Rattle.std.specs.List.{prefix_len};
 ghost use Rattle.fx_doc_grammar.specs.Characters.{class_of, starts_name};
 ghost use Rattle.fx_doc_grammar.specs.Grammar.{quote_code};
-ghost use Rattle.fx_doc_drafts.specs.Ahead.{IsAhead, IsCut, is_named, is_plain, begins_name};
+ghost use Rattle.fx_doc_drafts.specs.Ahead.{is_named, is_plain, begins_name};
 
 use fx_doc_grammar::{Class, Quote};
-
-/// The greatest length of a name or a value that is taken whole.
-const MOST: usize = 4096;
-
-/// An attribute that stands ahead, and the text behind it.
-#[derive(Clone, Copy)]
-pub struct Ahead<'a> {
-    pub name: &'a str,
-    pub value: &'a str,
-    pub behind: &'a str,
-}
 
 #[tactic(auto, unfolding(fx_doc_grammar::specs::Characters::class_of))]
 fn is_named(byte: u8) -> bool
@@ -85,20 +72,6 @@ pub fn behind_byte(text: &str, byte: u8) -> Option<&str>
     Some(behind)
 }
 
-/// The first bytes of the text, as many as that, and the text behind the byte that stands there, if it is this one.
-fn cut_at(text: &str, count: usize, stop: u8) -> Option<(&str, &str)>
-    requires { stop < 128 }
-    ensures some { IfSome result (λ x. IsCut text.now count stop x.0.now x.1.now) }
-    ensures none { IfNone result ((piece rest : List ℕ) → IsCut text.now count stop piece rest → ⊥) }
-{
-    if count > MOST {
-        return None;
-    }
-    let (piece, rest) = text.split_at_checked(count)?;
-    let behind = behind_byte(rest, stop)?;
-    Some((piece, behind))
-}
-
 pub fn quote_byte(quote: Quote) -> u8
     ensures { result ≡ quote_code quote }
 {
@@ -120,23 +93,4 @@ pub fn quote_ahead(text: &str) -> Option<(Quote, &str)>
         Some(behind) => Some((Quote::Single, behind)),
         None => None,
     }
-}
-
-/// The attribute that the text begins with, exactly where it is written so.
-pub fn attribute_ahead(text: &str) -> Option<Ahead<'_>>
-    ensures some { IfSome result (λ a. IsAhead text.now a.name.now a.value.now a.behind.now) }
-    ensures none { IfNone result ((name value behind : List ℕ) → IsAhead text.now name value behind → ⊥) }
-{
-    let (name, rest) = cut_at(text, name_length(text.as_bytes()), b'=')?;
-    if !begins_name(name) {
-        return None;
-    }
-    let (quote, rest) = quote_ahead(rest)?;
-    let stop = quote_byte(quote);
-    let (value, behind) = cut_at(rest, value_length(rest.as_bytes(), stop), stop)?;
-    Some(Ahead {
-        name,
-        value,
-        behind,
-    })
 }

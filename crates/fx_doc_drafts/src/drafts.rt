@@ -6,7 +6,7 @@ ghost use Rattle.std.specs.String.{string_bytes};
 ghost use Rattle.std.specs.Char.{encode_utf8};
 ghost use Rattle.std.specs.List.{list_all};
 ghost use Rattle.fx_doc_grammar.specs.Characters.{class_of, in_name};
-ghost use Rattle.fx_doc_drafts.specs.Ahead.{is_flat};
+ghost use Rattle.fx_doc_drafts.specs.Ahead.{is_low};
 
 use fx_base::Text;
 use std::alloc::{AllocError, AllocFailed, Global};
@@ -133,8 +133,8 @@ impl Draft {
     }
 
     /// Appends a piece of ASCII that has room.
-    pub fn push_flat(&mut self, piece: &str) -> Result<(), AllocError>
-        requires flat { list_all is_flat piece.now ≡ true }
+    pub fn push_ascii(&mut self, piece: &str) -> Result<(), AllocError>
+        requires low { list_all is_low piece.now ≡ true }
         requires room { self.old.count + length piece.now ≤ 4096 }
         ensures bytes { OnOk result (string_bytes self.new.text ≡ string_bytes self.old.text ++ piece.now) }
         ensures count { OnOk result (self.new.count ≡ self.old.count + length piece.now) }

@@ -6,9 +6,6 @@ mod ahead;
 mod drafts;
 mod names;
 
-pub use ahead::{
-    Ahead, attribute_ahead, begins_name, behind_byte, name_length, quote_ahead, quote_byte,
-    value_length,
-};
+pub use ahead::{begins_name, behind_byte, name_length, quote_ahead, quote_byte, value_length};
 pub use drafts::{Draft, Halt, Word};
 pub use names::Names;

@@ -8,7 +8,7 @@ use Rattle.fx_doc_grammar.specs.Characters.{class_of, is_later, in_name, starts_
 use Rattle.fx_text.specs.Classes.{is_white, is_letter}
 use Rattle.fx_base.specs.Positions.{after, after_all}
 use Rattle.fx_doc_grammar.specs.Grammar.{Head, is_quote, quote_code, value_byte}
-use Rattle.fx_doc_grammar.specs.Machine.{State, Held, Spaced, Tight, Keyed, Signed, Quoted, at, some_if, step, is_fresh, with_attribute, is_deep, is_long, level_long, in_spaced, in_quoted, in_value}
+use Rattle.fx_doc_grammar.specs.Machine.{State, Held, Keyed, Signed, Quoted, at, some_if, step, is_fresh, is_deep, is_long, level_long, in_spaced, in_quoted, in_value}
 use Rattle.fx_doc_grammar.specs.declared.Class.{Class}
 use Rattle.fx_doc_grammar.specs.declared.Class.TheVariants.{White, Less, Greater, Slash, Equals, Bang, Question, Dash, Quotation, Apostrophe, Ampersand, Letter, Digit, Other}
 use Rattle.fx_base.specs.declared.positions.Position.{Position}
@@ -16,9 +16,9 @@ use Rattle.fx_doc_grammar.specs.declared.Quote.{Quote}
 use Rattle.fx_doc_grammar.specs.declared.Quote.TheVariants.{Single, Double}
 use Rattle.fx_doc_grammar.proofs.Marks.{as_state}
 use Rattle.fx_doc_grammar.proofs.Runs.{fits_at}
-use Rattle.fx_doc_grammar.proofs.TagGoes.{keyed_on, quote_ends}
+use Rattle.fx_doc_grammar.proofs.TagGoes.{keyed_on}
 use Rattle.fx_doc_grammar.proofs.Turns.{run_more, limits_more, place_more}
-use Rattle.fx_doc_drafts.specs.Ahead.{is_named, is_plain, begins_name}
+use Rattle.fx_doc_drafts.specs.Ahead.{is_named, is_plain}
 use Rattle.fx_doc_runs.specs.Reached.{Calm, Said}
 
 pub said_more : (said : List ℕ) (p : Position) (s : State) (cs : List ℕ) (s' : State) → Said said p s → Calm p s cs s' → Said (said ++ cs) (after_all p cs) s'
@@ -169,32 +169,3 @@ quote_on h head q key Double p = refl
 pub first_on : (h : Held) (head : Head) (p : Position) (c : ℕ) (k : Class) → starts_name k ≡ true → in_spaced p head h c k ≡ Some (as_state h (Keyed head p (c ∷ [])))
 first_on h head p c Letter e = refl
 first_on h head p c k e = absurd (let f : false ≡ true = e in cc)
-
-begun : (name : List ℕ) → begins_name name ≡ true → (c : ℕ) × (cs : List ℕ) × (name ≡ c ∷ cs) × (starts_name (class_of c) ≡ true)
-begun [] e = absurd (let f : false ≡ true = e in cc)
-begun (c ∷ cs) e = (c, cs, refl, e)
-
-from_none : (n : ℕ) → n ≤ 4096 → 0 + n ≤ 4096
-from_none n h = omega arith
-
--- from the white before a name to the end of its value
-abbrev pub tight_after : Held → Head → Position → List ℕ → List ℕ → State
-tight_after h head p name value = as_state h (Tight (with_attribute head p name value))
-
-abbrev pub attribute_text : Quote → List ℕ → List ℕ → List ℕ
-attribute_text u name value = name ++ (61 ∷ (quote_code u ∷ (value ++ (quote_code u ∷ []))))
-
-pub attribute_calm : (h : Held) (head : Head) (u : Quote) (name value : List ℕ) (p : Position) → level_long h ≡ false → begins_name name ≡ true → list_all is_named name ≡ true → list_all (is_plain (quote_code u)) value ≡ true → length name ≤ 4096 → length value ≤ 4096
-    → is_fresh name head ≡ true → Calm p (as_state h (Spaced head)) (attribute_text u name value) (tight_after h head p name value)
-attribute_calm h head u [] value p l b n v s t f = absurd (let g : false ≡ true = b in cc)
-attribute_calm h head u (c ∷ cs) value p l b n v s t f =
-    let a = both (is_named c) (list_all is_named cs) n in
-    let one : 1 ≤ 4096 = omega arith in
-    let q : ℕ = quote_code u in
-    one_calm p (as_state h (Spaced head)) (as_state h (Keyed head p (c ∷ []))) c (cs ++ (61 ∷ (q ∷ (value ++ (q ∷ []))))) (tight_after h head p (c ∷ cs) value)
-    (first_on h head p c (class_of c) b) refl (short_or 1 (level_long h) one l)
-    (keyed_calm h head p l cs (c ∷ []) (c ∷ cs) (61 ∷ (q ∷ (value ++ (q ∷ [])))) (tight_after h head p (c ∷ cs) value) (after p c) refl a.1 s
-    (λ t1. one_calm t1 (as_state h (Keyed head p (c ∷ cs))) (as_state h (Signed head p (c ∷ cs))) 61 (q ∷ (value ++ (q ∷ []))) (tight_after h head p (c ∷ cs) value) (equals_on h head p (c ∷ cs) t1 f) refl l
-    (one_calm (after t1 61) (as_state h (Signed head p (c ∷ cs))) (quoting h head p (c ∷ cs) u [] 0) q (value ++ (q ∷ [])) (tight_after h head p (c ∷ cs) value) (quote_on h head p (c ∷ cs) u (after t1 61)) refl (short_or 0 (level_long h) (omega arith) l)
-    (value_calm h head p (c ∷ cs) u l value [] value (q ∷ []) 0 (tight_after h head p (c ∷ cs) value) (after (after t1 61) q) refl (from_none (length value) t) v
-    (λ t2. one_calm t2 (quoting h head p (c ∷ cs) u value (0 + length value)) (tight_after h head p (c ∷ cs) value) q [] (tight_after h head p (c ∷ cs) value) (quote_ends h head p (c ∷ cs) u value (0 + length value) t2) refl l refl)))))

@@ -8,8 +8,8 @@ use lib.Utf8.{encode, scalar, scalars}
 use Rattle.std.proofs.lemmas.Str.{chars-append, chars-encodes, length-le-encodes, IsUtf8-encode, IsUtf8-past_char, IsUtf8-from_ascii, chars-IsAscii, encode_ascii}
 use Rattle.fx_base.specs.Positions.{after_all}
 use Rattle.fx_base.specs.declared.positions.Position.{Position}
-use Rattle.fx_doc_drafts.specs.Ahead.{is_flat}
-use Rattle.fx_doc_drafts.proofs.Texts.{flat_ascii}
+use Rattle.fx_doc_drafts.specs.Ahead.{is_low, is_flat}
+use Rattle.fx_doc_drafts.proofs.Texts.{low_ascii}
 
 alone : (c : ℕ) → IsScalar c → chars (encode c) ≡ c ∷ []
 alone c s = ap chars (sym (append-nil (encode c))) ∙ chars-encodes (c ∷ []) (ap (λ y. y && true) s)
@@ -47,14 +47,16 @@ both false b e = Prim.cc
 low : (c : ℕ) → ltb c 128 ≡ true → c < 128
 low c e = grind (arith, e)
 
-pub flat_chars : (part rest : List ℕ) → list_all is_flat part ≡ true → chars (part ++ rest) ≡ part ++ chars rest
-flat_chars part rest e = chars-append part rest (IsUtf8-from_ascii part (flat_ascii part e)) ∙ ap (λ y. y ++ chars rest) (chars-IsAscii part (flat_ascii part e))
+pub low_chars : (part rest : List ℕ) → list_all is_low part ≡ true → chars (part ++ rest) ≡ part ++ chars rest
+low_chars part rest e = chars-append part rest (IsUtf8-from_ascii part (low_ascii part e)) ∙ ap (λ y. y ++ chars rest)
+    (chars-IsAscii part (low_ascii part e))
 
-pub utf8_behind : (part rest : List ℕ) → list_all is_flat part ≡ true → IsUtf8 (part ++ rest) → IsUtf8 rest
+pub utf8_behind : (part rest : List ℕ) → list_all is_low part ≡ true → IsUtf8 (part ++ rest) → IsUtf8 rest
 utf8_behind [] rest e u = u
 utf8_behind (c ∷ part) rest e u =
-    let a = both (is_flat c) (list_all is_flat part) e in
-    utf8_behind part rest a.1 (IsUtf8-past_char (c ∷ (part ++ rest)) (part ++ rest) c u (ap (λ y. y ++ (part ++ rest)) (sym (encode_ascii c (low c (both (ltb c 128) (not (eqb c 10)) a.0).0)))))
+    let a = both (is_low c) (list_all is_low part) e in
+    utf8_behind part rest a.1 (IsUtf8-past_char (c ∷ (part ++ rest)) (part ++ rest) c u (ap (λ y. y ++ (part ++ rest))
+    (sym (encode_ascii c (low c a.0)))))
 
 off : (c : ℕ) → not (eqb c 10) ≡ true → eqb c 10 ≡ false
 off c e = grind (arith, e)

@@ -3,11 +3,12 @@
 use Rattle.std.proofs.Common.{◌≡◌, ℕ, zero, suc, ◌+◌, ◌<◌, ◌≤◌, Bool, true, false, cond, ◌&&◌, List, [], ◌∷◌, ◌++◌, take, drop, Option, Some, None, length, refl, sym, ◌∙◌, ap, subst, append_assoc, append-nil, length-append, ◌-◌, arith}
 use Rattle.std.specs.List.{list_all, prefix_len}
 use Rattle.std.proofs.lemmas.List.{take-append-drop}
-use lib.Dec.{eqb, ltb}
+use lib.Dec.{ltb}
 use lib.Utf8.{encode}
 use Rattle.std.proofs.lemmas.Str.{encode_ascii}
-use Rattle.fx_text.specs.Classes.{is_white}
-use Rattle.fx_base.specs.Positions.{after, after_all}
+use Rattle.fx_text.specs.Classes.{is_white, is_continuation}
+use Rattle.fx_text.proofs.FrontLemmas.{front-passes}
+use Rattle.fx_base.specs.Positions.{after, after_all, after_byte, after_bytes}
 use Rattle.fx_base.specs.declared.positions.Position.{Position}
 use Rattle.fx_doc_grammar.specs.Characters.{class_of}
 use Rattle.fx_doc_grammar.specs.Grammar.{Head, Level, first_shown, one_sign, quote_code}
@@ -17,14 +18,28 @@ use Rattle.fx_doc_grammar.specs.declared.Class.{Class}
 use Rattle.fx_doc_grammar.specs.declared.Class.TheVariants.{White, Less, Ampersand, Dash, Question}
 use Rattle.fx_doc_grammar.proofs.Marks.{as_state}
 use Rattle.fx_doc_grammar.proofs.Runs.{fits_at}
-use Rattle.fx_doc_drafts.specs.Ahead.{is_flat, is_calm, is_gap, is_plain}
-use Rattle.fx_doc_runs.specs.Reached.{Calm, TookFlat, IsRun, run_first, run_level}
+use Rattle.fx_doc_drafts.specs.Ahead.{is_low, is_flat, is_text, is_calm, is_gap, is_plain}
+use Rattle.fx_doc_runs.specs.Reached.{Calm, Took, TookFlat, IsPast, IsRun, run_first, run_level}
 use Rattle.fx_doc_runs.proofs.Calm.{one_calm, if_fresh, white_is, value_calm}
 use Rattle.fx_doc_runs.proofs.Firsts.{along_is}
 
 both : (a b : Bool) → (a && b) ≡ true → (a ≡ true) × (b ≡ true)
 both true b e = (refl, e)
 both false b e = Prim.cc
+
+-- positions behind parts in ASCII ------------------------------------------------------------------
+
+leads : (c : ℕ) → is_low c ≡ true → is_continuation c ≡ false
+leads c e = grind (arith, e)
+
+byte_on : (p : Position) (c : ℕ) → is_low c ≡ true → after_byte p c ≡ after p c
+byte_on p c e = ap (λ b. cond b p (after p c)) (leads c e)
+
+pub low_after : (cs : List ℕ) (p : Position) → list_all is_low cs ≡ true → after_bytes p cs ≡ after_all p cs
+low_after [] p e = refl
+low_after (c ∷ cs) p e =
+    let a = both (is_low c) (list_all is_low cs) e in
+    ap (λ q. after_bytes q cs) (byte_on p c a.0) ∙ low_after cs (after p c) a.1
 
 -- walks one behind another ------------------------------------------------------------------------
 
@@ -57,6 +72,11 @@ run_then text part rest left p q s t u w f e k m = record {
   flat = flat_append part m.part f m.flat;
   calm = calm_then p s part t m.part u k (subst (λ (y : Position). Calm y t m.part u) e m.calm);
 }
+
+pub flat_then : (a b c : List ℕ) (p : Position) (s t u : State) → TookFlat a p s b t
+    → ((q : Position) → TookFlat b q t c u) → TookFlat a p s c u
+flat_then a b c p s t u x y = run_then a x.part b c p (after_all p x.part) s t u x.split x.flat refl x.calm
+    (y (after_all p x.part))
 
 -- fronts ------------------------------------------------------------------------------------------
 
@@ -100,6 +120,30 @@ calm_flat a b c e = grind (arith, e)
 gap_flat : (c : ℕ) → is_gap c ≡ true → is_flat c ≡ true
 gap_flat c e = grind (arith, e)
 
+text_low : (c : ℕ) → is_text c ≡ true → is_low c ≡ true
+text_low c e = grind (arith, e)
+
+white_low : (c : ℕ) → is_white c ≡ true → is_low c ≡ true
+white_low c e = grind (arith, e)
+
+flat_low : (c : ℕ) → is_flat c ≡ true → is_low c ≡ true
+flat_low c e = grind (arith, e)
+
+plain_low : (q c : ℕ) → is_plain q c ≡ true → is_low c ≡ true
+plain_low q c e = grind (arith, e)
+
+pub text_all_low : (cs : List ℕ) → list_all is_text cs ≡ true → list_all is_low cs ≡ true
+text_all_low = all_of is_text is_low text_low
+
+pub white_all_low : (cs : List ℕ) → list_all is_white cs ≡ true → list_all is_low cs ≡ true
+white_all_low = all_of is_white is_low white_low
+
+pub flat_all_low : (cs : List ℕ) → list_all is_flat cs ≡ true → list_all is_low cs ≡ true
+flat_all_low = all_of is_flat is_low flat_low
+
+pub plain_all_low : (q : ℕ) (cs : List ℕ) → list_all (is_plain q) cs ≡ true → list_all is_low cs ≡ true
+plain_all_low q = all_of (is_plain q) is_low (plain_low q)
+
 pub calm_all_flat : (a b : ℕ) (cs : List ℕ) → list_all (is_calm a b) cs ≡ true → list_all is_flat cs ≡ true
 calm_all_flat a b = all_of (is_calm a b) is_flat (calm_flat a b)
 
@@ -119,13 +163,16 @@ white_class c e = by_test (is_white c) _ e
 gap_is_white : (c : ℕ) → is_gap c ≡ true → is_white c ≡ true
 gap_is_white c e = grind (arith, e)
 
+pub gap_all_white : (cs : List ℕ) → list_all is_gap cs ≡ true → list_all is_white cs ≡ true
+gap_all_white = all_of is_gap is_white gap_is_white
+
 pub gap_class : (c : ℕ) → is_gap c ≡ true → class_of c ≡ White
 gap_class c e = white_class c (gap_is_white c e)
 
-text_less : (c : ℕ) → is_calm 60 38 c ≡ true → class_of c ≡ Less → ⊥
+text_less : (c : ℕ) → is_text c ≡ true → class_of c ≡ Less → ⊥
 text_less c e k = let f : c ≡ 60 = fits_at c Less k in grind (arith, e, f)
 
-text_ampersand : (c : ℕ) → is_calm 60 38 c ≡ true → class_of c ≡ Ampersand → ⊥
+text_ampersand : (c : ℕ) → is_text c ≡ true → class_of c ≡ Ampersand → ⊥
 text_ampersand c e k = let f : c ≡ 38 = fits_at c Ampersand k in grind (arith, e, f)
 
 -- states that stay --------------------------------------------------------------------------------
@@ -140,18 +187,19 @@ sign_out : (st : Stack) (p : Position) (c : ℕ) (h : Held) → is_open st ≡ f
 sign_out Bottom p c h e = refl
 sign_out (Opened s l t) p c h e = absurd (let f : true ≡ false = e in cc)
 
-white_stays : (h : Held) → is_open h.stack ≡ false → (p : Position) (c : ℕ) → is_gap c ≡ true
+white_stays : (h : Held) → is_open h.stack ≡ false → (p : Position) (c : ℕ) → is_white c ≡ true
     → step p (as_state h Inside) c ≡ Some (as_state h Inside)
-white_stays h o p c e = ap (λ (k : Class). in_inside p h c k) (gap_class c e)
+white_stays h o p c e = ap (λ (k : Class). in_inside p h c k) (white_class c e)
     ∙ ap (λ (y : Held). at y Inside) (sign_out h.stack p c h o)
 
-pub white_took : (h : Held) (text part rest : List ℕ) (p : Position) → is_open h.stack ≡ false → level_long h ≡ false
-    → IsRun is_gap text part rest → TookFlat text p (as_state h Inside) rest (as_state h Inside)
-white_took h text part rest p o l r = record {
-  part = part;
+pub white_took : (h : Held) (text rest : List ℕ) (p q : Position) → is_open h.stack ≡ false → level_long h ≡ false
+    → IsPast is_white text p rest q → Took text p (as_state h Inside) rest q (as_state h Inside)
+white_took h text rest p q o l r = record {
+  part = r.part;
   split = r.split;
-  flat = gap_all_flat part r.each;
-  calm = still (as_state h Inside) is_gap (white_stays h o) refl l part r.each p;
+  low = white_all_low r.part r.each;
+  place = r.place;
+  calm = still (as_state h Inside) is_white (white_stays h o) refl l r.part r.each p;
 }
 
 -- the text of an element --------------------------------------------------------------------------
@@ -172,6 +220,9 @@ few n h = grind arith
 pub low_flat : (c : ℕ) → is_flat c ≡ true → c < 128
 low_flat c e = grind (arith, e)
 
+low : (c : ℕ) → is_low c ≡ true → c < 128
+low c e = grind (arith, e)
+
 none_more : (n : ℕ) → n ≡ n + 0
 none_more n = omega arith
 
@@ -179,7 +230,7 @@ one_more : (n m : ℕ) → (n + 1) + m ≡ n + suc m
 one_more n m = omega arith
 
 text_calm : (imports : List (List ℕ)) (s : Stack) (b : Level) (t : Head) (cs : List ℕ) (p : Position) (l : Level)
-    → list_all (is_calm 60 38) cs ≡ true → l.count + length cs ≤ 4096
+    → list_all is_text cs ≡ true → l.count + length cs ≤ 4096
     → Calm p (leveled imports (Opened s b t) l) cs (leveled imports (Opened s b t) (run_level p cs l))
 text_calm imports s b t [] p l e h =
     ap (leveled imports (Opened s b t)) (λ j. record {
@@ -190,8 +241,8 @@ text_calm imports s b t [] p l e h =
       count = none_more l.count j;
     })
 text_calm imports s b t (c ∷ cs) p l e h =
-    let a = both (is_calm 60 38 c) (list_all (is_calm 60 38) cs) e in
-    let byte = ap (λ y. (l.run ++ y) ++ cs) (encode_ascii c (low_flat c (calm_flat 60 38 c a.0)))
+    let a = both (is_text c) (list_all is_text cs) e in
+    let byte = ap (λ y. (l.run ++ y) ++ cs) (encode_ascii c (low c (text_low c a.0)))
     ∙ append_assoc l.run (c ∷ []) cs in
     let room : l.count + 1 ≤ 4096 = omega arith in
     let more : (l.count + 1) + length cs ≤ 4096 = omega arith in
@@ -211,19 +262,21 @@ text_calm imports s b t (c ∷ cs) p l e h =
     (text_calm imports s b t cs (after p c) (one_sign p c l) a.1 more))
 
 open_calm : (imports : List (List ℕ)) (st : Stack) (cs : List ℕ) (p : Position) (l : Level) → is_open st ≡ true
-    → list_all (is_calm 60 38) cs ≡ true → l.count + length cs ≤ 4096
+    → list_all is_text cs ≡ true → l.count + length cs ≤ 4096
     → Calm p (leveled imports st l) cs (leveled imports st (run_level p cs l))
 open_calm imports Bottom cs p l o e h = absurd (let f : false ≡ true = o in cc)
 open_calm imports (Opened s b t) cs p l o e h = text_calm imports s b t cs p l e h
 
-pub text_took : (h : Held) (l : Level) (text part rest : List ℕ) (p : Position) → is_open h.stack ≡ true
-    → IsRun (is_calm 60 38) text part rest → h.level.count + length part ≤ 4096 → l ≡ run_level p part h.level
-    → TookFlat text p (as_state h Inside) rest (as_state (record { imports = h.imports; stack = h.stack; level = l })
+pub text_took : (h : Held) (l : Level) (text part rest : List ℕ) (p q : Position) → is_open h.stack ≡ true
+    → IsRun is_text text part rest → h.level.count + length part ≤ 4096 → l ≡ run_level p part h.level
+    → q ≡ after_all p part
+    → Took text p (as_state h Inside) rest q (as_state (record { imports = h.imports; stack = h.stack; level = l })
     Inside)
-text_took h l text part rest p o r n w = record {
+text_took h l text part rest p q o r n w e = record {
   part = part;
   split = r.split;
-  flat = calm_all_flat 60 38 part r.each;
+  low = text_all_low part r.each;
+  place = e;
   calm = subst (λ (y : Level). Calm p (as_state h Inside) part (leveled h.imports h.stack y)) (sym w)
       (open_calm h.imports h.stack part p h.level o r.each n);
 }
@@ -255,54 +308,48 @@ pub first_blank : (cs : List ℕ) (p : Position) → prefix_len is_white cs ≡ 
 first_blank [] p e = refl
 first_blank (c ∷ cs) p e = blank_by c cs p (is_white c) (first_blank cs (after p c)) refl e
 
-off : (c : ℕ) → is_flat c ≡ true → eqb c 10 ≡ false
-off c e = grind (arith, e)
-
-behind_flat : (c : ℕ) (p : Position) → is_flat c ≡ true → after p c ≡ column_at p (p.column + 1)
-behind_flat c p e = ap (λ (b : Bool). cond b (record { line = p.line + 1; column = 1 }) (column_at p (p.column + 1)))
-    (off c e)
-
-further : (n m : ℕ) → (n + 1) + m ≡ n + (1 + m)
-further n m = omega arith
+one_more_taken : (n : ℕ) (c : ℕ) (cs : List ℕ) → c ∷ take n cs ≡ take (1 + n) (c ∷ cs)
+one_more_taken n c cs = ap (λ m. take m (c ∷ cs)) (next n)
+  where
+    next : (n : ℕ) → suc n ≡ 1 + n
+    next n = omega arith
 
 up : (n m : ℕ) → n ≡ m → 1 + n ≡ suc m
 up n m e = omega arith
 
-found_by : (c : ℕ) (cs : List ℕ) (p : Position) (b : Bool) → is_flat c ≡ true
-    → ((prefix_len is_white cs ≡ length cs → ⊥) → run_first (column_at p (p.column + 1)) cs None
-    ≡ Some (column_at p ((p.column + 1) + prefix_len is_white cs)))
+found_by : (c : ℕ) (cs : List ℕ) (p : Position) (b : Bool)
+    → ((prefix_len is_white cs ≡ length cs → ⊥) → run_first (after p c) cs None
+    ≡ Some (after_all (after p c) (take (prefix_len is_white cs) cs)))
     → is_white c ≡ b → (cond b (1 + prefix_len is_white cs) 0 ≡ suc (length cs) → ⊥)
     → run_first (after p c) cs (first_shown None p (class_of c))
-    ≡ Some (column_at p (p.column + cond b (1 + prefix_len is_white cs) 0))
-found_by c cs p true f ih w g =
+    ≡ Some (after_all p (take (cond b (1 + prefix_len is_white cs) 0) (c ∷ cs)))
+found_by c cs p true ih w g =
     ap (λ (k : Class). run_first (after p c) cs (first_shown None p k)) (white_class c w)
-    ∙ (ap (λ (q : Position). run_first q cs None) (behind_flat c p f)
     ∙ (ih (λ e. g (up (prefix_len is_white cs) (length cs) e))
-    ∙ ap (λ y. Some (column_at p y)) (further p.column (prefix_len is_white cs))))
-found_by c cs p false f ih w g =
+    ∙ ap (λ y. Some (after_all p y)) (one_more_taken (prefix_len is_white cs) c cs))
+found_by c cs p false ih w g =
     ap (λ (o : Option Position). run_first (after p c) cs o) (shown_by p (class_of c) (not_white_class c w))
-    ∙ (first_stays cs (after p c) p ∙ ap (λ y. Some (column_at p y)) (none_more p.column))
+    ∙ first_stays cs (after p c) p
 
-pub first_found : (cs : List ℕ) (p : Position) → list_all is_flat cs ≡ true → (prefix_len is_white cs ≡ length cs → ⊥)
-    → run_first p cs None ≡ Some (column_at p (p.column + prefix_len is_white cs))
-first_found [] p f n = absurd (n refl)
-first_found (c ∷ cs) p f n =
-    let a = both (is_flat c) (list_all is_flat cs) f in
-    found_by c cs p (is_white c) a.0 (first_found cs (column_at p (p.column + 1)) a.1) refl n
+pub first_found : (cs : List ℕ) (p : Position) → (prefix_len is_white cs ≡ length cs → ⊥)
+    → run_first p cs None ≡ Some (after_all p (take (prefix_len is_white cs) cs))
+first_found [] p n = absurd (n refl)
+first_found (c ∷ cs) p n = found_by c cs p (is_white c) (first_found cs (after p c)) refl n
 
 -- as code finds it
 pub blank_in : (piece bytes : List ℕ) (p : Position) (n : ℕ) → n ≡ prefix_len is_white bytes → bytes ≡ piece → n
     ≡ length piece → None ≡ run_first p piece None
 blank_in piece bytes p n e b w = sym (first_blank piece p (sym (e ∙ ap (prefix_len is_white) b) ∙ w))
 
-pub found_in : (piece bytes : List ℕ) (p r : Position) (n : ℕ) → list_all is_flat piece ≡ true → n
-    ≡ prefix_len is_white bytes → bytes ≡ piece → (n ≡ length piece → ⊥) → r.line ≡ p.line → r.column ≡ p.column + n
-    → Some r ≡ run_first p piece None
-found_in piece bytes p r n f e b x l w =
+pub found_in : (piece bytes front : List ℕ) (p r : Position) (n : ℕ) → list_all is_low piece ≡ true → n
+    ≡ prefix_len is_white bytes → bytes ≡ piece → (n ≡ length piece → ⊥) → front ≡ take n bytes
+    → r ≡ after_bytes p front → Some r ≡ run_first p piece None
+found_in piece bytes front p r n f e b x t w =
     let m : n ≡ prefix_len is_white piece = e ∙ ap (prefix_len is_white) b in
-    let same : r ≡ column_at p (p.column + prefix_len is_white piece) = λ i.
-    record { line = l i; column = (w ∙ ap (λ y. p.column + y) m) i } in
-    ap Some same ∙ sym (first_found piece p f (λ z. x (m ∙ z)))
+    let same : front ≡ take (prefix_len is_white piece) piece = t ∙ (ap (take n) b ∙ ap (λ k. take k piece) m) in
+    let low : list_all is_low front ≡ true = white_all_low front
+    (ap (list_all is_white) same ∙ front-passes is_white piece) in
+    ap Some (w ∙ (low_after front p low ∙ ap (after_all p) same)) ∙ sym (first_found piece p (λ z. x (m ∙ z)))
 
 -- comments ----------------------------------------------------------------------------------------
 
@@ -359,10 +406,10 @@ instruction_took h n x y text part rest p l r w = record {
 
 -- white in a tag ----------------------------------------------------------------------------------
 
-pub spaced_calm : (h : Held) (head : Head) (part : List ℕ) (p : Position) → level_long h ≡ false → list_all is_gap part
-    ≡ true → Calm p (as_state h (Spaced head)) part (as_state h (Spaced head))
+pub spaced_calm : (h : Held) (head : Head) (part : List ℕ) (p : Position) → level_long h ≡ false
+    → list_all is_white part ≡ true → Calm p (as_state h (Spaced head)) part (as_state h (Spaced head))
 spaced_calm h head part p l e = still (as_state h (Spaced head))
-    is_gap (λ q c g. ap (λ (k : Class). in_spaced q head h c k) (gap_class c g)) refl l part e p
+    is_white (λ q c g. ap (λ (k : Class). in_spaced q head h c k) (white_class c g)) refl l part e p
 
 -- the value of an attribute -----------------------------------------------------------------------
 
@@ -395,15 +442,11 @@ value_taken h head q key u code v w n m text part rest p c l r =
 
 -- white behind a value ----------------------------------------------------------------------------
 
-pub tight_gap_calm : (h : Held) (head : Head) (gap : List ℕ) (p : Position) → (gap ≡ [] → ⊥) → level_long h ≡ false
-    → list_all is_gap gap ≡ true → Calm p (as_state h (Tight head)) gap (as_state h (Spaced head))
-tight_gap_calm h head [] p n l e = absurd (n refl)
-tight_gap_calm h head (c ∷ cs) p n l e =
-    let a = both (is_gap c) (list_all is_gap cs) e in
+pub tight_white_calm : (h : Held) (head : Head) (part : List ℕ) (p : Position) → (part ≡ [] → ⊥)
+    → level_long h ≡ false → list_all is_white part ≡ true
+    → Calm p (as_state h (Tight head)) part (as_state h (Spaced head))
+tight_white_calm h head [] p n l e = absurd (n refl)
+tight_white_calm h head (c ∷ cs) p n l e =
+    let a = both (is_white c) (list_all is_white cs) e in
     one_calm p (as_state h (Tight head)) (as_state h (Spaced head)) c cs (as_state h (Spaced head))
-    (ap (λ (k : Class). in_tight head h k) (gap_class c a.0)) refl l (spaced_calm h head cs (after p c) l a.1)
-
--- the position behind a run of one line
-pub along_run : (gap : List ℕ) (p q : Position) → list_all is_flat gap ≡ true → q.line ≡ p.line → q.column
-    ≡ p.column + length gap → q ≡ after_all p gap
-along_run gap p q f e g = (λ i. record { line = e i; column = g i }) ∙ sym (along_is p gap f)
+    (ap (λ (k : Class). in_tight head h k) (white_class c a.0)) refl l (spaced_calm h head cs (after p c) l a.1)

@@ -110,18 +110,23 @@ key_flat : (u : Quote) (name before after : List ℕ) → list_all is_named name
 key_flat u name before after n x y = all_flat is_named named_flat name (before ++ (61 ∷ (after ++ (quote_code u ∷ [])))) n
     (flat_append before (61 ∷ (after ++ (quote_code u ∷ []))) (gap_all_flat before x) (flat_append after (quote_code u ∷ []) (gap_all_flat after y) (ap (λ b. b && true) (quote_flat u))))
 
+pub key_took : (h : Held) (head : HeadView) (rest name behind : List ℕ) (u : Quote) (p : Position)
+    → level_long h ≡ false → IsKey rest name u behind → is_fresh name head ≡ true
+    → TookFlat rest p (as_state h (Spaced head)) behind (quoting h head p name u [] 0)
+key_took h head rest name behind u p l k f = record {
+  part = key_text u name k.before k.after;
+  split = k.written ∙ key_split (quote_code u) name k.before k.after behind;
+  flat = key_flat u name k.before k.after k.named k.white_before k.white_after;
+  calm = key_calm h head u name k.before k.after p l k.begins k.named k.short k.white_before k.white_after f;
+}
+
 pub key_taken : (r : Reader) (m : ModeHere) (a b : Head) (x : Valued) (rest name behind key : List ℕ) (u : Quote) (p : Position) → r.mode ≡ v.Spaced a → m ≡ r.mode → m ≡ v.Spaced b → IsKey rest name u behind → key ≡ name → is_fresh key (head_view a) ≡ true
     → x.head ≡ b → x.position ≡ p → string_bytes x.key.text ≡ key → x.quote ≡ u → string_bytes x.value.text ≡ [] → x.value.count ≡ 0 → TookFlat rest p (view r) behind (in_mode r (v.Quoted x))
 key_taken r m a b x rest name behind key u p e f g k j n xh xp xk xq xv xn =
     let h = held_view r.held in
     let fresh : is_fresh name (head_view b) ≡ true = ap (λ y. is_fresh y (head_view b)) (sym j) ∙ (same_fresh r key r.mode a b e (sym f ∙ g) ∙ n) in
-    let calm : Calm p (as_state h (Spaced (head_view b))) (key_text u name k.before k.after) (quoting h (head_view b) p name u [] 0) = key_calm h (head_view b) u name k.before k.after p (level_short r) k.begins k.named k.short k.white_before k.white_after fresh in
     let whole : quoting h (head_view b) p name u [] 0 ≡ in_mode r (v.Quoted x) =
     λ i. as_state h (Quoted (head_view (sym xh i)) (sym xp i) (sym (xk ∙ j) i) (sym xq i) (sym xv i) (sym xn i)) in
-    record {
-      part = key_text u name k.before k.after;
-      split = k.written ∙ key_split (quote_code u) name k.before k.after behind;
-      flat = key_flat u name k.before k.after k.named k.white_before k.white_after;
-      calm = subst (λ (y : State). Calm p (view r) (key_text u name k.before k.after) y) whole
-          (subst (λ (y : ModeHere). Calm p (in_mode r y) (key_text u name k.before k.after) (quoting h (head_view b) p name u [] 0)) (sym (sym f ∙ g)) calm);
-    }
+    subst (λ (y : State). TookFlat rest p (view r) behind y) whole
+    (subst (λ (y : ModeHere). TookFlat rest p (in_mode r y) behind (quoting h (head_view b) p name u [] 0)) (sym (sym
+    f ∙ g)) (key_took h (head_view b) rest name behind u p (level_short r) k fresh))

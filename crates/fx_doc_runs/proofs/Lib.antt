@@ -10,3 +10,5 @@ pub mod Carried
 pub mod Keying
 pub mod Tagging
 pub mod Signing
+pub mod Attributing
+pub mod Resting

@@ -1,6 +1,6 @@
 -- What begins with a sign in the text of an element: references, tags, and both ends of a comment.
 -- Above the lemmas on runs; the answers on what is taken there cite these.
-use Rattle.std.proofs.Common.{◌≡◌, ℕ, ◌+◌, ◌-◌, Bool, true, false, ◌&&◌, List, [], ◌∷◌, ◌++◌, Option, Some, None, Result, Ok, Err, IfOk, IfSome, length, refl, sym, ◌∙◌, ap, subst, append_assoc}
+use Rattle.std.proofs.Common.{◌≡◌, ℕ, Bool, true, false, ◌&&◌, List, [], ◌∷◌, ◌++◌, Option, Some, None, IfSome, refl, sym, ◌∙◌, ap, subst, append_assoc}
 use lib.Dec.{ltb}
 use Rattle.std.specs.List.{list_all}
 use Rattle.fx_base.specs.Positions.{after, after_all}
@@ -17,7 +17,6 @@ use Rattle.fx_doc_runs.specs.Reached.{Calm, TookFlat, IsRun}
 use Rattle.fx_doc_runs.specs.Keys.{IsNameAhead}
 use Rattle.fx_doc_runs.specs.References.{Letters, Refers}
 use Rattle.fx_doc_runs.specs.Views.{bare_head, head_view, held_view, moved, open_name, stack_view, mode_view, view}
-use Rattle.fx_doc_runs.specs.declared.document.DocError.{DocError}
 use Rattle.fx_doc_runs.specs.declared.modes.Head.{Head}
 use Rattle.fx_doc_runs.specs.declared.modes.Held.{Held}
 use Rattle.fx_doc_runs.specs.declared.modes.Mode.{Mode}
@@ -25,7 +24,7 @@ use Rattle.fx_doc_runs.specs.declared.modes.Mode.TheVariants as v
 use Rattle.fx_doc_runs.specs.declared.modes.Reader.{Reader}
 use Rattle.fx_doc_runs.proofs.Calm.{one_calm, if_fresh}
 use Rattle.fx_doc_runs.proofs.Carried.{in_mode}
-use Rattle.fx_doc_runs.proofs.Flowing.{calm_then, run_then, along_part, flat_append, comment_took}
+use Rattle.fx_doc_runs.proofs.Flowing.{calm_then, flat_then, flat_append, comment_took}
 use Rattle.fx_doc_runs.proofs.Shorts.{never_long, level_short}
 use Rattle.fx_doc_runs.proofs.Tagging.{tag_took, ending_calm, shallow}
 use Rattle.fx_doc_runs.proofs.Whole.{all_flat, named_flat}
@@ -34,23 +33,7 @@ both : (a b : Bool) → (a && b) ≡ true → (a ≡ true) × (b ≡ true)
 both true b e = (refl, e)
 both false b e = Prim.cc
 
--- one part behind another --------------------------------------------------------------------------
-
-flat_then : (a b c : List ℕ) (p : Position) (s t u : State) → TookFlat a p s b t
-    → ((q : Position) → TookFlat b q t c u) → TookFlat a p s c u
-flat_then a b c p s t u x y = run_then a x.part b c p (after_all p x.part) s t u x.split x.flat refl x.calm
-    (y (after_all p x.part))
-
--- as code goes on behind a part
-pub inside_then : {X : Type 0} (o : Result X DocError) (now : X → List ℕ) (r r1 r2 : Reader) (text left : List ℕ)
-    (p q : Position) → TookFlat text p (view r) left (view r1) → q.line ≡ p.line → q.column
-    ≡ p.column + (length text - length left)
-    → IfOk o (λ x. TookFlat left q (view r1) (now x) (view r2))
-    → IfOk o (λ x. TookFlat text p (view r) (now x) (view r2))
-inside_then (Ok x) now r r1 r2 text left p q t f g k =
-    run_then text t.part left (now x) p q (view r) (view r1) (view r2) t.split t.flat
-    (along_part text t.part left p q t.split t.flat f g) t.calm k
-inside_then (Err y) now r r1 r2 text left p q t f g k = tt
+-- both ends of a comment ---------------------------------------------------------------------------
 
 less_on : (h : HeldView) (p : Position) → step p (as_state h Inside) 60 ≡ Some (as_state h (Opening p))
 unfolding class_of
@@ -65,8 +48,6 @@ less_then h s text behind left p l e t = record {
   flat = t.flat;
   calm = one_calm p (as_state h Inside) (as_state h (Opening p)) 60 t.part s (less_on h p) refl l t.calm;
 }
-
--- both ends of a comment ---------------------------------------------------------------------------
 
 bang_on : (h : HeldView) (q p : Position) → step p (as_state h (Opening q)) 33 ≡ Some (as_state h Banged)
 unfolding class_of

@@ -21,7 +21,7 @@ use Rattle.fx_doc_runs.specs.declared.modes.Mode.{Mode}
 use Rattle.fx_doc_runs.specs.declared.modes.Mode.TheVariants as v
 use Rattle.fx_doc_runs.specs.declared.modes.Reader.{Reader}
 use Rattle.fx_doc_runs.proofs.Calm.{one_calm, short_or, if_fresh}
-use Rattle.fx_doc_runs.proofs.Flowing.{gap_class, gap_all_flat, spaced_calm}
+use Rattle.fx_doc_runs.proofs.Flowing.{gap_class, gap_all_flat, gap_all_white, spaced_calm}
 use Rattle.fx_doc_runs.proofs.Whole.{all_flat, named_flat}
 use Rattle.fx_doc_runs.proofs.Shorts.{not_past, level_short}
 use Rattle.fx_doc_runs.proofs.Carried.{in_mode}
@@ -124,7 +124,7 @@ named_white h q name (c ∷ cs) p n l e =
     let a = both (is_gap c) (list_all is_gap cs) e in
     one_calm p (as_state h (Naming q name)) (as_state h (Spaced (bare_head q name))) c cs
     (as_state h (Spaced (bare_head q name))) (ap (λ (k : Class). in_naming q name h c k) (gap_class c a.0)) refl l
-    (spaced_calm h (bare_head q name) cs (after p c) l a.1)
+    (spaced_calm h (bare_head q name) cs (after p c) l (gap_all_white cs a.1))
 
 pub tag_took : (h : HeldView) (q : Position) (text name rest gap left : List ℕ) (p : Position) → level_long h ≡ false
     → leb 128 (stack_depth h.stack) ≡ false → may_begin h ≡ true → IsNameAhead text name rest

@@ -4,13 +4,14 @@ use Rattle.std.specs.Prelude.{◌≡◌, ◌≤◌, ◌+◌, ℕ, Bool, true, fa
 use Rattle.std.specs.List.{list_all}
 use Rattle.std.specs.Str.{chars, IsUtf8}
 use Rattle.fx_base.specs.Positions.{start, after, after_all}
-use Rattle.fx_doc_drafts.specs.Ahead.{is_flat}
+use Rattle.fx_doc_drafts.specs.Ahead.{is_low, is_flat}
 use Rattle.fx_doc_grammar.specs.Characters.{class_of}
 use Rattle.fx_doc_grammar.specs.Grammar.{Level, first_shown}
-use Rattle.fx_doc_grammar.specs.Machine.{State, Held, Quoted, initial, step, run, is_deep, is_long}
+use Rattle.fx_doc_grammar.specs.Machine.{State, Held, Spaced, Tight, Quoted, initial, step, run, is_deep, is_long, level_long}
 use Rattle.fx_doc_grammar.specs.Beginnings.{IsWithinLimits}
 use Rattle.fx_base.specs.declared.positions.Position.{Position}
 use Rattle.fx_doc_runs.specs.Views.{head_view}
+use Rattle.fx_doc_runs.specs.declared.modes.Head.{Head}
 use Rattle.fx_doc_runs.specs.declared.modes.Valued.{Valued}
 use Rattle.std.specs.String.{string_bytes}
 
@@ -32,6 +33,21 @@ pub record TookFlat (before : List ℕ) (p : Position) (s : State) (rest : List 
   pub split : before ≡ part ++ rest
   pub flat : list_all is_flat part ≡ true
   pub calm : Calm p s part s'
+
+-- a part of a text was taken, in ASCII, and the rest is left, which goes on at that position
+pub record Took (before : List ℕ) (p : Position) (s : State) (rest : List ℕ) (q : Position) (s' : State) : Type 0 where
+  pub part : List ℕ
+  pub split : before ≡ part ++ rest
+  pub low : list_all is_low part ≡ true
+  pub place : q ≡ after_all p part
+  pub calm : Calm p s part s'
+
+-- the text goes on with a part whose characters pass a test, and the rest is behind it, at that position
+pub record IsPast (test : ℕ → Bool) (text : List ℕ) (p : Position) (rest : List ℕ) (q : Position) : Type 0 where
+  pub part : List ℕ
+  pub split : text ≡ part ++ rest
+  pub each : list_all test part ≡ true
+  pub place : q ≡ after_all p part
 
 -- the text begins with this part, whose characters pass a test, and the rest is behind it
 pub record IsRun (test : ℕ → Bool) (text part rest : List ℕ) : Type 0 where
@@ -58,6 +74,23 @@ quoted_at h x = record {
   mode = Quoted (head_view x.head) x.position (string_bytes x.key.text) x.quote (string_bytes x.value.text)
       x.value.count;
 }
+
+-- a value went on over a part of a text
+abbrev pub TookValue : List ℕ → Valued → List ℕ → Valued → Type 0
+TookValue before x rest x' = (h : Held) (p : Position) → level_long h ≡ false
+    → TookFlat before p (quoted_at h x) rest (quoted_at h x')
+
+-- before an attribute of a tag, and behind one
+abbrev pub spaced_at : Held → Head → State
+spaced_at h x = record { held = h; mode = Spaced (head_view x) }
+
+abbrev pub tight_at : Held → Head → State
+tight_at h x = record { held = h; mode = Tight (head_view x) }
+
+-- an attribute was taken whole
+abbrev pub TookWhole : List ℕ → Position → Head → List ℕ → Head → Type 0
+TookWhole before p x rest x' = (h : Held) → level_long h ≡ false
+    → TookFlat before p (spaced_at h x) rest (tight_at h x')
 
 -- so much of a text was read, and the rest is left
 pub record IsReached (text rest : List ℕ) (p : Position) (s : State) : Type 0 where

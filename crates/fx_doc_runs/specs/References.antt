@@ -1,7 +1,9 @@
 -- The letters of a reference that stand ahead.
 -- The reader's own steps cite these; no public clause does.
 use Rattle.std.specs.Prelude.{◌≡◌, ℕ, true, List, [], ◌∷◌, ◌++◌, Some}
+use Rattle.fx_text.specs.Characters as ascii
 use Rattle.fx_doc_grammar.specs.declared.Entity.{Entity}
+use Rattle.fx_doc_grammar.specs.declared.Entity.TheVariants.{Begun}
 use Rattle.fx_doc_grammar.specs.declared.Turn.TheVariants.{Further, Whole}
 use Rattle.fx_doc_grammar.specs.Machine.{entity_step}
 use Rattle.fx_doc_drafts.specs.Ahead.{is_flat}
@@ -20,3 +22,9 @@ pub record Refers (entity : Entity) (text : List ℕ) (found : ℕ) (rest : List
   pub along : Letters entity letters end
   pub flat : is_flat last ≡ true
   pub whole : entity_step end last ≡ Some (Whole found)
+
+-- the text goes on with a reference that stands for this character
+pub record IsReference (text : List ℕ) (found : ℕ) (rest : List ℕ) : Type 0 where
+  pub behind : List ℕ
+  pub begun : text ≡ ascii.ampersand ∷ behind
+  pub refers : Refers Begun behind found rest

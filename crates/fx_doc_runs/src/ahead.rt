@@ -1,7 +1,7 @@
 //! What stands ahead of the reader, taken whole: a text, a value, an attribute, a name, the end of a tag, or the inside
 //! of a comment or of an instruction. Every other character, and every fault, is left to the reader's steps.
-ghost use Rattle.std.specs.Prelude.{◌≡◌, ◌+◌, ◌<◌, ◌≤◌, ◌^◌, length, IfOk, IfErr};
-ghost use Rattle.fx_doc_runs.specs.Reached.{TookFlat};
+ghost use Rattle.std.specs.Prelude.{◌≡◌, ◌+◌, ◌<◌, ◌^◌, length, IfOk, IfErr};
+ghost use Rattle.fx_doc_runs.specs.Reached.{Took, TookFlat};
 ghost use Rattle.fx_doc_runs.specs.Views.{view};
 ghost use Rattle.fx_doc_runs.specs.declared.document.DocError.TheVariants as fault;
 ghost use Rattle.fx_doc_runs.specs.declared.modes.Mode.TheVariants as kind;
@@ -9,69 +9,46 @@ ghost use Rattle.fx_base.specs.declared.positions.Position.{Position};
 
 use crate::document::DocError;
 use crate::modes::{Mode, Reader};
-use crate::runs::{along, gap_ahead, run_ahead};
-use fx_base::Position;
-use fx_doc_drafts::{attribute_ahead, behind_byte};
+use crate::rests::Rest;
+use crate::runs::run_ahead;
+use fx_doc_drafts::{behind_byte, quote_byte};
 use std::alloc::Global;
 use std::mem;
 
 impl Reader {
-    /// Takes the run or the attribute that stands ahead, and gives the text behind it.
-    pub fn take_ahead<'a>(
-        &mut self,
-        alloc: Global,
-        position: Position,
-        rest: &'a str,
-    ) -> Result<&'a str, DocError>
-        requires { position.column + length rest.now < 2 ^ 32 }
-        ensures took { IfOk result (λ left. TookFlat rest.now position (view self.old) left.now (view self.new)) }
+    /// Takes what stands ahead and isn't left to a step, and gives what is left behind it.
+    pub fn take_ahead<'a>(&mut self, alloc: Global, at: Rest<'a>) -> Result<Rest<'a>, DocError>
+        requires line { at.position.line + length at.text.now < 2 ^ 31 }
+        requires column { at.position.column + length at.text.now < 2 ^ 31 }
+        ensures took { IfOk result (λ left. Took at.entry.text.now at.entry.position (view self.old)
+            left.text.now left.position (view self.new)) }
         ensures memory { IfErr result (λ e. e ≡ fault.Memory) }
     {
         match &self.mode {
-            Mode::Inside => self.take_inside(alloc, position, rest),
-            Mode::Commented => Ok(self.take_comment(rest)),
-            Mode::Instructed(_, _) => self.take_instruction(rest),
-            Mode::Quoted(_) => self.take_value(rest),
-            Mode::Tight(_) => self.take_further(alloc, position, rest),
-            Mode::Spaced(_) => {
-                let (gap, left) = gap_ahead(rest);
-                let position = along(position, gap.len());
-                self.take_attribute(alloc, position, left)
-            }
-            _ => Ok(rest),
+            Mode::Inside => self.take_inside(alloc, at),
+            Mode::Commented => Ok(at.along(self.take_comment(at.text))),
+            Mode::Instructed(_, _) => Ok(at.along(self.take_instruction(at.text)?)),
+            Mode::Quoted(_) => Ok(at.along(self.take_value(alloc, at.text)?)),
+            Mode::Tight(_) => self.take_further(alloc, at),
+            Mode::Spaced(_) => self.take_attribute(alloc, at.past_white()),
+            _ => Ok(at),
         }
     }
 
     /// Takes the text of an element that stands ahead, or white outside the elements, and what begins behind it.
-    fn take_inside<'a>(
-        &mut self,
-        alloc: Global,
-        position: Position,
-        rest: &'a str,
-    ) -> Result<&'a str, DocError>
+    fn take_inside<'a>(&mut self, alloc: Global, at: Rest<'a>) -> Result<Rest<'a>, DocError>
         requires inside { self.old.mode ≡ kind.Inside }
-        requires column { position.column + length rest.now < 2 ^ 32 }
-        ensures took { IfOk result (λ left. TookFlat rest.now position (view self.old) left.now (view self.new)) }
+        requires line { at.position.line + length at.text.now < 2 ^ 31 }
+        requires column { at.position.column + length at.text.now < 2 ^ 31 }
+        ensures took { IfOk result (λ left. Took at.entry.text.now at.entry.position (view self.old)
+            left.text.now left.position (view self.new)) }
         ensures memory { IfErr result (λ e. e ≡ fault.Memory) }
     {
-        let left = self.take_text(position, rest)?;
-        let position = along(position, rest.len() - left.len());
-        self.take_sign(alloc, position, left)
-    }
-
-    /// Takes the text of an element that stands ahead, or white outside the elements.
-    fn take_text<'a>(&mut self, position: Position, rest: &'a str) -> Result<&'a str, DocError>
-        requires inside { self.old.mode ≡ kind.Inside }
-        requires column { position.column + length rest.now < 2 ^ 32 }
-        ensures took { IfOk result (λ left. TookFlat rest.now position (view self.old) left.now (view self.new)) }
-        ensures memory { IfErr result (λ e. e ≡ fault.Memory) }
-        ensures inside { self.new.mode ≡ kind.Inside }
-        ensures shorter { IfOk result (λ left. length left.now ≤ length rest.now) }
-    {
-        match self.held.take_text(position, rest) {
-            Ok(left) => Ok(left),
-            Err(_) => Err(DocError::Memory),
-        }
+        let Ok(at) = self.held.take_text(at) else {
+            return Err(DocError::Memory);
+        };
+        let left = self.take_sign(alloc, at.position, at.text)?;
+        Ok(at.along(left))
     }
 
     /// Takes the text of an instruction that stands ahead, up to the next `?` or the end of the line.
@@ -90,8 +67,8 @@ impl Reader {
         }
     }
 
-    /// Takes the plain characters ahead that a value goes on with.
-    fn take_value<'a>(&mut self, rest: &'a str) -> Result<&'a str, DocError>
+    /// Takes what a value goes on with, and its quote.
+    fn take_value<'a>(&mut self, alloc: Global, rest: &'a str) -> Result<&'a str, DocError>
         ensures took { (p : Position) → IfOk result (λ left. TookFlat rest.now p (view self.old) left.now
             (view self.new)) }
         ensures memory { IfErr result (λ e. e ≡ fault.Memory) }
@@ -99,43 +76,45 @@ impl Reader {
         let Mode::Quoted(valued) = &mut self.mode else {
             return Ok(rest);
         };
-        match valued.take(rest) {
-            Ok(left) => Ok(left),
-            Err(_) => Err(DocError::Memory),
-        }
-    }
-
-    /// Takes white and the attribute behind it, that stand ahead of another's end.
-    fn take_further<'a>(
-        &mut self,
-        alloc: Global,
-        position: Position,
-        rest: &'a str,
-    ) -> Result<&'a str, DocError>
-        requires { position.column + length rest.now < 2 ^ 32 }
-        ensures took { IfOk result (λ left. TookFlat rest.now position (view self.old) left.now (view self.new)) }
-        ensures memory { IfErr result (λ e. e ≡ fault.Memory) }
-    {
-        let (gap, left) = gap_ahead(rest);
-        if gap.is_empty() {
-            return self.take_tag_end(alloc, rest);
-        }
-        let Mode::Tight(head) = &mut self.mode else {
-            return Ok(rest);
-        };
-        let Some(ahead) = attribute_ahead(left) else {
-            return Ok(rest);
-        };
-        let Ok(new) = head.is_new(alloc, ahead.name) else {
+        let Ok(left) = valued.take(rest) else {
             return Err(DocError::Memory);
         };
-        if !new {
-            return Ok(rest);
+        let Some(behind) = behind_byte(left, quote_byte(valued.quote)) else {
+            return Ok(left);
+        };
+        let Mode::Quoted(valued) = mem::replace(&mut self.mode, Mode::Ended) else {
+            unreachable!()
+        };
+        let Ok(head) = valued.into_head(alloc) else {
+            return Err(DocError::Memory);
+        };
+        self.mode = Mode::Tight(head);
+        Ok(behind)
+    }
+
+    /// Takes white and the attribute behind it, or the end of the tag, that stand behind a value.
+    fn take_further<'a>(&mut self, alloc: Global, at: Rest<'a>) -> Result<Rest<'a>, DocError>
+        requires line { at.position.line + length at.text.now < 2 ^ 31 }
+        requires column { at.position.column + length at.text.now < 2 ^ 31 }
+        ensures took { IfOk result (λ left. Took at.entry.text.now at.entry.position (view self.old)
+            left.text.now left.position (view self.new)) }
+        ensures memory { IfErr result (λ e. e ≡ fault.Memory) }
+    {
+        let left = at.past_white();
+        if left.text.len() == at.text.len() {
+            return Ok(at.along(self.take_tag_end(alloc, at.text)?));
         }
-        match head.add(alloc, along(position, gap.len()), ahead.name, ahead.value) {
-            Ok(()) => Ok(ahead.behind),
-            Err(_) => Err(DocError::Memory),
+        let Mode::Tight(head) = &mut self.mode else {
+            return Ok(at);
+        };
+        if let Some(behind) = head.take(alloc, left.position, left.text)? {
+            return Ok(left.along(behind));
         }
+        let Mode::Tight(head) = mem::replace(&mut self.mode, Mode::Ended) else {
+            unreachable!()
+        };
+        self.mode = Mode::Spaced(head);
+        Ok(left.along(self.take_key(alloc, left.position, left.text)?))
     }
 
     /// Takes the end of a tag that stands right behind a value.
@@ -183,35 +162,23 @@ impl Reader {
         }
     }
 
-    /// Takes the attribute that stands ahead, if it is written as most are, and gives the text behind it.
-    fn take_attribute<'a>(
-        &mut self,
-        alloc: Global,
-        position: Position,
-        rest: &'a str,
-    ) -> Result<&'a str, DocError>
-        ensures took { IfOk result (λ left. TookFlat rest.now position (view self.old) left.now (view self.new)) }
+    /// Takes the attribute that stands ahead, or its name and its quote.
+    fn take_attribute<'a>(&mut self, alloc: Global, at: Rest<'a>) -> Result<Rest<'a>, DocError>
+        requires column { at.position.column + length at.text.now < 2 ^ 31 }
+        ensures took { IfOk result (λ left. Took at.entry.text.now at.entry.position (view self.old)
+            left.text.now left.position (view self.new)) }
         ensures memory { IfErr result (λ e. e ≡ fault.Memory) }
     {
-        let Mode::Spaced(head) = &self.mode else {
-            return Ok(rest);
+        let Mode::Spaced(head) = &mut self.mode else {
+            return Ok(at);
         };
-        let Some(ahead) = attribute_ahead(rest) else {
-            return self.take_key(alloc, position, rest);
+        let Some(behind) = head.take(alloc, at.position, at.text)? else {
+            return Ok(at.along(self.take_key(alloc, at.position, at.text)?));
         };
-        let Ok(new) = head.is_new(alloc, ahead.name) else {
-            return Err(DocError::Memory);
-        };
-        if !new {
-            return Ok(rest);
-        }
-        let Mode::Spaced(mut head) = mem::replace(&mut self.mode, Mode::Ended) else {
+        let Mode::Spaced(head) = mem::replace(&mut self.mode, Mode::Ended) else {
             unreachable!()
         };
-        let Ok(()) = head.add(alloc, position, ahead.name, ahead.value) else {
-            return Err(DocError::Memory);
-        };
         self.mode = Mode::Tight(head);
-        Ok(ahead.behind)
+        Ok(at.along(behind))
     }
 }

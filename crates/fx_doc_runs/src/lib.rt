@@ -12,6 +12,7 @@ mod keys;
 mod levels;
 mod light;
 mod modes;
+mod rests;
 mod runs;
 mod signs;
 
@@ -23,4 +24,4 @@ pub use light::{
     goes_lightly,
 };
 pub use modes::{Head, Held, Level, Mode, Open, Reader, Valued};
-pub use runs::along;
+pub use rests::Rest;

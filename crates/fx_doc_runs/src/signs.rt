@@ -23,7 +23,7 @@ use std::alloc::Global;
 const TEXT_LIMIT: usize = 4096;
 
 /// The greatest number of characters of a reference that is taken whole, behind its `&`.
-const REFERENCE: usize = 12;
+pub const REFERENCE: usize = 12;
 
 fn is_flat(byte: u8) -> bool
     ensures { result ≡ is_flat byte }
@@ -33,7 +33,7 @@ fn is_flat(byte: u8) -> bool
 
 /// The character for which a reference stands that has been read so far, and the text behind it, if at most so many
 /// characters are left of it.
-fn reference_ahead(entity: Entity, text: &str, most: usize) -> Option<(char, &str)>
+pub fn reference_ahead(entity: Entity, text: &str, most: usize) -> Option<(char, &str)>
     ensures { IfSome result (λ x. Refers entity text.now x.0 x.1.now) }
 {
     if most == 0 {

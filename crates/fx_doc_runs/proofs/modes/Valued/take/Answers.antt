@@ -1,14 +1,15 @@
-use Rattle.std.proofs.Common.{arith}
-use Rattle.std.specs.String.{string_bytes}
-use Rattle.fx_doc_runs.specs.Views.{head_view}
-use Rattle.fx_doc_runs.proofs.Flowing.{plain_all_flat, value_taken}
+use Rattle.std.proofs.Common.{rules}
+use Rattle.fx_doc_runs.proofs.Attributing.{value_then, value_refers, valued_with}
 use Rattle.fx_doc_runs.proofs.modes.Valued.take.Goals as goal
 
-pub push_flat-requires-clause-flat : goal.push_flat-requires-clause-flat
-push_flat-requires-clause-flat c = plain_all_flat c.quote_byte-quote.result c.value_ahead.result.0.now c.value_ahead.ensures.run.each
-
-pub returns : goal.returns
-returns c = λ h p l.
-    value_taken h (head_view c.args.self.now.head) c.args.self.now.position (string_bytes c.args.self.now.key.text) c.args.self.now.quote c.quote_byte-quote.result (string_bytes c.args.self.now.value.text) (string_bytes c.push_flat.new.self.text)
-    c.args.self.now.value.count c.push_flat.new.self.count c.args.rest.now c.value_ahead.result.0.now c.value_ahead.result.1.now p c.quote_byte-quote.ensures l c.value_ahead.ensures.run
-    (omega (arith, c.value_ahead.ensures.short, c.args.self.now.value.short)) c.in_ok-push_flat.ensures.bytes c.in_ok-push_flat.ensures.count
+pub loop-found-preserved : goal.loop-found-preserved
+loop-found-preserved c = record {
+  utf8 = search rules;
+  took = value_then c.args.rest.now c.loop-found.left.now c.in_ok-left-2.left.now c.args.self.now c.loop-found.self
+      c.take_plain-in-Some.new.self c.loop-found.invariant.took
+      (value_then c.loop-found.left.now c.in-Some.behind.now c.in_ok-left-2.left.now c.loop-found.self
+      (valued_with c.loop-found.self c.push.new.self) c.take_plain-in-Some.new.self
+      (value_refers c.loop-found.self c.push.new.self c.loop-found.left.now c.in-Some.behind.now c.in-Some.found
+      c.in-Some.ensures.some c.in-Some.ensures.room c.in_ok-push.ensures.bytes c.in_ok-push.ensures.count)
+      c.in_ok-left-2.ensures.took);
+}

@@ -9,8 +9,7 @@ use Rattle.fx_css_types.specs.declared.selectors.Compound.{Compound}
 use Rattle.fx_text.proofs.FrontLemmas.{behind_stops, map_gives, then_gives}
 use Rattle.fx_css_parts.specs.Texts.{is_ident, ident_at}
 use Rattle.fx_css_parts.specs.Selecting.{Part, is_sign, is_part, not_sign, parts_at, names_behind, compound, with_parts, kind_at, is_gap, not_gap, links_at, link_at, linked_at, combinator_at, compound_at, selector, selector_at}
-use Rattle.fx_css_parts.specs.declared.compounds.Names.{Names}
-use Rattle.fx_css_parts.specs.Drafts.{NameLists, name_lists, no_names, with_one, with_names, names_of}
+use Rattle.fx_css_parts.specs.Drafts.{NameLists, no_names, with_one, with_names, names_of}
 use Rattle.fx_text.specs.Fronts.{front, behind, stops}
 
 -- fronts
@@ -108,20 +107,32 @@ compound_is combinator (c ∷ cs) rest kind n e r =
     ∙ sym (compound_names combinator kind (parts_at (c ∷ cs)))
     ∙ ap (λ y. option_and_then (with_parts combinator (parts_at (c ∷ cs))) y) e
 
-pub compound_unread : (combinator : Option Combinator) (text rest : List ℕ) (kind : Option (List ℕ)) (o : Option Names) → (length text == 0) ≡ false → Some kind ≡ kind_at (front not_sign text)
-    → rest ≡ behind not_sign text → option_map name_lists o ≡ names_of no_names (parts_at rest) → o ≡ None → None ≡ compound_at combinator text
-compound_unread combinator text rest kind o n e r h none =
-    ap (λ y. option_map (λ n. record { combinator = combinator; kind = kind; classes = n.classes; ids = n.ids; pseudos = n.pseudos }) y) (sym (ap (λ y. option_map name_lists y) none) ∙ h)
+pub compound_unread : (combinator : Option Combinator) (text rest : List ℕ) (kind : Option (List ℕ)) (start names : NameLists) (named : Bool) → (length text == 0) ≡ false
+    → Some kind ≡ kind_at (front not_sign text) → rest ≡ behind not_sign text → start ≡ no_names → with_one named names ≡ names_of start (parts_at rest) → named ≡ false → None ≡ compound_at combinator text
+compound_unread combinator text rest kind start names true n e r s h none = absurd (cc)
+compound_unread combinator text rest kind start names false n e r s h none =
+    ap (λ y. option_map (λ n. record { combinator = combinator; kind = kind; classes = n.classes; ids = n.ids; pseudos = n.pseudos }) y) (h ∙ ap (λ y. names_of y (parts_at rest)) s)
     ∙ compound_is combinator text rest kind n e r
 
-pub compound_read : (combinator : Option Combinator) (text rest : List ℕ) (kind : Option (List ℕ)) (o : Option Names) → (length text == 0) ≡ false → Some kind ≡ kind_at (front not_sign text)
-    → rest ≡ behind not_sign text → option_map name_lists o ≡ names_of no_names (parts_at rest) → (names : Names) (classes ids pseudos : List (List ℕ)) → o ≡ Some names
-    → classes ≡ names.classes.items → ids ≡ names.ids.items → pseudos ≡ names.pseudos.items
-    → Some (record { combinator = combinator; kind = kind; classes = classes; ids = ids; pseudos = pseudos }) ≡ compound_at combinator text
-compound_read combinator text rest kind o n e r h names classes ids pseudos some c i p =
-    rw (c, i, p)
-    (ap (λ y. option_map (λ n. record { combinator = combinator; kind = kind; classes = n.classes; ids = n.ids; pseudos = n.pseudos }) y) (sym (ap (λ y. option_map name_lists y) some) ∙ h)
-    ∙ compound_is combinator text rest kind n e r)
+pub compound_read : (combinator : Option Combinator) (text rest : List ℕ) (kind : Option (List ℕ)) (start names : NameLists) (named : Bool) → (length text == 0) ≡ false
+    → Some kind ≡ kind_at (front not_sign text) → rest ≡ behind not_sign text → start ≡ no_names → with_one named names ≡ names_of start (parts_at rest) → named ≡ true
+    → Some (record { combinator = combinator; kind = kind; classes = names.classes; ids = names.ids; pseudos = names.pseudos }) ≡ compound_at combinator text
+compound_read combinator text rest kind start names false n e r s h all = absurd (cc)
+compound_read combinator text rest kind start names true n e r s h all =
+    ap (λ y. option_map (λ n. record { combinator = combinator; kind = kind; classes = n.classes; ids = n.ids; pseudos = n.pseudos }) y) (h ∙ ap (λ y. names_of y (parts_at rest)) s)
+    ∙ compound_is combinator text rest kind n e r
+
+-- what is put behind other compounds
+
+pub compound_pushed : (done all : List Compound) (o : Option Compound) (read : Bool) → read ≡ true → with_one read all ≡ option_map (λ c. done ++ (c ∷ [])) o
+    → (c : Compound) × (o ≡ Some c) × (done ++ (c ∷ []) ≡ all)
+compound_pushed done all o false e w = absurd (cc)
+compound_pushed done all o true e w = map_gives (λ c. done ++ (c ∷ [])) o all (sym w)
+
+pub compound_missed : (done all : List Compound) (o : Option Compound) (read : Bool) → read ≡ false → with_one read all ≡ option_map (λ c. done ++ (c ∷ [])) o → None ≡ o
+compound_missed done all o true e w = absurd (cc)
+compound_missed done all None false e w = refl
+compound_missed done all (Some c) false e w = absurd (cc)
 
 -- the compounds of a selector
 

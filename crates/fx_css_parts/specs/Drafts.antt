@@ -20,7 +20,7 @@ pub record NameLists : Type 0 where
   pub pseudos : List (List ℕ)
 
 abbrev pub name_lists : Names → NameLists
-name_lists n = record { classes = n.classes.items; ids = n.ids.items; pseudos = n.pseudos.items }
+name_lists n = record { classes = n.classes; ids = n.ids; pseudos = n.pseudos }
 
 abbrev pub with_names : NameLists → List Part → NameLists
 with_names n ps = record {

@@ -4,7 +4,7 @@ ghost use Rattle.std.specs.Prelude.{◌≡◌, ◌≤◌, ◌++◌, IfOk, length
 ghost use Rattle.std.specs.List.{prefix_len};
 ghost use Rattle.std.specs.Option.{option_map};
 ghost use Rattle.fx_css_parts.specs.Selecting.{is_sign, not_sign, is_any, kind_at, parts_at, compound_at};
-ghost use Rattle.fx_css_parts.specs.Drafts.{name_lists, with_one, with_names, names_of, no_names};
+ghost use Rattle.fx_css_parts.specs.Drafts.{with_one, with_names, names_of};
 ghost use Rattle.fx_css_parts.specs.Texts.{ident_at};
 ghost use Rattle.fx_text.specs.Fronts.{front, behind, stops};
 
@@ -13,37 +13,21 @@ use fx_base::Text;
 use fx_css_types::{Combinator, Compound, NameList};
 use std::alloc::{AllocError, Global};
 
-/// The names in a compound, by the sign that stands before them.
-#[derive(Drop)]
-pub struct Names {
-    classes: NameList,
-    ids: NameList,
-    pseudos: NameList,
-}
-
-impl Names {
-    fn new() -> Names
-        ensures { name_lists result ≡ no_names }
-    {
-        Names {
-            classes: NameList::new(),
-            ids: NameList::new(),
-            pseudos: NameList::new(),
-        }
-    }
-
-    /// Puts the word behind the names of its sign. Is it a name?
-    fn push(&mut self, alloc: Global, sign: u8, word: &[u8]) -> Result<bool, AllocError>
-        ensures { IfOk result (λ named. with_one named (name_lists self.new) ≡ option_map
-            (λ name. with_names (name_lists self.old) ((record { sign = sign; name = name }) ∷ []))
-            (ident_at word.now)) }
-    {
-        match sign {
-            b'.' => push_word(alloc, &mut self.classes, word),
-            b'#' => push_word(alloc, &mut self.ids, word),
-            b':' => push_word(alloc, &mut self.pseudos, word),
-            _ => Ok(is_ident(word)),
-        }
+/// Puts the word behind the compound's names of its sign. Is it a name?
+fn push_part(
+    alloc: Global,
+    compound: &mut Compound,
+    sign: u8,
+    word: &[u8],
+) -> Result<bool, AllocError>
+    ensures { IfOk result (λ named. with_one named compound.new ≡ option_map
+        (λ name. with_names compound.old ((record { sign = sign; name = name }) ∷ [])) (ident_at word.now)) }
+{
+    match sign {
+        b'.' => push_word(alloc, &mut compound.classes, word),
+        b'#' => push_word(alloc, &mut compound.ids, word),
+        b':' => push_word(alloc, &mut compound.pseudos, word),
+        _ => Ok(is_ident(word)),
     }
 }
 
@@ -77,23 +61,18 @@ pub fn read_compound(
     let Some(kind) = read_kind(alloc, word)? else {
         return Ok(false);
     };
-    let mut names = Names::new();
-    let named = read_names(alloc, signs, &mut names)?;
+    let mut compound = Compound {
+        combinator,
+        kind,
+        classes: NameList::new(),
+        ids: NameList::new(),
+        pseudos: NameList::new(),
+    };
+    let named = read_names(alloc, signs, &mut compound)?;
     if !named {
         return Ok(false);
     }
-    let Names {
-        classes,
-        ids,
-        pseudos,
-    } = names;
-    compounds.push(Compound {
-        combinator,
-        kind,
-        classes,
-        ids,
-        pseudos,
-    })?;
+    compounds.push(compound)?;
     Ok(true)
 }
 
@@ -120,16 +99,15 @@ fn is_any(word: &[u8]) -> bool
     }
 }
 
-/// Puts the names that the text spells behind the others. Does it spell names, each behind its sign?
-fn read_names(alloc: Global, text: &[u8], names: &mut Names) -> Result<bool, AllocError>
+/// Puts the names that the text spells behind those of the compound. Does it spell names, each behind its sign?
+fn read_names(alloc: Global, text: &[u8], compound: &mut Compound) -> Result<bool, AllocError>
     requires { stops not_sign text.now ≡ true }
-    ensures { IfOk result (λ named. with_one named (name_lists names.new)
-        ≡ names_of (name_lists names.old) (parts_at text.now)) }
+    ensures { IfOk result (λ named. with_one named compound.new ≡ names_of compound.old (parts_at text.now)) }
 {
     let mut rest = text;
     while let Some((sign, behind)) = rest.split_first() {
         let (word, others) = split_word(behind);
-        let named = names.push(alloc, *sign, word)?;
+        let named = push_part(alloc, compound, *sign, word)?;
         if !named {
             return Ok(false);
         }

@@ -5,7 +5,7 @@ ghost use Rattle.fx_css_types.specs.Limits.{IsWithinLimits};
 ghost use Rattle.fx_css.specs.Agent as spec;
 
 use fx_base::{Color, Family, List, Sides, Text, Value};
-use fx_css_types::{Compound, Declaration, Declared, Paint, Rule, Selector, Sheet};
+use fx_css_types::{Compound, Declaration, Declared, NameList, Paint, Rule, Selector, Sheet};
 use fx_look::style_named;
 use std::alloc::{AllocError, Global};
 
@@ -62,13 +62,11 @@ fn name(alloc: Global, word: &str) -> Result<Text, AllocError>
     }
 }
 
-fn names(alloc: Global, word: &str) -> Result<List<Text>, AllocError>
+fn names(alloc: Global, word: &str) -> Result<NameList, AllocError>
     requires { length word.now ≤ 4096 }
     ensures { IfOk result (λ list. list ≡ word.now ∷ []) }
 {
-    let mut names = Vec::new(alloc);
-    names.push(name(alloc, word)?)?;
-    Ok(List::from_vec(names))
+    Ok(NameList::one(name(alloc, word)?))
 }
 
 fn declaration(alloc: Global, word: &str, value: Declared) -> Result<Declaration, AllocError>
@@ -84,7 +82,7 @@ fn declaration(alloc: Global, word: &str, value: Declared) -> Result<Declaration
 
 /// A selector of one compound.
 #[tactic(auto, unfolding(crate::specs::Agent::selector_of))]
-fn selector(alloc: Global, classes: List<Text>, pseudos: List<Text>) -> Result<Selector, AllocError>
+fn selector(alloc: Global, classes: NameList, pseudos: NameList) -> Result<Selector, AllocError>
     ensures { IfOk result (λ s. s ≡ spec.selector_of classes pseudos) }
 {
     let mut compounds = Vec::new(alloc);
@@ -92,7 +90,7 @@ fn selector(alloc: Global, classes: List<Text>, pseudos: List<Text>) -> Result<S
         combinator: None,
         kind: None,
         classes,
-        ids: List::new(alloc),
+        ids: NameList::new(),
         pseudos,
     })?;
     Ok(Selector {
@@ -102,8 +100,8 @@ fn selector(alloc: Global, classes: List<Text>, pseudos: List<Text>) -> Result<S
 
 fn rule(
     alloc: Global,
-    classes: List<Text>,
-    pseudos: List<Text>,
+    classes: NameList,
+    pseudos: NameList,
     declarations: Vec<Declaration>,
 ) -> Result<Rule, AllocError>
     ensures { IfOk result (λ r. r ≡ spec.rule_of classes pseudos declarations.items) }
@@ -191,7 +189,7 @@ fn root_rule(alloc: Global) -> Result<Rule, AllocError>
 {
     let mut declarations = Vec::new(alloc);
     declarations.push(declaration(alloc, "-fx-font-size", Declared::Plain(Value::Int(12)))?)?;
-    rule(alloc, names(alloc, "root")?, List::new(alloc), declarations)
+    rule(alloc, names(alloc, "root")?, NameList::new(), declarations)
 }
 
 #[tactic(auto, unfolding(crate::specs::Agent::label_rule))]
@@ -201,12 +199,7 @@ fn label_rule(alloc: Global) -> Result<Rule, AllocError>
     let mut declarations = Vec::new(alloc);
     declarations.push(text_fill(alloc, BLACK)?)?;
     declarations.push(alignment(alloc, 3)?)?;
-    rule(
-        alloc,
-        names(alloc, "label")?,
-        List::new(alloc),
-        declarations,
-    )
+    rule(alloc, names(alloc, "label")?, NameList::new(), declarations)
 }
 
 #[tactic(auto, unfolding(crate::specs::Agent::button_rule))]
@@ -222,7 +215,7 @@ fn button_rule(alloc: Global) -> Result<Rule, AllocError>
     rule(
         alloc,
         names(alloc, "button")?,
-        List::new(alloc),
+        NameList::new(),
         declarations,
     )
 }

@@ -8,9 +8,8 @@ use Rattle.fx_css_types.specs.declared.selectors.Combinator.{Combinator}
 use Rattle.fx_css_types.specs.declared.selectors.Compound.{Compound}
 use Rattle.fx_text.proofs.FrontLemmas.{behind_stops, map_gives, then_gives}
 use Rattle.fx_css_parts.specs.Texts.{is_ident, ident_at}
-use Rattle.fx_css_parts.specs.Selecting.{Part, is_sign, is_part, not_sign, parts_at, names_behind, compound, with_parts, kind_at, is_gap, not_gap, links_at, link_at, linked_at, combinator_at, compound_at, selector, selector_at}
-use Rattle.fx_css_parts.specs.declared.compounds.Names.{Names}
-use Rattle.fx_css_parts.specs.Drafts.{NameLists, name_lists, no_names, with_one, with_names, names_of}
+use Rattle.fx_css_parts.specs.Selecting.{Part, is_sign, is_part, not_sign, parts_at, names_behind, with_parts, kind_at, is_gap, not_gap, links_at, link_at, linked_at, combinator_at, compound_at, selector, selector_at}
+use Rattle.fx_css_parts.specs.Drafts.{nameless, with_one, with_names, names_of}
 use Rattle.fx_text.specs.Fronts.{front, behind, stops}
 
 -- fronts
@@ -61,16 +60,16 @@ names_append sign p ps = names_append_by (p.sign == sign)
 names_on : (xs : List (List ℕ)) (sign : ℕ) (p : Part) (ps : List Part) → xs ++ names_behind sign (p ∷ ps) ≡ (xs ++ names_behind sign (p ∷ [])) ++ names_behind sign ps
 names_on xs sign p ps = ap (λ y. xs ++ y) (names_append sign p ps) ∙ sym (append_assoc xs (names_behind sign (p ∷ [])) (names_behind sign ps))
 
-with_more : (n : NameLists) (p : Part) (ps : List Part) → with_names (with_names n (p ∷ [])) ps ≡ with_names n (p ∷ ps)
+with_more : (n : Compound) (p : Part) (ps : List Part) → with_names (with_names n (p ∷ [])) ps ≡ with_names n (p ∷ ps)
 with_more n p ps =
     rw (names_on n.classes 46 p ps, names_on n.ids 35 p ps, names_on n.pseudos 58 p ps) refl
 
-names_more : (n : NameLists) (p : Part) (ps : List Part) → is_part p ≡ true → names_of (with_names n (p ∷ [])) ps ≡ names_of n (p ∷ ps)
+names_more : (n : Compound) (p : Part) (ps : List Part) → is_part p ≡ true → names_of (with_names n (p ∷ [])) ps ≡ names_of n (p ∷ ps)
 names_more n p ps e =
     ap (λ y. cond (list_all is_part ps) (Some y) None) (with_more n p ps)
     ∙ ap (λ b. cond (b && list_all is_part ps) (Some (with_names n (p ∷ ps))) None) (sym e)
 
-pub names_turn : (n m : NameLists) (c : ℕ) (cs name rest : List ℕ) → stops not_sign (c ∷ cs) ≡ true → Some name ≡ ident_at (front not_sign cs)
+pub names_turn : (n m : Compound) (c : ℕ) (cs name rest : List ℕ) → stops not_sign (c ∷ cs) ≡ true → Some name ≡ ident_at (front not_sign cs)
     → m ≡ with_names n ((record { sign = c; name = name }) ∷ []) → rest ≡ behind not_sign cs → names_of m (parts_at rest) ≡ names_of n (parts_at (c ∷ cs))
 names_turn n m c cs name rest s i e r =
     let sign : is_sign c ≡ true = not_not (is_sign c) s in
@@ -83,7 +82,7 @@ names_turn n m c cs name rest s i e r =
     ∙ ap (λ y. names_of n ((record { sign = c; name = y }) ∷ parts_at (behind not_sign cs))) (sym same)
     ∙ ap (λ y. names_of n y) (sym (parts_first c cs sign))
 
-pub named_turn : (n m : NameLists) (c : ℕ) (cs word rest : List ℕ) (named : Bool) → named ≡ true → stops not_sign (c ∷ cs) ≡ true → word ≡ front not_sign cs
+pub named_turn : (n m : Compound) (c : ℕ) (cs word rest : List ℕ) (named : Bool) → named ≡ true → stops not_sign (c ∷ cs) ≡ true → word ≡ front not_sign cs
     → with_one named m ≡ option_map (λ name. with_names n ((record { sign = c; name = name }) ∷ [])) (ident_at word) → rest ≡ behind not_sign cs → names_of m (parts_at rest) ≡ names_of n (parts_at (c ∷ cs))
 named_turn n m c cs word rest false f s w e r = absurd (cc)
 named_turn n m c cs word rest true f s w e r =
@@ -92,36 +91,33 @@ named_turn n m c cs word rest true f s w e r =
 
 -- compounds
 
-compound_names : (combinator : Option Combinator) (kind : Option (List ℕ)) (ps : List Part) → with_parts combinator ps kind
-    ≡ option_map (λ n. record { combinator = combinator; kind = kind; classes = n.classes; ids = n.ids; pseudos = n.pseudos }) (names_of no_names ps)
-compound_names combinator kind ps = by_test (list_all is_part ps)
-  where
-    by_test : (b : Bool) → cond b (Some (compound combinator kind ps)) None ≡ option_map (λ n. record { combinator = combinator; kind = kind; classes = n.classes; ids = n.ids; pseudos = n.pseudos }) (cond b (Some (with_names no_names ps)) None)
-    by_test true = refl
-    by_test false = refl
+compound_names : (combinator : Option Combinator) (kind : Option (List ℕ)) (ps : List Part) → with_parts combinator ps kind ≡ names_of (nameless combinator kind) ps
+compound_names combinator kind ps = refl
 
 pub compound_is : (combinator : Option Combinator) (text rest : List ℕ) (kind : Option (List ℕ)) → (length text == 0) ≡ false → Some kind ≡ kind_at (front not_sign text) → rest ≡ behind not_sign text
-    → option_map (λ n. record { combinator = combinator; kind = kind; classes = n.classes; ids = n.ids; pseudos = n.pseudos }) (names_of no_names (parts_at rest)) ≡ compound_at combinator text
+    → names_of (nameless combinator kind) (parts_at rest) ≡ compound_at combinator text
 compound_is combinator [] rest kind n e r = absurd (cc)
 compound_is combinator (c ∷ cs) rest kind n e r =
-    ap (λ y. option_map (λ n. record { combinator = combinator; kind = kind; classes = n.classes; ids = n.ids; pseudos = n.pseudos }) (names_of no_names y)) (ap parts_at r ∙ sym (parts_skip (c ∷ cs)))
+    ap (λ y. names_of (nameless combinator kind) y) (ap parts_at r ∙ sym (parts_skip (c ∷ cs)))
     ∙ sym (compound_names combinator kind (parts_at (c ∷ cs)))
     ∙ ap (λ y. option_and_then (with_parts combinator (parts_at (c ∷ cs))) y) e
 
-pub compound_unread : (combinator : Option Combinator) (text rest : List ℕ) (kind : Option (List ℕ)) (o : Option Names) → (length text == 0) ≡ false → Some kind ≡ kind_at (front not_sign text)
-    → rest ≡ behind not_sign text → option_map name_lists o ≡ names_of no_names (parts_at rest) → o ≡ None → None ≡ compound_at combinator text
-compound_unread combinator text rest kind o n e r h none =
-    ap (λ y. option_map (λ n. record { combinator = combinator; kind = kind; classes = n.classes; ids = n.ids; pseudos = n.pseudos }) y) (sym (ap (λ y. option_map name_lists y) none) ∙ h)
-    ∙ compound_is combinator text rest kind n e r
+-- what was read behind the type
+pub compound_found : (combinator : Option Combinator) (text rest : List ℕ) (kind : Option (List ℕ)) (start : Compound) (o : Option Compound) → (length text == 0) ≡ false
+    → Some kind ≡ kind_at (front not_sign text) → rest ≡ behind not_sign text → start ≡ nameless combinator kind → o ≡ names_of start (parts_at rest) → o ≡ compound_at combinator text
+compound_found combinator text rest kind start o n e r s h = h ∙ ap (λ y. names_of y (parts_at rest)) s ∙ compound_is combinator text rest kind n e r
 
-pub compound_read : (combinator : Option Combinator) (text rest : List ℕ) (kind : Option (List ℕ)) (o : Option Names) → (length text == 0) ≡ false → Some kind ≡ kind_at (front not_sign text)
-    → rest ≡ behind not_sign text → option_map name_lists o ≡ names_of no_names (parts_at rest) → (names : Names) (classes ids pseudos : List (List ℕ)) → o ≡ Some names
-    → classes ≡ names.classes.items → ids ≡ names.ids.items → pseudos ≡ names.pseudos.items
-    → Some (record { combinator = combinator; kind = kind; classes = classes; ids = ids; pseudos = pseudos }) ≡ compound_at combinator text
-compound_read combinator text rest kind o n e r h names classes ids pseudos some c i p =
-    rw (c, i, p)
-    (ap (λ y. option_map (λ n. record { combinator = combinator; kind = kind; classes = n.classes; ids = n.ids; pseudos = n.pseudos }) y) (sym (ap (λ y. option_map name_lists y) some) ∙ h)
-    ∙ compound_is combinator text rest kind n e r)
+-- what is put behind other compounds
+
+pub compound_pushed : (done all : List Compound) (o : Option Compound) (read : Bool) → read ≡ true → with_one read all ≡ option_map (λ c. done ++ (c ∷ [])) o
+    → (c : Compound) × (o ≡ Some c) × (done ++ (c ∷ []) ≡ all)
+compound_pushed done all o false e w = absurd (cc)
+compound_pushed done all o true e w = map_gives (λ c. done ++ (c ∷ [])) o all (sym w)
+
+pub compound_missed : (done all : List Compound) (o : Option Compound) (read : Bool) → read ≡ false → with_one read all ≡ option_map (λ c. done ++ (c ∷ [])) o → None ≡ o
+compound_missed done all o true e w = absurd (cc)
+compound_missed done all None false e w = refl
+compound_missed done all (Some c) false e w = absurd (cc)
 
 -- the compounds of a selector
 

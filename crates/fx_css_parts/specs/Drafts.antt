@@ -4,8 +4,9 @@ use Rattle.std.specs.List.{list_all, find}
 use Rattle.std.specs.Option.{option_map, unwrap_or}
 use Rattle.fx_text.specs.Characters.{colon, comma, full_stop, left_parenthesis, number_sign}
 use Rattle.fx_look.specs.StyleRows.{style_at, style_row}
+use Rattle.fx_css_types.specs.declared.selectors.Combinator.{Combinator}
+use Rattle.fx_css_types.specs.declared.selectors.Compound.{Compound}
 use Rattle.fx_css_types.specs.declared.selectors.Selector.{Selector}
-use Rattle.fx_css_parts.specs.declared.compounds.Names.{Names}
 use Rattle.fx_css_parts.specs.declared.limits.Count.{Count}
 use Rattle.fx_css_parts.specs.declared.limits.LayerCount.{LayerCount}
 use Rattle.fx_css_parts.specs.declared.naming.Known.{Known}
@@ -14,31 +15,26 @@ use Rattle.fx_css_parts.specs.Selecting.{Part, is_part, names_behind, is_gap}
 use Rattle.fx_css_parts.specs.Limits.{starts, is_past, layer_starts}
 use Rattle.fx_text.specs.Classes.{is_white}
 
-pub record NameLists : Type 0 where
-  pub classes : List (List ℕ)
-  pub ids : List (List ℕ)
-  pub pseudos : List (List ℕ)
-
-abbrev pub name_lists : Names → NameLists
-name_lists n = record { classes = n.classes.items; ids = n.ids.items; pseudos = n.pseudos.items }
-
-abbrev pub with_names : NameLists → List Part → NameLists
+abbrev pub with_names : Compound → List Part → Compound
 with_names n ps = record {
+  combinator = n.combinator;
+  kind = n.kind;
   classes = n.classes ++ names_behind full_stop ps;
   ids = n.ids ++ names_behind number_sign ps;
   pseudos = n.pseudos ++ names_behind colon ps;
 }
 
 -- the names of parts behind those that are read
-abbrev pub names_of : NameLists → List Part → Option NameLists
+abbrev pub names_of : Compound → List Part → Option Compound
 names_of n ps = if list_all is_part ps then Some (with_names n ps) else None
 
 -- what it became, if there was one more
 abbrev pub with_one : {A : Type 0} → Bool → A → Option A
 with_one more x = if more then Some x else None
 
-abbrev pub no_names : NameLists
-no_names = record { classes = []; ids = []; pseudos = [] }
+-- a compound without names
+abbrev pub nameless : Option Combinator → Option (List ℕ) → Compound
+nameless combinator kind = record { combinator = combinator; kind = kind; classes = []; ids = []; pseudos = [] }
 
 -- behind a byte, or none at the first byte of a part past its limit
 abbrev pub count_behind : Count → ℕ → Option Count

@@ -1,105 +1,79 @@
 //! Compounds: a type, classes, ids and pseudo-classes with no white between them (Selectors Level 3).
 //! Selectors are made of them.
-ghost use Rattle.std.specs.Prelude.{◌≡◌, ◌≤◌, ◌++◌, IfOk, OnOk, length, true, [], ◌∷◌};
+ghost use Rattle.std.specs.Prelude.{◌≡◌, ◌≤◌, ◌++◌, IfOk, length, true, [], ◌∷◌};
 ghost use Rattle.std.specs.List.{prefix_len};
 ghost use Rattle.std.specs.Option.{option_map};
 ghost use Rattle.fx_css_parts.specs.Selecting.{is_sign, not_sign, is_any, kind_at, parts_at, compound_at};
-ghost use Rattle.fx_css_parts.specs.Drafts.{name_lists, with_one, with_names, names_of, no_names};
+ghost use Rattle.fx_css_parts.specs.Drafts.{with_one, with_names, names_of};
 ghost use Rattle.fx_css_parts.specs.Texts.{ident_at};
 ghost use Rattle.fx_text.specs.Fronts.{front, behind, stops};
 
 use crate::texts::{is_ident, read_ident};
-use fx_base::{List, Text};
-use fx_css_types::{Combinator, Compound};
+use fx_base::Text;
+use fx_css_types::{Combinator, Compound, NameList};
 use std::alloc::{AllocError, Global};
 
-/// The names in a compound, by the sign that stands before them.
-#[derive(Drop)]
-pub struct Names {
-    classes: Vec<Text>,
-    ids: Vec<Text>,
-    pseudos: Vec<Text>,
-}
-
-impl Names {
-    fn new(alloc: Global) -> Names
-        ensures { name_lists result ≡ no_names }
-    {
-        Names {
-            classes: Vec::new(alloc),
-            ids: Vec::new(alloc),
-            pseudos: Vec::new(alloc),
-        }
-    }
-
-    /// Puts the word behind the names of its sign. Is it a name?
-    fn push(&mut self, alloc: Global, sign: u8, word: &[u8]) -> Result<bool, AllocError>
-        ensures { IfOk result (λ named. with_one named (name_lists self.new) ≡ option_map
-            (λ name. with_names (name_lists self.old) ((record { sign = sign; name = name }) ∷ []))
-            (ident_at word.now)) }
-    {
-        match sign {
-            b'.' => push_word(alloc, &mut self.classes, word),
-            b'#' => push_word(alloc, &mut self.ids, word),
-            b':' => push_word(alloc, &mut self.pseudos, word),
-            _ => Ok(is_ident(word)),
-        }
+/// Puts the word behind the compound's names of its sign. Is it a name?
+fn push_part(
+    alloc: Global,
+    compound: &mut Compound,
+    sign: u8,
+    word: &[u8],
+) -> Result<bool, AllocError>
+    ensures { IfOk result (λ named. with_one named compound.new ≡ option_map
+        (λ name. with_names compound.old ((record { sign = sign; name = name }) ∷ [])) (ident_at word.now)) }
+{
+    match sign {
+        b'.' => push_word(alloc, &mut compound.classes, word),
+        b'#' => push_word(alloc, &mut compound.ids, word),
+        b':' => push_word(alloc, &mut compound.pseudos, word),
+        _ => Ok(is_ident(word)),
     }
 }
 
 /// Puts the word behind the names. Is it a name?
-fn push_word(alloc: Global, names: &mut Vec<Text>, word: &[u8]) -> Result<bool, AllocError>
-    ensures { IfOk result (λ named. with_one named names.new.items
-        ≡ option_map (λ name. names.old.items ++ (name ∷ [])) (ident_at word.now)) }
+fn push_word(alloc: Global, names: &mut NameList, word: &[u8]) -> Result<bool, AllocError>
+    ensures { IfOk result (λ named. with_one named names.new
+        ≡ option_map (λ name. names.old ++ (name ∷ [])) (ident_at word.now)) }
 {
     let Some(name) = read_ident(alloc, word)? else {
         return Ok(false);
     };
-    push_name(names, name)?;
+    names.push(alloc, name)?;
     Ok(true)
 }
 
-/// Puts a name behind the others. The first is given room for itself alone, since few compounds have more.
-fn push_name(names: &mut Vec<Text>, name: Text) -> Result<(), AllocError>
-    ensures { OnOk result (names.new.items ≡ names.old.items ++ name ∷ []) }
-{
-    if names.is_empty() {
-        names.reserve_exact(1)?;
-    }
-    names.push(name)?;
-    Ok(())
-}
-
-/// The compound that the text spells, behind a combinator or none.
+/// Puts the compound that the text spells, behind a combinator or none, behind the others: it is too large to be handed
+/// up. Does the text spell one?
 pub fn read_compound(
     alloc: Global,
     combinator: Option<Combinator>,
     text: &[u8],
-) -> Result<Option<Compound>, AllocError>
-    ensures { IfOk result (λ o. o ≡ compound_at combinator text.now) }
+    compounds: &mut Vec<Compound>,
+) -> Result<bool, AllocError>
+    ensures { IfOk result (λ read. with_one read compounds.new.items
+        ≡ option_map (λ c. compounds.old.items ++ (c ∷ [])) (compound_at combinator text.now)) }
 {
     if text.is_empty() {
-        return Ok(None);
+        return Ok(false);
     }
     let (word, signs) = split_word(text);
     let Some(kind) = read_kind(alloc, word)? else {
-        return Ok(None);
+        return Ok(false);
     };
-    let Some(names) = read_names(alloc, signs)? else {
-        return Ok(None);
-    };
-    let Names {
-        classes,
-        ids,
-        pseudos,
-    } = names;
-    Ok(Some(Compound {
+    let mut compound = Compound {
         combinator,
         kind,
-        classes: List::from_vec(classes),
-        ids: List::from_vec(ids),
-        pseudos: List::from_vec(pseudos),
-    }))
+        classes: NameList::new(),
+        ids: NameList::new(),
+        pseudos: NameList::new(),
+    };
+    let named = read_names(alloc, signs, &mut compound)?;
+    if !named {
+        return Ok(false);
+    }
+    compounds.push(compound)?;
+    Ok(true)
 }
 
 /// The type that the word names, if it is one, or none for any type.
@@ -125,21 +99,21 @@ fn is_any(word: &[u8]) -> bool
     }
 }
 
-fn read_names(alloc: Global, text: &[u8]) -> Result<Option<Names>, AllocError>
+/// Puts the names that the text spells behind those of the compound. Does it spell names, each behind its sign?
+fn read_names(alloc: Global, text: &[u8], compound: &mut Compound) -> Result<bool, AllocError>
     requires { stops not_sign text.now ≡ true }
-    ensures { IfOk result (λ o. option_map name_lists o ≡ names_of no_names (parts_at text.now)) }
+    ensures { IfOk result (λ named. with_one named compound.new ≡ names_of compound.old (parts_at text.now)) }
 {
-    let mut names = Names::new(alloc);
     let mut rest = text;
     while let Some((sign, behind)) = rest.split_first() {
         let (word, others) = split_word(behind);
-        let named = names.push(alloc, *sign, word)?;
+        let named = push_part(alloc, compound, *sign, word)?;
         if !named {
-            return Ok(None);
+            return Ok(false);
         }
         rest = others;
     }
-    Ok(Some(names))
+    Ok(true)
 }
 
 /// The text up to the first sign, and from there on.

@@ -12,9 +12,8 @@ ghost use Rattle.fx_css_types.specs.Limits.{form_at};
 use crate::ReadDeclaration;
 use crate::limits::past_in_value;
 use crate::naming::{Known, known_front, row_named};
-use crate::texts::read_ident;
+use crate::texts::{read_ident, text_of};
 use crate::values::read_declared;
-use fx_base::{Text, TextError};
 use fx_css_types::Declaration;
 use fx_look::{StyleForm, StyleName};
 use fx_text::{trim_front, trimmed};
@@ -47,24 +46,12 @@ fn read_known(
     let past = past_in_value(&declared, form, text.len() - value.len(), value);
     Ok(Some(ReadDeclaration {
         declaration: Declaration {
-            name: style_text(alloc, style.name)?,
+            name: text_of(alloc, style.name)?,
             row: Some(row),
             value: declared,
         },
         past,
     }))
-}
-
-/// The text of a style declaration's name.
-fn style_text(alloc: Global, name: &str) -> Result<Text, AllocError>
-    requires { length name.now ≤ 4096 }
-    ensures { IfOk result (λ text. text ≡ name.now) }
-{
-    match Text::from_str(alloc, name) {
-        Ok(text) => Ok(text),
-        Err(TextError::Memory) => Err(AllocError),
-        Err(TextError::TooLong) => unreachable!(),
-    }
 }
 
 /// The declaration that the text spells, of any name.

@@ -50,11 +50,11 @@ fn read_selector(alloc: Global, text: &[u8]) -> Result<Option<Selector>, AllocEr
     ensures { IfOk result (λ o. o ≡ selector_at text.now) }
 {
     let (word, rest) = split_word(text);
-    let Some(first) = read_compound(alloc, None, word)? else {
-        return Ok(None);
-    };
     let mut compounds = Vec::with_capacity(alloc, room(rest))?;
-    compounds.push(first)?;
+    let read = read_compound(alloc, None, word, &mut compounds)?;
+    if !read {
+        return Ok(None);
+    }
     let Some(compounds) = read_links(alloc, compounds, rest)? else {
         return Ok(None);
     };
@@ -86,10 +86,10 @@ fn read_links(
             return Ok(None);
         };
         let (word, behind) = split_word(after);
-        let Some(compound) = read_compound(alloc, Some(combinator), word)? else {
+        let read = read_compound(alloc, Some(combinator), word, &mut compounds)?;
+        if !read {
             return Ok(None);
-        };
-        compounds.push(compound)?;
+        }
         rest = behind;
     }
     Ok(Some(compounds))

@@ -1,11 +1,12 @@
 //! The identifiers of style sheets.
 //! Selectors and declarations are made of them.
-ghost use Rattle.std.specs.Prelude.{◌≡◌, IfOk, true};
+ghost use Rattle.std.specs.Prelude.{◌≡◌, ◌≤◌, IfOk, length, true};
 ghost use Rattle.fx_css_parts.specs.Texts.{is_ident, ident_at};
 
-use fx_base::Text;
+use fx_base::{Text, TextError};
 use fx_text::is_style_identifier;
 use std::alloc::{AllocError, Global};
+use std::str;
 
 /// The greatest number of bytes of an identifier.
 const IDENT_LIMIT: usize = 4096;
@@ -33,8 +34,17 @@ fn named(alloc: Global, text: &[u8]) -> Result<Text, AllocError>
     requires ident { is_ident text.now ≡ true }
     ensures { IfOk result (λ name. name ≡ text.now) }
 {
-    match Text::from_ascii(alloc, text)? {
-        Some(name) => Ok(name),
-        None => unreachable!(),
+    text_of(alloc, unsafe { str::from_utf8_unchecked(text) })
+}
+
+/// The text of a short name.
+pub fn text_of(alloc: Global, name: &str) -> Result<Text, AllocError>
+    requires { length name.now ≤ 4096 }
+    ensures { IfOk result (λ text. text ≡ name.now) }
+{
+    match Text::from_str(alloc, name) {
+        Ok(text) => Ok(text),
+        Err(TextError::Memory) => Err(AllocError),
+        Err(TextError::TooLong) => unreachable!(),
     }
 }

@@ -4,11 +4,13 @@
 
 mod declarations;
 mod laws;
+mod names;
 mod same;
 mod selectors;
 mod sheets;
 
 pub use declarations::{Declaration, Declared, Found, FoundValue, Paint};
 pub use laws::sheets_within_limits_are_short;
+pub use names::NameList;
 pub use selectors::{Combinator, Compound, Selector};
 pub use sheets::{Candidate, Rule, Sheet, SheetAt, SheetOrigin};

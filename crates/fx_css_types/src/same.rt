@@ -2,9 +2,10 @@
 ghost use Rattle.std.specs.Prelude.{◌≡◌, ◌↔◌, IsTrue, length};
 
 use crate::declarations::{Declaration, Declared, Found, FoundValue, Paint};
+use crate::names::NameList;
 use crate::selectors::{Compound, Selector};
 use crate::sheets::{Rule, Sheet, SheetAt};
-use fx_base::{Place, Same};
+use fx_base::{Place, Same, Text};
 use fx_look::StyleName;
 
 impl Same for Paint {
@@ -64,6 +65,12 @@ impl Same for Found {
     }
 }
 
+impl Same for NameList {
+    fn is_same(&self, other: &Self) -> bool {
+        are_same_names(self.as_slice(), other.as_slice())
+    }
+}
+
 impl Same for Compound {
     fn is_same(&self, other: &Self) -> bool {
         self.combinator == other.combinator
@@ -112,6 +119,25 @@ fn pairs_are_same(places: &[Place], others: &[Place]) -> bool
 {
     for at in 0..places.len() {
         if places[at] != others[at] {
+            return false;
+        }
+    }
+    true
+}
+
+/// Are the names the same, one by one, and as many?
+fn are_same_names(names: &[Text], others: &[Text]) -> bool
+    ensures { IsTrue result ↔ (names.now ≡ others.now) }
+{
+    names.len() == others.len() && named_pairs_are_same(names, others)
+}
+
+fn named_pairs_are_same(names: &[Text], others: &[Text]) -> bool
+    requires { length names.now ≡ length others.now }
+    ensures { IsTrue result ↔ (names.now ≡ others.now) }
+{
+    for at in 0..names.len() {
+        if !names[at].is_same(&others[at]) {
             return false;
         }
     }

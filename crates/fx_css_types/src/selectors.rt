@@ -2,6 +2,7 @@
 //! Readers make them, matching reads them.
 ghost use Rattle.std.specs.Prelude.{◌≡◌, IfOk};
 
+use crate::names::NameList;
 use fx_base::{Duplicate, List, Text};
 use std::alloc::{AllocError, Global};
 
@@ -20,9 +21,9 @@ pub enum Combinator {
 pub struct Compound {
     pub combinator: Option<Combinator>,
     pub kind: Option<Text>,
-    pub classes: List<Text>,
-    pub ids: List<Text>,
-    pub pseudos: List<Text>,
+    pub classes: NameList,
+    pub ids: NameList,
+    pub pseudos: NameList,
 }
 
 /// Compounds from the outermost ancestor to the node itself.

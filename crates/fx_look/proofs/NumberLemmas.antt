@@ -1,16 +1,20 @@
 -- The reading of numbers and sizes meets their grammar: it finds one exactly where a text spells it.
-use Rattle.std.proofs.Common.{◌≡◌, ℕ, ◌≤◌, ◌⊎◌, inl, inr, Bool, true, false, ◌||◌, ◌==◌, List, [], ◌∷◌, ◌++◌, length, codes, Option, Some, None, ℤ, refl, sym, ap, ◌∙◌, arith, append-nil}
+use Rattle.std.proofs.Common.{◌≡◌, ℕ, ◌^◌, ◌<◌, ◌≤◌, ◌⊎◌, inl, inr, Bool, true, false, not, ◌&&◌, ◌||◌, ◌==◌, nat_le, List, [], ◌∷◌, ◌++◌, length, codes, Option, Some, None, ℤ, pos, refl, sym, ap, ◌∙◌, arith, append-nil}
 use Rattle.std.specs.List.{list_all}
 use Rattle.std.specs.Prelude.{IfSome, IfNone}
 use Rattle.std.specs.Char.{is_ascii_digit}
 use Rattle.std.specs.Str.{bytes_eq}
 use Rattle.std.specs.Option.{option_map}
 use Rattle.std.proofs.lemmas.Bool.Decides.{nat_tests}
-use Rattle.fx_text.specs.Digits.{IsDigits, number_of_digits}
+use Rattle.std.proofs.lemmas.Bool.{and_parts}
+use Rattle.std.proofs.Math.Nat.{pow-le-pow_right}
+use Rattle.fx_text.specs.Digits.{IsDigits, number_of_digits, capped}
+use Rattle.fx_text.proofs.DigitLemmas.{number_small}
 use Rattle.fx_text.specs.Fronts.{stops}
 use Rattle.fx_text.proofs.FrontLemmas.{tells, bytes_tell, or_parts, then_gives, map_gives, bind_gives}
 use Rattle.fx_look.specs.Decimals.{Decimal, is_minus, behind_sign, decimal_at}
-use Rattle.fx_look.specs.Numbers.{Power, IsExponent, IsPower, IsUnbounded, IsNumber, IsPlain, IsSize, one, number_of, few_digits, exponent_at, power_of, power_at, with_power, number_at, with_unit, size_at}
+use Rattle.fx_look.specs.Numbers.{Power, IsExponent, IsPower, IsUnbounded, IsNumber, IsPlain, IsSize, one, number_of, few_digits, exponent_at, power_of, power_at, with_power, number_at, with_unit, size_at, is_short_whole}
+use Rattle.fx_look.proofs.RoundingLemmas.{whole_value}
 use Rattle.fx_look.proofs.DecimalLemmas.{goes_on, sign_sound, decimal_sound, decimal_complete, sign_complete, begins_digits}
 
 -- exponents
@@ -196,3 +200,35 @@ size_found text (Some n) e = size_sound text n (sym e)
 pub size_none : (text : List ℕ) (o : Option ℤ) → o ≡ size_at text → IfNone o ((n : ℤ) → IsSize text n → ⊥)
 size_none text None e = λ n i. let some : None ≡ Some n = e ∙ size_complete text n i in cc
 size_none text (Some n) e = tt
+
+-- one to nine digits are read as their number
+pub short_size : (text : List ℕ) (n : ℕ) → is_short_whole text ≡ true → n ≡ capped (number_of_digits text) → size_at text ≡ Some (pos n)
+short_size text n short e =
+    let some = and_parts (not (length text == 0)) (nat_le (length text) 9 && list_all is_ascii_digit text) short in
+    let few = and_parts (nat_le (length text) 9) (list_all is_ascii_digit text) some.1 in
+    let bound : length text ≤ 9 = grind (arith, nat_tests, few.0) in
+    let below : number_of_digits text < 10 ^ length text = number_small text few.1 in
+    let most : 10 ^ length text ≤ 10 ^ 9 = pow-le-pow_right (omega arith) bound in
+    let exact : n ≡ number_of_digits text = omega (arith, e, below, most) in
+    let d : Decimal = record { negative = false; whole = text; fraction = [] } in
+    size_complete text (pos n) (record {
+      number = text;
+      unit = [];
+      parts = sym (append-nil text);
+      is_number = inr (record {
+        decimal = d;
+        is_decimal = record {
+          sign = [];
+          fraction = [];
+          parts = sym (append-nil text);
+          is_sign = inl (refl, inl refl);
+          is_whole = record { digits = few.1; some = λ none. not_empty none some.0 };
+          is_fraction = inl (refl, refl);
+        };
+        value = whole_value text n exact (omega (arith, e));
+      });
+      is_unit = inl refl;
+    })
+  where
+    not_empty : text ≡ [] → not (length text == 0) ≡ true → ⊥
+    not_empty none more = let a = rw none at more in cc

@@ -220,6 +220,16 @@ unfolding number_of
 rounded_found d power size r digits e f =
     f ∙ ap (saturated d.negative) e ∙ cut_once d.negative (size_of d power) ∙ ap (saturated d.negative) (size_is d power digits)
 
+-- a whole number is that of its digits
+pub whole_value : (text : List ℕ) (n : ℕ) → n ≡ number_of_digits text → n < 2 ^ 63 → pos n ≡ number_of (record { negative = false; whole = text; fraction = [] }) (record { up = 0; down = 0 })
+unfolding number_of
+whole_value text n e small =
+    let whole : number_of_digits (text ++ []) ≡ n = rw (append-nil text) (sym e) in
+    let value : (2 * (number_of_digits (text ++ []) * 10 ^ 0) + 10 ^ 0 - 0) / (2 * 10 ^ 0) ≡ n =
+    quotient (2 * (number_of_digits (text ++ []) * 10 ^ 0) + 10 ^ 0 - 0) n (2 * 10 ^ 0) 1 (omega (arith, whole)) (omega arith) in
+    let cut : min n (2 ^ 63 - 1) ≡ n = omega arith in
+    ap pos (sym (ap (λ v. min v (2 ^ 63 - 1)) value ∙ cut))
+
 -- a test on the digits of both parts of a decimal from a place on
 drop_parts : (xs ys : List ℕ) (n : ℕ) → drop n (xs ++ ys) ≡ drop n xs ++ drop (n - length xs) ys
 drop_parts [] ys zero = refl

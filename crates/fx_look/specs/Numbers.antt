@@ -1,5 +1,5 @@
 -- Numbers and sizes as texts, and the whole number that each is rounded to.
-use Rattle.std.specs.Prelude.{◌≡◌, ℕ, ◌+◌, ◌-◌, ◌*◌, ◌/◌, ◌^◌, ◌≤◌, ◌⊎◌, Bool, ◌||◌, ◌==◌, if◌then◌else◌, List, [], ◌∷◌, ◌++◌, length, codes, Option, Some, None, min, ℤ, pos, neg_ℤ}
+use Rattle.std.specs.Prelude.{◌≡◌, ℕ, ◌+◌, ◌-◌, ◌*◌, ◌/◌, ◌^◌, ◌≤◌, ◌⊎◌, Bool, not, ◌&&◌, ◌||◌, ◌==◌, nat_le, if◌then◌else◌, List, [], ◌∷◌, ◌++◌, length, codes, Option, Some, None, min, ℤ, pos, neg_ℤ}
 use Rattle.std.specs.List.{list_all}
 use Rattle.std.specs.Char.{is_ascii_digit}
 use Rattle.std.specs.Option.{option_and_then, option_map}
@@ -123,3 +123,7 @@ size_at text =
     if bytes_eq text (codes "Infinity") || bytes_eq text (codes "Infinitypx") then Some greatest
     else (if bytes_eq text (codes "-Infinity") || bytes_eq text (codes "-Infinitypx") then Some least
     else option_and_then with_unit (decimal_at text))
+
+-- sizes that need no rounding: one to nine digits
+abbrev pub is_short_whole : List ℕ → Bool
+is_short_whole text = not (length text == 0) && (nat_le (length text) 9 && list_all is_ascii_digit text)

@@ -5,12 +5,12 @@ ghost use Rattle.std.specs.List.{list_all, list_any};
 ghost use Rattle.std.specs.Char.{is_ascii_digit};
 ghost use Rattle.std.specs.Option.{option_map};
 ghost use Rattle.fx_text.specs.Characters.{digit_zero};
-ghost use Rattle.fx_look.specs.Numbers.{IsNumber, IsSize, number_at, size_at, power_at, exponent_at, few_digits, number_of, saturated};
+ghost use Rattle.fx_look.specs.Numbers.{IsNumber, IsSize, number_at, size_at, is_short_whole, power_at, exponent_at, few_digits, number_of, saturated};
 ghost use Rattle.fx_look.specs.Rounding.{digits_of, leading, rounds_away, rounded_at, size_of};
 ghost use Rattle.fx_look.specs.Written.{written, power_of_ten};
 
 use crate::decimals::{Decimal, decimal_at, sign_at};
-use fx_text::all_digits;
+use fx_text::{all_digits, capped_number};
 
 /// The number that the text spells.
 ///
@@ -68,6 +68,22 @@ pub fn number_at(text: &[u8]) -> Option<i64>
 
 /// The size that the bytes spell, as `read_size` reads them.
 pub fn size_at(text: &[u8]) -> Option<i64>
+    ensures { result ≡ size_at text.now }
+{
+    if is_short_whole(text) {
+        return Some(i64::from(capped_number(text)));
+    }
+    any_size_at(text)
+}
+
+/// Is the text one to nine digits, as most sizes are?
+fn is_short_whole(text: &[u8]) -> bool
+    ensures { result ≡ is_short_whole text.now }
+{
+    !text.is_empty() && text.len() <= 9 && all_digits(text)
+}
+
+fn any_size_at(text: &[u8]) -> Option<i64>
     ensures { result ≡ size_at text.now }
 {
     if text == b"Infinity".as_slice() || text == b"Infinitypx".as_slice() {

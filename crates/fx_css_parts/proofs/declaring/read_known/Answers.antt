@@ -12,8 +12,8 @@ returns-in_default c =
 pub overflow_sub-text : goal.overflow_sub-text
 overflow_sub-text c = known_within c.args.text.now c.args.known c.requires
 
-pub style_text-requires : goal.style_text-requires
-style_text-requires c = known_short (trim_front c.args.text.now) c.args.known c.requires
+pub text_of-requires : goal.text_of-requires
+text_of-requires c = known_short (trim_front c.args.text.now) c.args.known c.requires
 
 pub returns : goal.returns
 returns c =
@@ -25,7 +25,7 @@ returns c =
             c.in-Some.declared;
       };
       past = c.past_in_value-past.result;
-    })) c.in_ok-style_text.ensures
+    })) c.in_ok-text_of.ensures
     ∙ known_reads c.args.text.now c.args.known c.requires c.in-Some.declared _
     (sym c.in-Some.is ∙ c.in_ok-declared.ensures ∙ ap (λ t. declared_at (Some c.args.known.style.now.form) t)
     c.trimmed.ensures)

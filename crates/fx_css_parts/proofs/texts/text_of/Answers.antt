@@ -2,7 +2,7 @@
 use Rattle.std.proofs.Common.{◌<◌, Err, length, ap, ◌∙◌, arith}
 use Rattle.std.specs.Str.{chars}
 use Rattle.fx_base.proofs.TextLemmas.{length-chars-le}
-use Rattle.fx_css_parts.proofs.declaring.style_text.Goals as goal
+use Rattle.fx_css_parts.proofs.texts.text_of.Goals as goal
 
 pub unreachable-requires : goal.unreachable-requires
 unreachable-requires c =

@@ -1,13 +1,24 @@
 -- How a group grows: what a member adds, that it ends, and that it is all joined names at the end.
-use Rattle.std.proofs.Common.{◌≡◌, ◌≢◌, ◌<◌, ◌≤◌, ◌+◌, ◌-◌, ◌↔◌, ℕ, Bool, true, false, cond, ◌==◌, ◌&&◌, ◌||◌, ◌⊎◌, List, [], ◌∷◌, ◌++◌, length, get_or, AllPairs, Contains, refl, sym, ap, subst, ◌∙◌, inl, inr, arith}
+use Rattle.std.proofs.Common.{◌≡◌, ◌≢◌, ◌<◌, ◌≤◌, ◌+◌, ◌-◌, ◌↔◌, ℕ, Bool, true, false, cond, ◌==◌, ◌&&◌, ◌||◌, ◌⊎◌, if◌then◌else◌, List, [], ◌∷◌, ◌++◌, length, get_or, AllPairs, Contains, refl, sym, ap, subst, ◌∙◌, inl, inr, arith}
 use Rattle.std.proofs.lemmas.Bool.{cases_Bool, both_ways, eqb-true, eq-eqb, or_cases, or_left, or_right, and_parts, and_from, and_left, and_right, cases_eq}
 use Rattle.std.proofs.lemmas.List.{length_push, get_or_append_left, get_or_default}
 use Rattle.std.proofs.lemmas.List.Folds.{Any-from_list_any, list_any-from_Any, list_any-append, list_any_at}
 use Rattle.std.proofs.lemmas.List.Quantifiers.{all_pairs_push}
 use Rattle.fx_store_pairs.specs.Laws.{IsEquivalence}
 use Rattle.fx_store_pairs.specs.Pairs.{is_among, is_end, joined}
-use Rattle.fx_store_pairs.specs.Gathering.{with_name, with_partner, with_partners}
+use Rattle.fx_store_pairs.specs.Gathering.{with_name}
 use Rattle.fx_store_pairs.proofs.Joining.{joined-refl, joined-sym, joined-trans, joined-pair, joined-least, contains_first, contains_later, contains_cases}
+
+-- the other end of the pair, where this name is one of its ends
+abbrev pub with_partner : ℕ → ℕ × ℕ → List ℕ → List ℕ
+with_partner name pair names =
+    if pair.0 == name
+    then with_name pair.1 names
+    else (if pair.1 == name then with_name pair.0 names else names)
+
+abbrev pub with_partners : ℕ → List (ℕ × ℕ) → List ℕ → List ℕ
+with_partners name [] names = names
+with_partners name (pair ∷ pairs) names = with_partners name pairs (with_partner name pair names)
 
 among_push : (names : List ℕ) (name other : ℕ) → is_among (names ++ name ∷ []) other ≡ (is_among names other || ((name == other) || false))
 among_push names name other = list_any-append (λ (n : ℕ). n == other) names (name ∷ [])

@@ -1,17 +1,20 @@
--- How a group is gathered: members that are found look at each pair for those that are still missing.
-use Rattle.std.specs.Prelude.{ℕ, ◌==◌, if◌then◌else◌, List, [], ◌∷◌, ◌++◌}
+-- How a group is gathered: each member that is found adds its partners that are still missing.
+use Rattle.std.specs.Prelude.{ℕ, ◌≡◌, nat_eq, IfSome, if◌then◌else◌, List, [], ◌∷◌, ◌++◌}
+use Rattle.std.specs.HashSet.{HashSet, contains}
+use Rattle.fx_base.specs.Names.{numbers}
 use Rattle.fx_store_pairs.specs.Pairs.{is_among}
+use Rattle.fx_store_pairs.specs.declared.grouping.Members.{Members}
 
 abbrev pub with_name : ℕ → List ℕ → List ℕ
 with_name name names = if is_among names name then names else names ++ name ∷ []
 
--- the other end of the pair, where this name is one of its ends
-abbrev pub with_partner : ℕ → ℕ × ℕ → List ℕ → List ℕ
-with_partner name pair names =
-    if pair.0 == name
-    then with_name pair.1 names
-    else (if pair.1 == name then with_name pair.0 names else names)
+abbrev pub with_names : List ℕ → List ℕ → List ℕ
+with_names [] names = names
+with_names (name ∷ more) names = with_names more (with_name name names)
 
-abbrev pub with_partners : ℕ → List (ℕ × ℕ) → List ℕ → List ℕ
-with_partners name [] names = names
-with_partners name (pair ∷ pairs) names = with_partners name pairs (with_partner name pair names)
+-- the set has just these names
+abbrev pub HasJust : {S : Type 0} → HashSet ℕ S → List ℕ → Type 0
+HasJust set names = (name : ℕ) → contains nat_eq set name ≡ is_among names name
+
+abbrev pub KnowsItsNames : Members → Type 0
+KnowsItsNames members = IfSome members.known (λ set. HasJust set (numbers members.names.items))

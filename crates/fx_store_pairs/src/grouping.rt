@@ -1,64 +1,95 @@
-//! Groups: from one name over the pairs to all that are joined with it.
-ghost use Rattle.std.specs.Prelude.{◌≡◌, ◌≢◌, ◌↔◌, ℕ, AllPairs, Contains, IfOk, OnOk, true};
-ghost use Rattle.fx_base.specs.declared.keys.Name.{Name as Named};
+//! The members of a group as they are found.
+ghost use Rattle.std.specs.Prelude.{◌≡◌, ◌++◌, ◌∷◌, [], ℕ, IfOk, OnOk};
 ghost use Rattle.fx_base.specs.Names.{numbers};
-ghost use Rattle.fx_store_pairs.specs.Pairs.{pairs_of, joined};
-ghost use Rattle.fx_store_pairs.specs.Gathering.{with_name, with_partner, with_partners};
+ghost use Rattle.fx_store_pairs.specs.Pairs.{is_among as stands_among};
+ghost use Rattle.fx_store_pairs.specs.Gathering.{HasJust, KnowsItsNames, with_name, with_names};
 
-use crate::walking::is_among;
+use crate::searching::is_among;
 use fx_base::Name;
 use std::alloc::{AllocError, Global};
+use std::collections::HashSet;
 
-fn add_missing(names: &mut Vec<Name>, name: Name) -> Result<(), AllocError>
-    ensures { OnOk result (numbers names.new.items ≡ with_name name.0 (numbers names.old.items)) }
-{
-    if is_among(names.as_slice(), name) {
-        return Ok(());
-    }
-    names.push(name)?;
-    Ok(())
+/// So many names are looked through faster than a set is made.
+const FEW: usize = 32;
+
+/// Names in the order in which they are found, each once. Where they are more than a few, a set knows them too.
+#[derive(Drop)]
+pub struct Members {
+    pub names: Vec<Name>,
+    known: Option<HashSet<u32>>,
 }
 
-fn add_partner(names: &mut Vec<Name>, name: Name, pair: (Name, Name)) -> Result<(), AllocError>
-    ensures { OnOk result (numbers names.new.items
-        ≡ with_partner name.0 (pair.0.0, pair.1.0) (numbers names.old.items)) }
-{
-    if pair.0.0 == name.0 {
-        return add_missing(names, pair.1);
+impl Members {
+    /// The one name alone.
+    pub fn new(alloc: Global, name: Name) -> Result<Members, AllocError>
+        ensures names { IfOk result (λ members. numbers members.names.items ≡ name.0 ∷ []) }
+        ensures known { IfOk result KnowsItsNames }
+    {
+        Ok(Members {
+            names: vec![in alloc; name]?,
+            known: None,
+        })
     }
-    if pair.1.0 == name.0 {
-        return add_missing(names, pair.0);
+
+    fn has(&self, name: Name) -> bool
+        requires { KnowsItsNames self.now }
+        ensures { result ≡ stands_among (numbers self.now.names.items) name.0 }
+    {
+        match &self.known {
+            Some(known) => known.contains(&name.0),
+            None => is_among(self.names.as_slice(), name),
+        }
     }
-    Ok(())
+
+    fn push(&mut self, alloc: Global, name: Name) -> Result<(), AllocError>
+        requires { KnowsItsNames self.old }
+        ensures names { OnOk result (numbers self.new.names.items ≡ numbers self.old.names.items ++ name.0 ∷ []) }
+        ensures known { OnOk result (KnowsItsNames self.new) }
+    {
+        self.names.push(name)?;
+        if let Some(known) = &mut self.known {
+            known.insert(name.0)?;
+            return Ok(());
+        }
+        if self.names.len() > FEW {
+            self.known = Some(set_of(alloc, self.names.as_slice())?);
+        }
+        Ok(())
+    }
+
+    /// Adds the name where it is missing.
+    fn add(&mut self, alloc: Global, name: Name) -> Result<(), AllocError>
+        requires { KnowsItsNames self.old }
+        ensures names { OnOk result (numbers self.new.names.items
+            ≡ with_name name.0 (numbers self.old.names.items)) }
+        ensures known { OnOk result (KnowsItsNames self.new) }
+    {
+        if self.has(name) {
+            return Ok(());
+        }
+        self.push(alloc, name)
+    }
+
+    /// Adds those of the names that are missing.
+    pub fn add_all(&mut self, alloc: Global, names: &[Name]) -> Result<(), AllocError>
+        requires { KnowsItsNames self.old }
+        ensures names { OnOk result (numbers self.new.names.items
+            ≡ with_names (numbers names.now) (numbers self.old.names.items)) }
+        ensures known { OnOk result (KnowsItsNames self.new) }
+    {
+        for name in names {
+            self.add(alloc, *name)?;
+        }
+        Ok(())
+    }
 }
 
-/// Adds the names that stand in a pair with this one, where they are missing.
-fn add_partners(names: &mut Vec<Name>, name: Name, pairs: &[(Name, Name)]) -> Result<(), AllocError>
-    ensures { OnOk result (numbers names.new.items
-        ≡ with_partners name.0 (pairs_of pairs.now) (numbers names.old.items)) }
+fn set_of(alloc: Global, names: &[Name]) -> Result<HashSet<u32>, AllocError>
+    ensures { IfOk result (λ set. HasJust set (numbers names.now)) }
 {
-    for pair in pairs {
-        add_partner(names, name, *pair)?;
+    let mut set = HashSet::new(alloc);
+    for name in names {
+        set.insert(name.0)?;
     }
-    Ok(())
-}
-
-/// The name and all that are joined with it, each once. Each of them looks once at each pair.
-pub fn joined_names(
-    alloc: Global,
-    pairs: &[(Name, Name)],
-    name: Name,
-) -> Result<Vec<Name>, AllocError>
-    ensures members { IfOk result (λ names. (other : ℕ) → Contains (numbers names.items) other
-        ↔ joined (pairs_of pairs.now) name.0 other ≡ true) }
-    ensures distinct { IfOk result (λ names. AllPairs (λ (one other : Named). one.0 ≢ other.0) names.items) }
-{
-    let mut names = vec![in alloc; name]?;
-    let mut done = 0;
-    while done < names.len() {
-        let next = names[done];
-        add_partners(&mut names, next, pairs)?;
-        done += 1;
-    }
-    Ok(names)
+    Ok(set)
 }

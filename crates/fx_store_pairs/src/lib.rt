@@ -4,6 +4,7 @@
 mod grouping;
 mod laws;
 mod pairs;
+mod rows;
 mod searching;
 mod walking;
 

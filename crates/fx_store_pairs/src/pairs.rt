@@ -5,8 +5,10 @@ ghost use Rattle.fx_base.specs.Names.{numbers};
 ghost use Rattle.fx_store_pairs.specs.Pairs.{pairs_of, is_touched, joined, without_pair};
 ghost use Rattle.fx_store_pairs.specs.Pairs.{is_paired as has_partner};
 
-use crate::grouping::joined_names;
-use crate::walking::{drop_touched, has_end, place_of};
+use crate::grouping::Members;
+use crate::rows::Rows;
+use crate::searching::Searched;
+use crate::walking::{drop_touched, remove_first};
 use fx_base::Name;
 use std::alloc::{AllocError, Global};
 use std::marker::Model;
@@ -16,15 +18,19 @@ use std::marker::Model;
 #[derive(Drop)]
 pub struct Pairs {
     pairs: Vec<(Name, Name)>,
+    rows: Rows,
 }
 
 impl Model for Pairs {
     ghost use Rattle.std.specs.Prelude.{ℕ, List};
     ghost use Rattle.fx_store_pairs.specs.Pairs.{pairs_of};
+    ghost use Rattle.fx_store_pairs.specs.Rows.{AreRows};
 
     ghost Value = { List (ℕ × ℕ) };
 
     ghost view = { λ pairs. pairs_of pairs.pairs.items };
+
+    ghost invariant = { λ pairs. AreRows pairs.rows (pairs_of pairs.pairs.items) };
 }
 
 impl Pairs {
@@ -33,6 +39,7 @@ impl Pairs {
     {
         Pairs {
             pairs: Vec::new(alloc),
+            rows: Rows::new(alloc),
         }
     }
 
@@ -53,7 +60,7 @@ impl Pairs {
     pub fn is_paired(&self, name: Name) -> bool
         ensures { result ≡ has_partner self.now name.0 }
     {
-        has_end(self.pairs.as_slice(), name)
+        !self.rows.row(name).is_empty()
     }
 
     /// A further pair, behind the others.
@@ -62,31 +69,45 @@ impl Pairs {
         ensures err { OnErr result (self.new ≡ self.old) }
     {
         self.pairs.push((one, other))?;
-        Ok(())
+        match self.rows.add_pair(one, other) {
+            Ok(()) => Ok(()),
+            Err(refused) => {
+                self.pairs.pop();
+                Err(refused)
+            }
+        }
     }
 
     /// Takes back the last pair.
     pub fn remove_last(&mut self)
         ensures { (pairs : List (ℕ × ℕ)) (pair : ℕ × ℕ) → self.old ≡ pairs ++ pair ∷ [] → self.new ≡ pairs }
     {
-        self.pairs.pop();
+        if let Some((one, other)) = self.pairs.pop() {
+            self.rows.remove_last_pair(one, other);
+        }
     }
 
     /// Ends the first pair of the two, in either order.
     pub fn remove_first(&mut self, one: Name, other: Name)
         ensures { self.new ≡ without_pair one.0 other.0 self.old }
     {
-        let place = place_of(self.pairs.as_slice(), one, other);
-        if place < self.pairs.len() {
-            self.pairs.remove(place);
+        if self.rows.has(one, other) {
+            remove_first(&mut self.pairs, one, other);
+            self.rows.remove_first_pair(one, other);
         }
     }
 
-    /// Ends all pairs of these names. Where the names rise, each pair looks for its two by halves.
+    /// Ends all pairs of these names. Where none of them was ever paired, no pair is looked at. Otherwise each looks for
+    /// its two, by halves where the names rise.
     pub fn forget(&mut self, names: &[Name])
         ensures { self.new ≡ filter (λ (pair : ℕ × ℕ). not (is_touched (numbers names.now) pair)) self.old }
     {
-        drop_touched(&mut self.pairs, names);
+        if !self.rows.has_one_of(names) {
+            return;
+        }
+        let names = Searched::new(names);
+        drop_touched(&mut self.pairs, &names);
+        self.rows.forget(&names);
     }
 
     /// The name and all that are joined with it, each once.
@@ -95,6 +116,13 @@ impl Pairs {
             ↔ joined self.now name.0 other ≡ true) }
         ensures distinct { IfOk result (λ names. AllPairs (λ (one other : Named). one.0 ≢ other.0) names.items) }
     {
-        joined_names(alloc, self.pairs.as_slice(), name)
+        let mut members = Members::new(alloc, name)?;
+        let mut done = 0;
+        while done < members.names.len() {
+            let next = members.names[done];
+            members.add_all(alloc, self.rows.row(next))?;
+            done += 1;
+        }
+        Ok(members.names)
     }
 }

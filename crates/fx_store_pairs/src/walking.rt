@@ -1,37 +1,10 @@
-//! Walks over the list of pairs: where names stand, and what goes with them.
+//! Walks over the list of pairs: where two names stand, and what goes with names.
 ghost use Rattle.std.specs.Prelude.{◌≡◌, ℕ, filter, not};
 ghost use Rattle.std.specs.List.{position_or_len};
-ghost use Rattle.fx_base.specs.Names.{numbers};
-ghost use Rattle.fx_store_pairs.specs.Pairs.{is_pair, pairs_of, is_touched};
-ghost use Rattle.fx_store_pairs.specs.Rising.{DoRise};
-ghost use Rattle.fx_store_pairs.specs.Pairs.{is_among as stands_among, is_end as is_end_of, is_paired as has_partner};
+ghost use Rattle.fx_store_pairs.specs.Pairs.{is_pair, pairs_of, is_touched, without_pair};
 
-use crate::searching::{do_rise, has_name};
+use crate::searching::Searched;
 use fx_base::Name;
-
-/// Whether the name is one of these.
-pub fn is_among(names: &[Name], name: Name) -> bool
-    ensures { result ≡ stands_among (numbers names.now) name.0 }
-{
-    for other in names {
-        if other.0 == name.0 {
-            return true;
-        }
-    }
-    false
-}
-
-/// Whether the name stands in one of the pairs.
-pub fn has_end(pairs: &[(Name, Name)], name: Name) -> bool
-    ensures { result ≡ has_partner (pairs_of pairs.now) name.0 }
-{
-    for pair in pairs {
-        if pair.0.0 == name.0 || pair.1.0 == name.0 {
-            return true;
-        }
-    }
-    false
-}
 
 fn is_of(pair: &(Name, Name), one: Name, other: Name) -> bool
     ensures { result ≡ is_pair one.0 other.0 (pair.now.0.0, pair.now.1.0) }
@@ -40,7 +13,7 @@ fn is_of(pair: &(Name, Name), one: Name, other: Name) -> bool
 }
 
 /// The place of the first pair of the two, in either order, or how many pairs there are.
-pub fn place_of(pairs: &[(Name, Name)], one: Name, other: Name) -> usize
+fn place_of(pairs: &[(Name, Name)], one: Name, other: Name) -> usize
     ensures { result ≡ position_or_len (is_pair one.0 other.0) (pairs_of pairs.now) }
 {
     let mut place = 0;
@@ -50,44 +23,26 @@ pub fn place_of(pairs: &[(Name, Name)], one: Name, other: Name) -> usize
     place
 }
 
-fn touches(names: &[Name], pair: &(Name, Name)) -> bool
-    ensures { result ≡ is_touched (numbers names.now) (pair.now.0.0, pair.now.1.0) }
+/// Ends the first pair of the two, in either order.
+pub fn remove_first(pairs: &mut Vec<(Name, Name)>, one: Name, other: Name)
+    ensures { pairs_of pairs.new.items ≡ without_pair one.0 other.0 (pairs_of pairs.old.items) }
 {
-    is_among(names, pair.0) || is_among(names, pair.1)
+    let place = place_of(pairs.as_slice(), one, other);
+    if place < pairs.len() {
+        pairs.remove(place);
+    }
 }
 
-/// Leaves the pairs of which neither name is one of these, each looked for among all.
-fn drop_any(pairs: &mut Vec<(Name, Name)>, names: &[Name])
-    ensures { pairs_of pairs.new.items ≡ filter (λ (pair : ℕ × ℕ). not (is_touched (numbers names.now) pair))
+fn touches(names: &Searched, pair: &(Name, Name)) -> bool
+    ensures { result ≡ is_touched names.now (pair.now.0.0, pair.now.1.0) }
+{
+    names.has(pair.0) || names.has(pair.1)
+}
+
+/// Leaves the pairs of which neither name is one of these.
+pub fn drop_touched(pairs: &mut Vec<(Name, Name)>, names: &Searched)
+    ensures { pairs_of pairs.new.items ≡ filter (λ (pair : ℕ × ℕ). not (is_touched names.now pair))
         (pairs_of pairs.old.items) }
 {
     pairs.retain(|pair| !touches(names, pair));
-}
-
-fn touches_rising(names: &[Name], pair: &(Name, Name)) -> bool
-    requires { DoRise names.now }
-    ensures { result ≡ is_touched (numbers names.now) (pair.now.0.0, pair.now.1.0) }
-{
-    has_name(names, pair.0) || has_name(names, pair.1)
-}
-
-/// Leaves the pairs of which neither name is one of these, each looked for by halves.
-fn drop_rising(pairs: &mut Vec<(Name, Name)>, names: &[Name])
-    requires { DoRise names.now }
-    ensures { pairs_of pairs.new.items ≡ filter (λ (pair : ℕ × ℕ). not (is_touched (numbers names.now) pair))
-        (pairs_of pairs.old.items) }
-{
-    pairs.retain(|pair| !touches_rising(names, pair));
-}
-
-/// Leaves the pairs of which neither name is one of these. Where the names rise, this costs little for each pair.
-pub fn drop_touched(pairs: &mut Vec<(Name, Name)>, names: &[Name])
-    ensures { pairs_of pairs.new.items ≡ filter (λ (pair : ℕ × ℕ). not (is_touched (numbers names.now) pair))
-        (pairs_of pairs.old.items) }
-{
-    if do_rise(names) {
-        drop_rising(pairs, names);
-    } else {
-        drop_any(pairs, names);
-    }
 }

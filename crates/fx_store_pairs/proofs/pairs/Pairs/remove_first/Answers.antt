@@ -1,26 +1,25 @@
--- the first pair of the two stands at the place, if there is one
-use Rattle.std.proofs.Common.{◌<◌, ◌≤◌, List, length, sym, ap, ◌∙◌, arith}
-use Rattle.std.specs.List.{position_or_len}
-use Rattle.fx_base.specs.declared.keys.Name.{Name}
-use Rattle.fx_store_pairs.specs.Pairs.{is_pair, pairs_of, without_pair}
-use Rattle.fx_store_pairs.proofs.Leaving.{first_gone, none_gone}
+-- the row of the one tells whether there is a pair of the two; the first one goes from the list and from both rows
+use Rattle.std.proofs.Common.{◌≡◌, ℕ, false, List, sym, ap, ◌∙◌}
+use Rattle.std.specs.List.{list_any}
+use Rattle.fx_store_pairs.specs.Pairs.{is_among, is_pair, pairs_of, without_pair}
+use Rattle.fx_store_pairs.specs.Rows.{partners, without_partner}
+use Rattle.fx_store_pairs.proofs.Partners.{no_pair, pair_among, partners_without}
 use Rattle.fx_store_pairs.proofs.pairs.Pairs.remove_first.Goals as goal
 
-pub returns-then-place-len : goal.returns-then-place-len
-returns-then-place-len c =
-    let found = c.place_of-place.ensures
-    ∙ ap (λ (pairs : List (Name × Name)). position_or_len (is_pair c.args.one.0 c.args.other.0) (pairs_of pairs)) c.as_slice.ensures.value in
-    let within : c.place_of-place.result < length c.self.inside.pairs.items = omega (arith, ap length c.as_slice.ensures.value) in
-    ap pairs_of c.remove.ensures.items
-    ∙ first_gone c.args.one.0 c.args.other.0 c.self.inside.pairs.items c.place_of-place.result found within
-    ∙ ap (without_pair c.args.one.0 c.args.other.0) c.self.view_is
+pub invariant_of-self : goal.invariant_of-self
+invariant_of-self c = λ name.
+    c.remove_first_pair.ensures name
+    ∙ ap (without_partner c.args.one.0 c.args.other.0 name) (c.self.invariant name)
+    ∙ sym (partners_without c.args.one.0 c.args.other.0 name (pairs_of c.self.inside.pairs.items))
+    ∙ ap (partners name) (sym c.remove_first.ensures)
 
-pub returns-else-place-len : goal.returns-else-place-len
-returns-else-place-len c =
-    let found = c.place_of-place.ensures
-    ∙ ap (λ (pairs : List (Name × Name)). position_or_len (is_pair c.args.one.0 c.args.other.0) (pairs_of pairs)) c.as_slice.ensures.value in
-    let past : length c.self.inside.pairs.items ≤ position_or_len (is_pair c.args.one.0 c.args.other.0) (pairs_of c.self.inside.pairs.items) =
-    omega (arith, ap length c.as_slice.ensures.value) in
-    sym c.self.view_is
-    ∙ none_gone c.args.one.0 c.args.other.0 c.self.inside.pairs.items past
+pub returns-else-has : goal.returns-else-has
+returns-else-has c =
+    let pairs : List (ℕ × ℕ) = pairs_of c.self.inside.pairs.items in
+    let none : list_any (is_pair c.args.one.0 c.args.other.0) pairs ≡ false =
+    sym (pair_among c.args.one.0 c.args.other.0 pairs)
+    ∙ ap (λ (row : List ℕ). is_among row c.args.other.0) (sym (c.self.invariant c.args.one.0))
+    ∙ sym c.has.ensures
+    ∙ c.if-has.false in
+    sym c.self.view_is ∙ sym (no_pair c.args.one.0 c.args.other.0 pairs none)
     ∙ ap (without_pair c.args.one.0 c.args.other.0) c.self.view_is

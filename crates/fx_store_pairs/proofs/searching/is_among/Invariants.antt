@@ -1,7 +1,7 @@
 use Rattle.std.proofs.Common.{◌≡◌, drop}
 use Rattle.fx_base.specs.Names.{numbers}
 use Rattle.fx_store_pairs.specs.Pairs.{is_among}
-use Rattle.fx_store_pairs.proofs.walking.is_among.Given as goal
+use Rattle.fx_store_pairs.proofs.searching.is_among.Given as goal
 
 abbrev pub invariant-loop-other : goal.invariant-loop-other
 invariant-loop-other l =

@@ -3,6 +3,7 @@
 
 mod asking;
 mod lines;
+mod notices;
 mod printing;
 mod traces;
 

@@ -11,10 +11,11 @@ ghost use Rattle.fx_stage_model.specs.World.{World};
 ghost use Rattle.fx_stage_text.specs.Printing.{notice_lines, outcome_lines};
 ghost use Rattle.fx_stage_types.specs.declared.refusals.Refusal.{Refusal as Word};
 
+use crate::notices::print_notices;
 use crate::traces::Trace;
 use fx_base::Text;
 use fx_stage::Stage;
-use fx_stage_text::{print_notices, print_outcome, print_refusal, print_saying};
+use fx_stage_text::{print_refusal, print_saying, print_value, print_warnings};
 use fx_stage_types::{Outcome, Refusal, StageError};
 use fx_store_model::Notices;
 use std::alloc::{AllocError, Global};
@@ -96,7 +97,9 @@ fn print_outcome_of(
         ≡ trace.old.text.items ++ outcome_lines stage.now.names.written number path.now outcome.now) }
     ensures heard { OnOk result (trace.new.heard.items ≡ trace.old.heard.items ++ heard_in outcome.now.notices) }
 {
-    print_outcome(alloc, &mut trace.text, stage, number, path, outcome)?;
+    print_value(alloc, &mut trace.text, path, outcome.value.as_ref())?;
+    print_warnings(alloc, &mut trace.text, number, outcome.warnings.as_slice())?;
+    print_notices(alloc, &mut trace.text, stage, &outcome.notices)?;
     trace.keep_heard(&outcome.notices)
 }
 

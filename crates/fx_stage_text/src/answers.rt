@@ -4,11 +4,8 @@ ghost use Rattle.std.specs.List.{flat_map};
 ghost use Rattle.std.specs.Option.{option_copied};
 ghost use Rattle.fx_stage_text.specs.Printing as spec;
 
-use crate::notices::print_notices;
 use crate::paths::{put, put_number, put_path};
 use fx_base::{Place, Text, Value};
-use fx_stage::Stage;
-use fx_stage_types::Outcome;
 use std::alloc::{AllocError, Global};
 
 /// Appends `refused LINE WORD`.
@@ -48,25 +45,8 @@ pub fn print_overrun(alloc: Global, out: &mut Vec<u8>, number: u32) -> Result<()
     put(out, b"\n")
 }
 
-/// Appends what is told of the line with this number: the value that it asked for by this path, what was dropped of an
-/// inline style, and whom the line told.
-pub fn print_outcome(
-    alloc: Global,
-    out: &mut Vec<u8>,
-    stage: &Stage,
-    number: u32,
-    path: &[Text],
-    outcome: &Outcome,
-) -> Result<(), AllocError>
-    ensures { OnOk result (out.new.items
-        ≡ out.old.items ++ spec.outcome_lines stage.now.names.written number path.now outcome.now) }
-{
-    print_value(alloc, out, path, outcome.value.as_ref())?;
-    print_warnings(alloc, out, number, outcome.warnings.as_slice())?;
-    print_notices(alloc, out, stage, &outcome.notices)
-}
-
-fn print_value(
+/// Appends `value NAME V`, if a value was asked for by this path.
+pub fn print_value(
     alloc: Global,
     out: &mut Vec<u8>,
     path: &[Text],
@@ -97,7 +77,8 @@ fn print_value_line(
     put(out, b"\n")
 }
 
-fn print_warnings(
+/// Appends `warn inline LINE COLUMN` for each part that was dropped of an inline style.
+pub fn print_warnings(
     alloc: Global,
     out: &mut Vec<u8>,
     number: u32,

@@ -2,8 +2,7 @@
 #![tactic(auto)]
 
 mod answers;
-mod notices;
 mod paths;
 
-pub use answers::{print_outcome, print_overrun, print_refusal, print_saying};
-pub use notices::print_notices;
+pub use answers::{print_overrun, print_refusal, print_saying, print_value, print_warnings};
+pub use paths::{put, put_path};

@@ -9,7 +9,7 @@ use fx_base::Text;
 use std::alloc::{AllocError, Global};
 
 /// Appends names, joined by full stops.
-pub(crate) fn put_path(out: &mut Vec<u8>, path: &[Text]) -> Result<(), AllocError>
+pub fn put_path(out: &mut Vec<u8>, path: &[Text]) -> Result<(), AllocError>
     ensures { OnOk result (out.new.items ≡ out.old.items ++ path_text path.now) }
 {
     let Some((first, others)) = path.split_first() else {
@@ -31,7 +31,7 @@ fn put_others(out: &mut Vec<u8>, names: &[Text]) -> Result<(), AllocError>
 }
 
 /// Appends bytes.
-pub(crate) fn put(out: &mut Vec<u8>, text: &[u8]) -> Result<(), AllocError>
+pub fn put(out: &mut Vec<u8>, text: &[u8]) -> Result<(), AllocError>
     ensures { OnOk result (out.new.items ≡ out.old.items ++ text.now) }
 {
     out.extend_from_slice(text)

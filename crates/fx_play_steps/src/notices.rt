@@ -4,15 +4,15 @@ ghost use Rattle.std.specs.List.{flat_map};
 ghost use Rattle.fx_stage_text.specs.Printing as spec;
 ghost use Rattle.fx_stage_text.specs.Printing.{path_text};
 
-use crate::paths::{put, put_path};
-use fx_base::{Name, Text, Value};
+use fx_base::{Name, Value};
 use fx_stage::Stage;
+use fx_stage_text::{put, put_path};
 use fx_store_model::Notices;
 use std::alloc::{AllocError, Global};
 
 /// Appends a line for each listener that was told: first who was told that a value is unread, then who was told of
 /// another value.
-pub fn print_notices(
+pub(crate) fn print_notices(
     alloc: Global,
     out: &mut Vec<u8>,
     stage: &Stage,
@@ -39,7 +39,7 @@ fn print_invalid(
     Ok(())
 }
 
-#[tactic(auto, unfolding(crate::specs::Printing::invalid_line))]
+#[tactic(auto, unfolding(fx_stage_text::specs::Printing::invalid_line))]
 fn print_unread(out: &mut Vec<u8>, stage: &Stage, notice: &(Name, u32)) -> Result<(), AllocError>
     ensures { OnOk result (out.new.items
         ≡ out.old.items ++ spec.invalid_line stage.now.names.written notice.now) }
@@ -64,7 +64,7 @@ fn print_changed(
     Ok(())
 }
 
-#[tactic(auto, unfolding(crate::specs::Printing::changed_line))]
+#[tactic(auto, unfolding(fx_stage_text::specs::Printing::changed_line))]
 fn print_change(
     alloc: Global,
     out: &mut Vec<u8>,

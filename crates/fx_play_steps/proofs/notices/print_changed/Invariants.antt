@@ -2,7 +2,7 @@
 use Rattle.std.proofs.Common.{◌≡◌, ◌++◌, take}
 use Rattle.std.specs.List.{flat_map}
 use Rattle.fx_stage_text.specs.Printing.{changed_line}
-use Rattle.fx_stage_text.proofs.notices.print_changed.Given as goal
+use Rattle.fx_play_steps.proofs.notices.print_changed.Given as goal
 
 abbrev pub invariant-loop-notice : goal.invariant-loop-notice
 invariant-loop-notice l =

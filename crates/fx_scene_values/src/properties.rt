@@ -44,10 +44,12 @@ fn listed(class: Class, name: &str) -> Option<&'static Property>
     first_named(properties(class), name)
 }
 
+/// Lengths tell most names apart.
 fn first_named<'a>(list: &'a [Property], name: &str) -> Option<&'a Property>
     ensures { option_map (λ p. p.now) result ≡ find (λ p. bytes_eq p.name.now name.now) list.now }
 {
-    list.iter().find(|p| p.name == name)
+    list.iter()
+        .find(|p| p.name.len() == name.len() && p.name == name)
 }
 
 /// What the attribute of this name and text asks for, where these names are known.

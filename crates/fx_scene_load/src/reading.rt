@@ -38,6 +38,9 @@ use fx_scene_read::{Stand, add_piece, add_root_attributes, no_counts, rank_of, s
 use fx_scene_things::{Named, Names, Settled};
 use std::alloc::{AllocError, Global};
 
+/// Room for what most pieces ask for.
+const ROOM: usize = 8;
+
 /// The most levels of nodes that are defined within the values of each other: documents aren't deeper.
 const MOST_LEVELS: usize = 128;
 
@@ -377,7 +380,7 @@ fn tell_piece(
     ensures nodes { desk.new.nodes ≡ desk.old.nodes }
 {
     let scope = scope_in(here, settled);
-    let mut acts = Vec::new(alloc);
+    let mut acts = Vec::with_capacity(alloc, ROOM)?;
     add_piece(
         alloc,
         &scope,

@@ -4,9 +4,12 @@ use Rattle.std.specs.List.{flat_map}
 use Rattle.std.specs.Result.{OnOk}
 use Rattle.std.proofs.lemmas.Grind.{flat_map-append}
 use Rattle.std.proofs.lemmas.List.{map-append, take_more}
+use Rattle.fx_base.specs.declared.positions.Position.{Position}
 use Rattle.fx_doc_grammar.specs.Grammar.{Attr}
 use Rattle.fx_kinds.specs.declared.classes.Class.{Class}
+use Rattle.fx_scene_acts.specs.declared.acts.Act.{Act}
 use Rattle.fx_scene_acts.specs.declared.acts.Deed.{Deed}
+use Rattle.fx_scene_elements.specs.Added.{acts_at, deed_at}
 use Rattle.fx_scene_read.specs.Acting.{attribute_deeds, deeds_by}
 use Rattle.fx_scene_things.specs.Names.{Names}
 use Rattle.fx_scene_values.specs.Roles.{role_of}
@@ -30,11 +33,12 @@ walked {A} {B} {C} view f xs i x before now next h is so_far more =
 
 -- an attribute of a role that asks for one thing
 pub one_deed : {T E : Type 0} (scope : Scope) (names : Names) (class : Class) (node : ℕ) (given : Bool) (a : Attr) (role : Role)
-    (name : List ℕ) (found : Role) (deed : Deed) (old new : List Deed) (result : Result T E) → name ≡ a.name
+    (name : List ℕ) (found : Role) (deed : Deed) (place : Position) (old new : List Act) (result : Result T E) → name ≡ a.name
     → found ≡ role_of name → found ≡ role → deed ∷ [] ≡ deeds_by scope names class node given a role
-    → OnOk result (new ≡ old ++ (deed ∷ [])) → OnOk result (new ≡ old ++ attribute_deeds scope names class node given a)
+    → OnOk result (new ≡ old ++ deed_at place deed)
+    → OnOk result (new ≡ old ++ acts_at place (attribute_deeds scope names class node given a))
 unfolding attribute_deeds
-one_deed scope names class node given a role name found deed old new result named told is asked pushed =
+one_deed scope names class node given a role name found deed place old new result named told is asked pushed =
     let same : role_of a.name ≡ role = ap role_of (sym named) ∙ (sym told ∙ is) in
-    subst (λ (l : List Deed). OnOk result (new ≡ old ++ l))
+    subst (λ (l : List Deed). OnOk result (new ≡ old ++ acts_at place l))
     (asked ∙ sym (ap (deeds_by scope names class node given a) same)) pushed

@@ -1,15 +1,19 @@
 //! What the attributes of an instance ask for.
-ghost use Rattle.std.specs.Prelude.{◌≡◌, [], ◌∷◌, ◌++◌, IfOk, OnOk};
+ghost use Rattle.std.specs.Prelude.{◌≡◌, ◌++◌, IfOk, OnOk};
 ghost use Rattle.fx_doc.specs.Views.{attr_view};
-ghost use Rattle.fx_scene_things.specs.Known.{known};
+ghost use Rattle.fx_scene_elements.specs.Added.{acts_at};
 ghost use Rattle.fx_scene_read.specs.Acting as spec;
+ghost use Rattle.fx_scene_read.specs.Sheets.{sheet_deeds};
+ghost use Rattle.fx_scene_things.specs.Known.{known};
+ghost use Rattle.fx_scene_values.specs.Styles.{class_deeds};
 ghost use Rattle.fx_scene_values.specs.Views.{scope_view};
 
 use crate::sheets::add_sheets;
-use fx_base::{List, Text, Value};
+use fx_base::{List, Position, Text, Value};
 use fx_doc::Attribute;
 use fx_kinds::Class;
-use fx_scene_acts::Deed;
+use fx_scene_acts::{Act, Deed};
+use fx_scene_elements::{push, push_all, push_flaw};
 use fx_scene_flaws::Flaw;
 use fx_scene_plan::PlannedStep;
 use fx_scene_things::Names;
@@ -20,9 +24,9 @@ use fx_scene_values::{
 use fx_text::is_identifier;
 use std::alloc::{AllocError, Global};
 
-/// Adds what the attribute of an instance of the class asks for.
+/// Adds what the attribute of an instance of the class asks for, at its place.
 #[tactic(auto, unfolding(crate::specs::Acting::attribute_deeds))]
-pub(crate) fn add_deeds(
+pub(crate) fn add_attribute(
     alloc: Global,
     scope: &Scope<'_>,
     names: &Names,
@@ -30,38 +34,67 @@ pub(crate) fn add_deeds(
     node: usize,
     given: bool,
     a: &Attribute,
-    deeds: &mut Vec<Deed>,
+    acts: &mut Vec<Act>,
 ) -> Result<(), AllocError>
-    ensures ok { OnOk result (deeds.new.items ≡ deeds.old.items ++ spec.attribute_deeds (scope_view scope.now)
-        (known names.now) class node given (attr_view a.now)) }
+    ensures ok { OnOk result (acts.new.items ≡ acts.old.items ++ acts_at a.now.position (spec.attribute_deeds
+        (scope_view scope.now) (known names.now) class node given (attr_view a.now))) }
 {
-    let text = a.value.as_str();
+    let (place, text) = (a.position, a.value.as_str());
     match role_of(a.name.as_str()) {
-        Role::Name => add_name(alloc, names, node, given, &a.value, deeds),
+        Role::Name => add_name(alloc, names, node, given, place, &a.value, acts),
         Role::Ignored => Ok(()),
-        Role::Style => add(deeds, style_deed(alloc, scope, names, node, text)?),
-        Role::Classes => add_classes(alloc, scope, names, node, text, deeds),
-        Role::Sheets => add_sheets(alloc, scope, names, node, text, deeds),
-        Role::Handler(on) => add(deeds, handler_deed(alloc, node, on, text)?),
-        Role::Static => add(
-            deeds,
+        Role::Style => push(acts, place, style_deed(alloc, scope, names, node, text)?),
+        Role::Classes => push_classes(alloc, scope, names, node, place, text, acts),
+        Role::Sheets => push_sheets(alloc, scope, names, node, place, text, acts),
+        Role::Handler(on) => push(acts, place, handler_deed(alloc, node, on, text)?),
+        Role::Static => push(
+            acts,
+            place,
             static_deed(alloc, scope, names, node, &a.name, text)?,
         ),
         Role::Property => {
             let name = a.name.as_str();
-            add(
-                deeds,
+            push(
+                acts,
+                place,
                 property_deed(alloc, scope, names, class, node, name, text)?,
             )
         }
     }
 }
 
-fn add(deeds: &mut Vec<Deed>, deed: Deed) -> Result<(), AllocError>
-    ensures ok { OnOk result (deeds.new.items ≡ deeds.old.items ++ (deed ∷ [])) }
+fn push_classes(
+    alloc: Global,
+    scope: &Scope<'_>,
+    names: &Names,
+    node: usize,
+    place: Position,
+    text: &str,
+    acts: &mut Vec<Act>,
+) -> Result<(), AllocError>
+    ensures ok { OnOk result (acts.new.items ≡ acts.old.items
+        ++ acts_at place (class_deeds (scope_view scope.now) (known names.now) node text.now)) }
 {
-    deeds.push(deed)?;
-    Ok(())
+    let mut deeds = Vec::new(alloc);
+    add_classes(alloc, scope, names, node, text, &mut deeds)?;
+    push_all(acts, place, deeds)
+}
+
+fn push_sheets(
+    alloc: Global,
+    scope: &Scope<'_>,
+    names: &Names,
+    node: usize,
+    place: Position,
+    text: &str,
+    acts: &mut Vec<Act>,
+) -> Result<(), AllocError>
+    ensures ok { OnOk result (acts.new.items ≡ acts.old.items
+        ++ acts_at place (sheet_deeds (scope_view scope.now) (known names.now) node text.now)) }
+{
+    let mut deeds = Vec::new(alloc);
+    add_sheets(alloc, scope, names, node, text, &mut deeds)?;
+    push_all(acts, place, deeds)
 }
 
 /// A name is an identifier that nothing before has.
@@ -70,20 +103,21 @@ fn add_name(
     names: &Names,
     node: usize,
     given: bool,
+    place: Position,
     name: &Text,
-    deeds: &mut Vec<Deed>,
+    acts: &mut Vec<Act>,
 ) -> Result<(), AllocError>
-    ensures ok { OnOk result (deeds.new.items ≡ deeds.old.items
-        ++ spec.name_deeds (known names.now) node given name.now) }
+    ensures ok { OnOk result (acts.new.items ≡ acts.old.items
+        ++ acts_at place (spec.name_deeds (known names.now) node given name.now)) }
 {
     if !is_identifier(name.as_str()) {
-        return add(deeds, Deed::Flaw(Flaw::Value));
+        return push_flaw(acts, place, Flaw::Value);
     }
     if names.has(name.as_str()) {
-        return add(deeds, Deed::Flaw(Flaw::Duplicate));
+        return push_flaw(acts, place, Flaw::Duplicate);
     }
-    add(deeds, named_deed(alloc, node, name)?)?;
-    add_id(alloc, node, given, name, deeds)
+    push(acts, place, named_deed(alloc, node, name)?)?;
+    add_id(alloc, node, given, place, name, acts)
 }
 
 fn named_deed(alloc: Global, node: usize, name: &Text) -> Result<Deed, AllocError>
@@ -99,16 +133,17 @@ fn add_id(
     alloc: Global,
     node: usize,
     given: bool,
+    place: Position,
     name: &Text,
-    deeds: &mut Vec<Deed>,
+    acts: &mut Vec<Act>,
 ) -> Result<(), AllocError>
-    ensures ok { OnOk result (deeds.new.items ≡ deeds.old.items
-        ++ spec.id_deeds node given name.now) }
+    ensures ok { OnOk result (acts.new.items ≡ acts.old.items
+        ++ acts_at place (spec.id_deeds node given name.now)) }
 {
     if given {
         return Ok(());
     }
     let property = planned_property(alloc, node, "id")?;
     let value = Value::Text(name.copy(alloc)?);
-    add(deeds, Deed::Step(PlannedStep::Code(property, value)))
+    push(acts, place, Deed::Step(PlannedStep::Code(property, value)))
 }

@@ -8,14 +8,14 @@ ghost use Rattle.fx_scene_read.specs.Pieces as spec;
 ghost use Rattle.fx_scene_read.specs.Opening.{opening_flaw, owner_in, rank_in, seat_step};
 ghost use Rattle.fx_scene_values.specs.Views.{scope_view};
 
-use crate::acting::add_deeds;
+use crate::acting::add_attribute;
 use crate::opening::{opening_flaw, seat_step};
 use crate::references::push_step;
 use fx_base::Position;
 use fx_doc::{Attribute, Element};
 use fx_kinds::Class;
 use fx_scene_acts::{Act, Deed};
-use fx_scene_elements::{push, push_all, push_flaw};
+use fx_scene_elements::{push, push_flaw};
 use fx_scene_flaws::Flaw;
 use fx_scene_names::class_named;
 use fx_scene_outline::{Piece, Seat, has_attribute};
@@ -130,24 +130,6 @@ fn add_given(
         add_attribute(alloc, scope, names, class, node, given, a, acts)?;
     }
     Ok(())
-}
-
-fn add_attribute(
-    alloc: Global,
-    scope: &Scope<'_>,
-    names: &Names,
-    class: Class,
-    node: usize,
-    given: bool,
-    a: &Attribute,
-    acts: &mut Vec<Act>,
-) -> Result<(), AllocError>
-    ensures ok { OnOk result (acts.new.items ≡ acts.old.items ++ spec.attribute_acts (scope_view scope.now)
-        (known names.now) class node given (attr_view a.now)) }
-{
-    let mut deeds = Vec::new(alloc);
-    add_deeds(alloc, scope, names, class, node, given, a, &mut deeds)?;
-    push_all(acts, a.position, deeds)
 }
 
 /// Adds what the attributes of an include ask for of the root of its document, which is the node of this ordinal and of

@@ -9,7 +9,7 @@ use Rattle.fx_scene_values.specs.Statics.{static_deed}
 use Rattle.fx_scene_values.specs.Styles.{style_deed}
 use Rattle.fx_scene_values.specs.Views.{scope_view}
 use Rattle.fx_scene_values.specs.declared.roles.Role.TheVariants as role
-use Rattle.fx_scene_read.proofs.acting.add_deeds.Goals as goal
+use Rattle.fx_scene_read.proofs.acting.add_attribute.Goals as goal
 
 pub returns-in_ok-style_deed-in-Style : goal.returns-in_ok-style_deed-in-Style
 returns-in_ok-style_deed-in-Style c =
@@ -18,10 +18,10 @@ returns-in_ok-style_deed-in-Style c =
     record {
       ok =
           one_deed scope names c.args.class c.args.node c.args.given (attr_view c.args.a.now) role.Style
-          c.as_str.result.now c.role_of.result c.in_ok-style_deed-in-Style.field-0 c.args.deeds.now.items
-          c.add.new.deeds.items c.add.result c.as_str.ensures.text c.role_of.ensures c.in-Style.is
+          c.as_str.result.now c.role_of.result c.in_ok-style_deed-in-Style.field-0 c.args.a.now.position c.args.acts.now.items
+          c.push.new.acts.items c.push.result c.as_str.ensures.text c.role_of.ensures c.in-Style.is
           (ap (λ (d : Deed). d ∷ []) (c.in_ok-style_deed-in-Style.ensures
-          ∙ ap (style_deed scope names c.args.node) c.as_str-text.ensures.text)) c.add.ensures.ok;
+          ∙ ap (style_deed scope names c.args.node) c.as_str-text.ensures.text)) c.push.ensures.ok;
     }
 
 pub returns-in_ok-static_deed-in-Static : goal.returns-in_ok-static_deed-in-Static
@@ -32,10 +32,10 @@ returns-in_ok-static_deed-in-Static c =
     record {
       ok =
           one_deed scope names c.args.class c.args.node c.args.given a role.Static c.as_str.result.now
-          c.role_of.result c.in_ok-static_deed-in-Static.field-0 c.args.deeds.now.items
-          c.add-in-Static.new.deeds.items c.add-in-Static.result c.as_str.ensures.text c.role_of.ensures c.in-Static.is
+          c.role_of.result c.in_ok-static_deed-in-Static.field-0 c.args.a.now.position c.args.acts.now.items
+          c.push-in-Static.new.acts.items c.push-in-Static.result c.as_str.ensures.text c.role_of.ensures c.in-Static.is
           (ap (λ (d : Deed). d ∷ []) (c.in_ok-static_deed-in-Static.ensures
-          ∙ ap (static_deed scope names c.args.node a.name) c.as_str-text.ensures.text)) c.add-in-Static.ensures.ok;
+          ∙ ap (static_deed scope names c.args.node a.name) c.as_str-text.ensures.text)) c.push-in-Static.ensures.ok;
     }
 
 pub returns-in_ok-property_deed-in-Property : goal.returns-in_ok-property_deed-in-Property
@@ -47,10 +47,10 @@ returns-in_ok-property_deed-in-Property c =
     record {
       ok =
           one_deed scope names c.args.class c.args.node c.args.given a role.Property c.as_str.result.now
-          c.role_of.result c.in_ok-property_deed-in-Property.field-0 c.args.deeds.now.items
-          c.add-in-Property.new.deeds.items c.add-in-Property.result c.as_str.ensures.text c.role_of.ensures
+          c.role_of.result c.in_ok-property_deed-in-Property.field-0 c.args.a.now.position c.args.acts.now.items
+          c.push-in-Property.new.acts.items c.push-in-Property.result c.as_str.ensures.text c.role_of.ensures
           c.in-Property.is
           (ap (λ (d : Deed). d ∷ []) (c.in_ok-property_deed-in-Property.ensures
           ∙ (ap (λ (name : List ℕ). told name c.as_str-text.result.now) c.as_str-name.ensures.text
-          ∙ ap (told a.name) c.as_str-text.ensures.text))) c.add-in-Property.ensures.ok;
+          ∙ ap (told a.name) c.as_str-text.ensures.text))) c.push-in-Property.ensures.ok;
     }

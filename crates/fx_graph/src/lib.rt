@@ -89,6 +89,17 @@ impl Graph {
         }
     }
 
+    /// Makes room for so many more properties, so that declaring them moves none.
+    pub fn reserve(&mut self, more: usize) -> Result<(), AllocError>
+        ensures { self.new ≡ self.old }
+    {
+        let lists = &mut self.lists;
+        room::reserve_both(&mut lists.entries, &mut lists.users, more)?;
+        room::reserve_both(&mut lists.unread, &mut lists.spare, more)?;
+        room::reserve_both(&mut lists.newly, &mut lists.cache, more)?;
+        room::reserve_both(&mut lists.fresh, &mut lists.work, more)
+    }
+
     /// A further property with this value. It isn't unread.
     pub fn declare(
         &mut self,

@@ -43,3 +43,16 @@ pub fn push_two<A, B>(first: &mut Vec<A>, a: A, second: &mut Vec<B>, b: B)
     first.push_reserved(a);
     second.push_reserved(b);
 }
+
+/// Makes room in both for so many more.
+pub fn reserve_both<A, B>(
+    first: &mut Vec<A>,
+    second: &mut Vec<B>,
+    more: usize,
+) -> Result<(), AllocError>
+    ensures first_items { first.new.items ≡ first.old.items }
+    ensures second_items { second.new.items ≡ second.old.items }
+{
+    first.reserve(more)?;
+    second.reserve(more)
+}

@@ -8,16 +8,51 @@ ghost use Rattle.fx_stage_model.specs.World.{IsUnwatched};
 
 use crate::errors::RaiseError;
 use fx_base::{Ledgers, NodeKey, Place, Work};
+use fx_kinds::properties;
 use fx_scene_acts::{Doing, SceneFault, Task, flaw_of};
 use fx_scene_build::{look_for_room, take_step};
 use fx_scene_flaws::FaultKind;
+use fx_scene_plan::PlannedStep;
 use fx_stage::Stage;
 use fx_stage_types::StageError;
 use std::alloc::Global;
 
 /// Does the tasks, and answers the nodes by their ordinals. What was built before a task at fault, or before
-/// memory ran out, stays on the stage.
+/// memory ran out, stays on the stage. Room for the properties of all nodes is made at once.
 pub fn raise<L: Ledgers>(
+    alloc: Global,
+    stage: &mut Stage,
+    tasks: Vec<Task>,
+    work: &mut Work<L>,
+) -> Result<Vec<NodeKey>, RaiseError>
+    ensures raised { IsRaised tasks.items stage.old stage.new result }
+    ensures quiet { IsUnwatched stage.old
+        → OnOk result ((work.new.evaluated ≤ work.old.evaluated) × IsUnwatched stage.new) }
+    ensures others { work.new ≡ record work.old { evaluated = work.new.evaluated } }
+{
+    match stage.reserve(property_count(tasks.as_slice())) {
+        Ok(()) => take_tasks(alloc, stage, tasks, work),
+        Err(_) => Err(RaiseError::Memory),
+    }
+}
+
+/// How many properties the nodes have that these tasks make, or as many as a number holds. Only room hangs on it.
+fn property_count(tasks: &[Task]) -> usize {
+    let mut count = 0usize;
+    for task in tasks {
+        count = count.saturating_add(properties_of(task));
+    }
+    count
+}
+
+fn properties_of(task: &Task) -> usize {
+    match &task.doing {
+        Doing::Step(PlannedStep::Node(class)) => properties(*class).len(),
+        _ => 0,
+    }
+}
+
+fn take_tasks<L: Ledgers>(
     alloc: Global,
     stage: &mut Stage,
     tasks: Vec<Task>,

@@ -15,12 +15,19 @@ use fx_stage_rows::declare_rows;
 use fx_stage_types::{BuildStep, NodeEdit, Outcome, Refusal, StageError};
 use fx_stage_words::{one_node, plain};
 use fx_store_model::Change;
-use std::alloc::Global;
+use std::alloc::{AllocError, Global};
 
 /// The most columns and the most rows of a grid.
 const MOST_TRACKS: usize = 256;
 
 impl Stage {
+    /// Makes room for so many more properties, so that making their nodes moves none.
+    pub fn reserve(&mut self, properties: usize) -> Result<(), AllocError>
+        ensures { self.new ≡ self.old }
+    {
+        self.store.reserve(properties)
+    }
+
     /// Makes a step of building a scene, and answers the node that it makes, if it makes one. Steps are refused by the
     /// words of script lines.
     #[tactic(auto, unfolding(fx_stage_model::specs::Building::built, fx_stage_model::specs::Building::root))]

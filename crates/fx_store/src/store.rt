@@ -73,6 +73,13 @@ impl Store {
         }
     }
 
+    /// Makes room for so many more properties, so that declaring them moves none.
+    pub fn reserve(&mut self, more: usize) -> Result<(), AllocError>
+        ensures { self.new ≡ self.old }
+    {
+        self.graph.reserve(more)
+    }
+
     /// A further property with this value. It isn't unread.
     pub fn declare(
         &mut self,

@@ -3,7 +3,7 @@ use Rattle.std.proofs.Common.{◌≡◌, ◌≤◌, vec_len}
 use Rattle.fx_scene_plan.specs.Plans.{standing_of}
 use Rattle.fx_stage_model.specs.World.{IsUnwatched}
 use Rattle.fx_scene_raise.proofs.TaskLemmas.{Completes}
-use Rattle.fx_scene_raise.proofs.raising.raise.Given as goal
+use Rattle.fx_scene_raise.proofs.raising.take_tasks.Given as goal
 
 abbrev pub invariant-loop-task : goal.invariant-loop-task
 invariant-loop-task g l =

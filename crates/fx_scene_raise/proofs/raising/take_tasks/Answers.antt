@@ -3,7 +3,7 @@ use Rattle.std.proofs.Common.{◌∙◌, ◌≤◌, ap, arith}
 use Rattle.fx_base.specs.declared.work.Work.{Work}
 use Rattle.fx_scene_plan.specs.Plans.{standing_of}
 use Rattle.fx_scene_raise.proofs.TaskLemmas.{ends, goes_on, none_left, told_on}
-use Rattle.fx_scene_raise.proofs.raising.raise.Goals as goal
+use Rattle.fx_scene_raise.proofs.raising.take_tasks.Goals as goal
 
 pub loop-task-preserved : goal.loop-task-preserved
 loop-task-preserved g c = (

@@ -61,19 +61,14 @@ pub fn read_compound(
     let Some(kind) = read_kind(alloc, word)? else {
         return Ok(false);
     };
-    let mut compound = Compound {
+    let compound = compounds.push_mut(Compound {
         combinator,
         kind,
         classes: NameList::new(),
         ids: NameList::new(),
         pseudos: NameList::new(),
-    };
-    let named = read_names(alloc, signs, &mut compound)?;
-    if !named {
-        return Ok(false);
-    }
-    compounds.push(compound)?;
-    Ok(true)
+    })?;
+    read_names(alloc, signs, compound)
 }
 
 /// The type that the word names, if it is one, or none for any type.

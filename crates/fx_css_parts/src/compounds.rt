@@ -39,7 +39,11 @@ fn push_word(alloc: Global, names: &mut NameList, word: &[u8]) -> Result<bool, A
     let Some(name) = read_ident(alloc, word)? else {
         return Ok(false);
     };
-    names.push(alloc, name)?;
+    if names.as_slice().is_empty() {
+        *names = NameList::one(name);
+    } else {
+        names.push(alloc, name)?;
+    }
     Ok(true)
 }
 

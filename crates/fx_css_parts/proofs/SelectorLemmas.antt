@@ -109,15 +109,19 @@ compound_found combinator text rest kind start o n e r s h = h ∙ ap (λ y. nam
 
 -- what is put behind other compounds, and gets its names there
 
-one_put : (done all : List Compound) (new : Compound) (named : Bool) → all ≡ done ++ (new ∷ []) → with_one named all ≡ option_map (λ c. done ++ (c ∷ [])) (with_one named new)
+one_put : (done all : List Compound) (new : Compound) (named : Bool) → all ≡ done ++ (new ∷ [])
+    → with_one named all ≡ option_map (λ c. done ++ (c ∷ [])) (with_one named new)
 one_put done all new true e = ap Some e
 one_put done all new false e = refl
 
-pub compound_put : {E : Type 0} (combinator : Option Combinator) (text rest : List ℕ) (kind : Option (List ℕ)) (start new : Compound) (done all : List Compound) (r : Result Bool E) → all ≡ done ++ (new ∷ []) → (length text == 0) ≡ false
-    → Some kind ≡ kind_at (front not_sign text) → rest ≡ behind not_sign text → start ≡ nameless combinator kind → IfOk r (λ named. with_one named new ≡ names_of start (parts_at rest))
+pub compound_put : {E : Type 0} (combinator : Option Combinator) (text rest : List ℕ) (kind : Option (List ℕ))
+    (start new : Compound) (done all : List Compound) (r : Result Bool E) → all ≡ done ++ (new ∷ [])
+    → (length text == 0) ≡ false → Some kind ≡ kind_at (front not_sign text) → rest ≡ behind not_sign text
+    → start ≡ nameless combinator kind → IfOk r (λ named. with_one named new ≡ names_of start (parts_at rest))
     → IfOk r (λ read. with_one read all ≡ option_map (λ c. done ++ (c ∷ [])) (compound_at combinator text))
 compound_put combinator text rest kind start new done all (Ok named) a n e r s h =
-    one_put done all new named a ∙ ap (option_map (λ c. done ++ (c ∷ []))) (compound_found combinator text rest kind start (with_one named new) n e r s h)
+    one_put done all new named a ∙ ap (option_map (λ c. done ++ (c ∷ [])))
+    (compound_found combinator text rest kind start (with_one named new) n e r s h)
 compound_put combinator text rest kind start new done all (Err x) a n e r s h = tt
 
 -- what is put behind other compounds

@@ -47,8 +47,8 @@ fn push_word(alloc: Global, names: &mut NameList, word: &[u8]) -> Result<bool, A
     Ok(true)
 }
 
-/// Puts the compound that the text spells, behind a combinator or none, behind the others: it is too large to be handed
-/// up. Does the text spell one?
+/// Puts the compound that the text spells, behind a combinator or none, behind the others: it is too large to be moved
+/// or handed up, and gets its names there. Does the text spell one? If not, the start of one may stand there.
 pub fn read_compound(
     alloc: Global,
     combinator: Option<Combinator>,

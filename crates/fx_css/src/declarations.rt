@@ -15,6 +15,9 @@ use std::alloc::{AllocError, Global};
 /// The greatest number of declarations of a rule.
 const DECLARATION_LIMIT: usize = 256;
 
+/// How many declarations are given room at first.
+const COMMON_COUNT: usize = 4;
+
 /// A declaration with the number of its first byte, and that of its ninth layer.
 #[derive(Drop)]
 pub struct Kept {
@@ -103,7 +106,7 @@ pub fn read_declarations(
     ensures within { OnOk result (past_declarations 0 (kept_in (shown body.entry)) ≡ []) }
     ensures limit { IfErr result (IsStop (past_declarations 0 (kept_in (shown body.entry)))) }
 {
-    let mut declarations = Vec::new(alloc);
+    let mut declarations = Vec::with_capacity(alloc, COMMON_COUNT)?;
     let mut rest = body;
     while !rest.is_empty() {
         let end = declaration_end(rest);

@@ -17,7 +17,7 @@ use fx_css_types::Rule;
 use std::alloc::Global;
 
 /// The greatest number of rules of a sheet.
-const RULE_LIMIT: usize = 4096;
+pub const RULE_LIMIT: usize = 4096;
 
 /// The rules so far, and the numbers of what was dropped.
 #[derive(Drop)]

@@ -15,7 +15,7 @@ ghost use Rattle.fx_css.specs.Sheets.{AreRead, AreReadAs, IsReadAs, IsToldStop, 
 use crate::errors::{SheetError, Stop};
 use crate::inline::read_style;
 use crate::parts::Part;
-use crate::rules::{Draft, read_turn};
+use crate::rules::{Draft, RULE_LIMIT, read_turn};
 use fx_base::List;
 use fx_css_marks::{is_bare, places, position, spoken};
 use fx_css_types::Sheet;
@@ -30,12 +30,16 @@ pub enum Form {
     Style,
 }
 
+/// Few rules have fewer bytes: room for a rule is taken for each so many, so that rules are seldom moved.
+const COMMON_LENGTH: usize = 64;
+
 /// The rules of a whole sheet.
 fn read_rules(alloc: Global, whole: Part<'_>) -> Result<Draft, Stop>
     ensures { AreRead (shown whole.entry) result }
 {
+    let room = RULE_LIMIT.min(whole.len() / COMMON_LENGTH);
     let mut draft = Draft {
-        rules: Vec::new(alloc),
+        rules: Vec::with_capacity(alloc, room)?,
         warnings: Vec::new(alloc),
     };
     let mut rest = whole;

@@ -1,5 +1,5 @@
 -- How the loops over compounds and over combinators go on.
-use Rattle.std.proofs.Common.{◌≡◌, ℕ, suc, ◌+◌, Bool, true, false, cond, not, ◌&&◌, ◌==◌, List, [], ◌∷◌, ◌++◌, length, drop, append_assoc, Option, Some, None, refl, sym, ap, ◌∙◌, subst, arith}
+use Rattle.std.proofs.Common.{◌≡◌, ℕ, suc, ◌+◌, Bool, true, false, cond, not, ◌&&◌, ◌==◌, List, [], ◌∷◌, ◌++◌, length, drop, append_assoc, Option, Some, None, refl, sym, ap, ◌∙◌, subst, arith, Result, Ok, Err, IfOk}
 use Rattle.std.specs.List.{list_all, prefix_len}
 use Rattle.std.specs.Option.{option_and_then, option_map}
 use Rattle.std.proofs.lemmas.Bool.{and_from}
@@ -106,6 +106,23 @@ compound_is combinator (c ∷ cs) rest kind n e r =
 pub compound_found : (combinator : Option Combinator) (text rest : List ℕ) (kind : Option (List ℕ)) (start : Compound) (o : Option Compound) → (length text == 0) ≡ false
     → Some kind ≡ kind_at (front not_sign text) → rest ≡ behind not_sign text → start ≡ nameless combinator kind → o ≡ names_of start (parts_at rest) → o ≡ compound_at combinator text
 compound_found combinator text rest kind start o n e r s h = h ∙ ap (λ y. names_of y (parts_at rest)) s ∙ compound_is combinator text rest kind n e r
+
+-- what is put behind other compounds, and gets its names there
+
+one_put : (done all : List Compound) (new : Compound) (named : Bool) → all ≡ done ++ (new ∷ [])
+    → with_one named all ≡ option_map (λ c. done ++ (c ∷ [])) (with_one named new)
+one_put done all new true e = ap Some e
+one_put done all new false e = refl
+
+pub compound_put : {E : Type 0} (combinator : Option Combinator) (text rest : List ℕ) (kind : Option (List ℕ))
+    (start new : Compound) (done all : List Compound) (r : Result Bool E) → all ≡ done ++ (new ∷ [])
+    → (length text == 0) ≡ false → Some kind ≡ kind_at (front not_sign text) → rest ≡ behind not_sign text
+    → start ≡ nameless combinator kind → IfOk r (λ named. with_one named new ≡ names_of start (parts_at rest))
+    → IfOk r (λ read. with_one read all ≡ option_map (λ c. done ++ (c ∷ [])) (compound_at combinator text))
+compound_put combinator text rest kind start new done all (Ok named) a n e r s h =
+    one_put done all new named a ∙ ap (option_map (λ c. done ++ (c ∷ [])))
+    (compound_found combinator text rest kind start (with_one named new) n e r s h)
+compound_put combinator text rest kind start new done all (Err x) a n e r s h = tt
 
 -- what is put behind other compounds
 

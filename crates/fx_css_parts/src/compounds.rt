@@ -39,12 +39,16 @@ fn push_word(alloc: Global, names: &mut NameList, word: &[u8]) -> Result<bool, A
     let Some(name) = read_ident(alloc, word)? else {
         return Ok(false);
     };
-    names.push(alloc, name)?;
+    if names.as_slice().is_empty() {
+        *names = NameList::one(name);
+    } else {
+        names.push(alloc, name)?;
+    }
     Ok(true)
 }
 
-/// Puts the compound that the text spells, behind a combinator or none, behind the others: it is too large to be handed
-/// up. Does the text spell one?
+/// Puts the compound that the text spells, behind a combinator or none, behind the others: it is too large to be moved
+/// or handed up, and gets its names there. Does the text spell one? If not, the start of one may stand there.
 pub fn read_compound(
     alloc: Global,
     combinator: Option<Combinator>,
@@ -61,19 +65,14 @@ pub fn read_compound(
     let Some(kind) = read_kind(alloc, word)? else {
         return Ok(false);
     };
-    let mut compound = Compound {
+    let compound = compounds.push_mut(Compound {
         combinator,
         kind,
         classes: NameList::new(),
         ids: NameList::new(),
         pseudos: NameList::new(),
-    };
-    let named = read_names(alloc, signs, &mut compound)?;
-    if !named {
-        return Ok(false);
-    }
-    compounds.push(compound)?;
-    Ok(true)
+    })?;
+    read_names(alloc, signs, compound)
 }
 
 /// The type that the word names, if it is one, or none for any type.

@@ -16,6 +16,9 @@ use fx_css_types::{Combinator, Compound, Selector};
 use fx_text::{all_white, is_white, trim_front};
 use std::alloc::{AllocError, Global};
 
+/// How many selectors are given room at first: few rules have more.
+const COMMON_SELECTORS: usize = 2;
+
 /// The selectors that the text spells, separated by commas, or none where one of them is bad.
 pub fn read_selectors(alloc: Global, text: &[u8]) -> Result<Option<Selectors>, AllocError>
     ensures { IfOk result (λ o. o ≡ selectors_at text.now) }
@@ -33,7 +36,7 @@ pub fn read_selectors(alloc: Global, text: &[u8]) -> Result<Option<Selectors>, A
 fn each_selector(alloc: Global, text: &[u8]) -> Result<Option<Vec<Selector>>, AllocError>
     ensures { IfOk result (λ o. option_map (λ v. v.items) o ≡ selectors_in text.now) }
 {
-    let mut selectors = Vec::new(alloc);
+    let mut selectors = Vec::with_capacity(alloc, COMMON_SELECTORS)?;
     let mut left = Some(text);
     while let Some(rest) = left {
         let (part, behind) = split_part(rest);

@@ -32,6 +32,9 @@ static POSITIONS: [&str; 9] = [
     "bottom-right",
 ];
 
+/// How many layers are given room at first: few values have more.
+const COMMON_LAYERS: usize = 2;
+
 /// The value of a style declaration of this form, or of a declaration of any other name.
 pub fn read_declared(
     alloc: Global,
@@ -131,7 +134,7 @@ fn sides_layers(alloc: Global, text: &[u8]) -> Result<Option<Declared>, AllocErr
 fn each_paint(alloc: Global, text: &[u8]) -> Result<Option<Vec<Paint>>, AllocError>
     ensures { IfOk result (λ o. option_map (λ v. v.items) o ≡ separated_at paint_at text.now) }
 {
-    let mut paints = Vec::new(alloc);
+    let mut paints = Vec::with_capacity(alloc, COMMON_LAYERS)?;
     let mut left = Some(text);
     while let Some(rest) = left {
         let (part, behind) = split_part(rest);
@@ -147,7 +150,7 @@ fn each_paint(alloc: Global, text: &[u8]) -> Result<Option<Vec<Paint>>, AllocErr
 fn each_sides(alloc: Global, text: &[u8]) -> Result<Option<Vec<Sides>>, AllocError>
     ensures { IfOk result (λ o. option_map (λ v. v.items) o ≡ separated_at insets_at text.now) }
 {
-    let mut layers = Vec::new(alloc);
+    let mut layers = Vec::with_capacity(alloc, COMMON_LAYERS)?;
     let mut left = Some(text);
     while let Some(rest) = left {
         let (part, behind) = split_part(rest);

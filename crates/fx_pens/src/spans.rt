@@ -133,18 +133,32 @@ fn blend(row: &mut [u32], color: Color)
     blend_row(row, packed(color));
 }
 
-/// Writes a colour, 0x00RRGGBB, to every pixel of a short row.
+/// Writes a colour, 0x00RRGGBB, to every pixel of a short row: by blocks of four, of which the last may lie over a part
+/// of the one before, so that no pixel is left for itself.
 #[inline(always)]
 fn write_few(row: &mut [u32], color: u32)
     ensures { row.new ≡ replicate (length row.old) color }
 {
+    if row.len() < 4 {
+        write_each(row, color);
+        return;
+    }
     let lanes = u32x4::splat(color);
+    let last = row.len() - 4;
     let mut at = 0;
-    while row.len() - at >= 4 {
+    while at < last {
         lanes.copy_to_slice(&mut row[at..]);
         at += 4;
     }
-    for i in at..row.len() {
+    lanes.copy_to_slice(&mut row[last..]);
+}
+
+/// Writes a colour to one pixel after another.
+#[inline(always)]
+fn write_each(row: &mut [u32], color: u32)
+    ensures { row.new ≡ replicate (length row.old) color }
+{
+    for i in 0..row.len() {
         row[i] = color;
     }
 }

@@ -3,10 +3,10 @@ ghost use Rattle.std.specs.Prelude.{◌≡◌, ◌≤◌, ◌^◌, ◌+ℤ◌, �
 ghost use Rattle.fx_pens.specs.Dots.{IsInk, IsLaid, IsPen, char_dots, line_dots, row_dots};
 
 use crate::characters::{bits_of, width_of};
-use crate::near::{is_near, lay_near};
+use crate::near::lay_near;
 use crate::runs::Bits;
-use crate::spans::{Pen, ink, lay_bit};
-use fx_base::{Steps, Text};
+use crate::spans::{Pen, lay_bit};
+use fx_base::Steps;
 use fx_cells::glyph;
 use std::sync::ledger::Ledger;
 
@@ -14,19 +14,23 @@ use std::sync::ledger::Ledger;
 pub(crate) fn lay_line<P: Ledger>(
     row: &mut [u32],
     pen: &Pen,
+    ink: Option<u32>,
+    is_near: bool,
     first: i64,
     text: &str,
     painted: &mut Steps<P>,
 )
-    requires { IsPen pen.now row.old }
+    requires pen { IsPen pen.now row.old }
+    requires ink { IfSome ink (IsInk pen.now.color) }
+    requires scale { is_near ≡ true → pen.now.scale ≤ 65536 }
+    requires near { is_near ≡ true → negsuc (2 ^ 40) ≤ℤ first }
     ensures { IsLaid pen.now (line_dots pen.now first (chars text.now)) row.old row.new painted.old painted.new }
 {
     let line = pen.below / pen.scale;
     if line >= 5 {
         return;
     }
-    let ink = ink(pen.color);
-    if is_near(pen, first) {
+    if is_near {
         lay_near(row, pen, ink, line, first, text, painted);
     } else {
         lay_far(row, pen, ink, line, first, text, painted);

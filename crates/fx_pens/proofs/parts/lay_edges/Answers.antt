@@ -17,7 +17,8 @@ returns-then-edges-pen g c = λ start are.
     let left : to_z w64 pen.left ≡ pos pen.left = omega (arith, ints, near, rises) in
     let past = le_from (to_z w64 (of_z w64 edges.end)) (to_z w64 pen.left) c.if-edges-pen.true in
     laid-none pen (row_dots pen start c.args.bits) c.args.row.now c.args.painted.now c.requires.pen.rises
-    (λ x a b. edges_before pen start edges c.args.bits x are c.requires.rises (omega (arith, ints, same, left, past, a)) b)
+    (λ x a b. edges_before pen start edges c.args.bits x are c.requires.rises
+    (omega (arith, ints, same, left, past, a)) b)
 
 pub returns : goal.returns
 returns g c = λ start are.
@@ -28,5 +29,7 @@ returns g c = λ start are.
     let l0 = simp to_z-of_z at c.lay_part.ensures in
     let l1 = simp to_z-of_z at c.lay_part-2.ensures in
     let l2 = simp to_z-of_z at c.lay_part-3.ensures in
-    edges_laid c.args.pen.now start c.args.edges c.args.bits c.args.row.now c.lay_part.new.row c.lay_part-2.new.row c.lay_part-3.new.row
-    c.args.painted.now c.lay_part.new.painted c.lay_part-2.new.painted c.lay_part-3.new.painted c.requires.pen.rises are l0 l1 l2
+    edges_laid c.args.pen.now start c.args.edges c.args.bits
+    c.args.row.now c.lay_part.new.row c.lay_part-2.new.row c.lay_part-3.new.row
+    c.args.painted.now c.lay_part.new.painted c.lay_part-2.new.painted c.lay_part-3.new.painted
+    c.requires.pen.rises are l0 l1 l2

@@ -7,6 +7,7 @@ ghost use Rattle.fx_graph_model.specs.Eager.{eager};
 ghost use Rattle.fx_graph_model.specs.Unread.{marked, evaluations_of};
 ghost use Rattle.fx_graph_model.specs.Changes.{after_read_all, IsSomeRead};
 ghost use Rattle.fx_graph_refusals.specs.Known.{known_value};
+ghost use Rattle.fx_graph.specs.Reading.{ArePartRead};
 ghost use Rattle.fx_graph.specs.Store.{Holds, shown};
 
 use crate::lists::Lists;
@@ -40,6 +41,8 @@ pub fn read_each<L: Ledgers>(
     requires known { (name : ℕ) → Contains (numbers names.now) name → name < length lists.old.entries.items }
     ensures holds { Holds lists.new }
     ensures part { IsSomeRead (shown lists.old) (shown lists.new) }
+    ensures unread { ArePartRead lists.old.entries.items (numbers names.now) lists.old.unread.items
+        lists.new.unread.items }
     ensures again { ((name : ℕ) → Contains (numbers names.now) name → marked lists.old.unread.items name ≡ false)
         → shown lists.new ≡ shown lists.old }
     ensures values { IfOk result (λ values. values.items
@@ -68,6 +71,8 @@ pub fn settle_each<L: Ledgers>(
     requires known { (name : ℕ) → Contains (numbers names.now) name → name < length lists.old.entries.items }
     ensures holds { Holds lists.new }
     ensures part { IsSomeRead (shown lists.old) (shown lists.new) }
+    ensures unread { ArePartRead lists.old.entries.items (numbers names.now) lists.old.unread.items
+        lists.new.unread.items }
     ensures ok { OnOk result (shown lists.new ≡ after_read_all (numbers names.now) (shown lists.old)) }
     ensures cost { work.new.evaluated ≤ work.old.evaluated
         + evaluations_of lists.old.entries.items (numbers names.now) lists.old.unread.items }

@@ -146,15 +146,26 @@ fn is_any_unread(names: &[Name], unread: &[bool]) -> bool
     false
 }
 
+/// Whether one of the flags is set. All are looked at, since the compiler then takes many at a time.
+fn is_one_of(flags: &[bool]) -> bool
+    ensures { result ≡ list_any (λ flag. flag) flags.now }
+{
+    let mut any = false;
+    for flag in flags {
+        any |= *flag;
+    }
+    any
+}
+
 /// Whether one of the first so many flags is set.
 fn is_one_set(flags: &[bool], count: usize) -> bool
     ensures { result ≡ list_any (λ flag. flag) (take count flags.now) }
 {
     if count >= flags.len() {
-        return flags.contains(&true);
+        return is_one_of(flags);
     }
     let (asked, _) = flags.split_at(count);
-    asked.contains(&true)
+    is_one_of(asked)
 }
 
 /// Whether any of so many names from this one on is unread.

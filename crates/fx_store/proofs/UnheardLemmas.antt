@@ -1,10 +1,12 @@
 -- Listeners of names that are forgotten go one name after another; and a listener that is added has an owner that was born.
 use Rattle.std.proofs.Common.{◌≡◌, ℕ, ◌+◌, ◌==◌, ◌<◌, ◌≤◌, ◌||◌, ◌&&◌, nat_le, Bool, true, false, not, cond, List, [], ◌∷◌, filter, length, take, get_or, Option, Some, None, IfSome, refl, sym, ap, subst, ◌∙◌}
 use Rattle.std.specs.List.{list_any}
+use Rattle.std.specs.List.Sorted.{IsPermutation}
 use Rattle.std.proofs.lemmas.Bool.{eq-eqb, eqb-true}
 use Rattle.std.proofs.lemmas.List.{map_more}
 use Rattle.std.proofs.lemmas.List.Elements.{All-contains, filter_agree}
 use Rattle.std.proofs.lemmas.List.Folds.{list_any-append}
+use Rattle.std.proofs.lemmas.List.Sorted.{IsPermutation-map, list_any-IsPermutation}
 use Rattle.fx_base.specs.declared.keys.Name.{Name}
 use Rattle.fx_store_model.specs.Making.{with_listeners}
 use Rattle.fx_base.specs.Answers.{or_else}
@@ -14,11 +16,11 @@ use Rattle.fx_handles.specs.declared.Owner.{Owner}
 use Rattle.fx_handles.specs.Living.{IsSound, Register, is_same}
 use Rattle.fx_listen.specs.declared.entries.Listener.{Listener}
 use Rattle.fx_listen.specs.declared.entries.ListenKind.{ListenKind}
-use Rattle.fx_listen.specs.Listening.{Table, add_refusal, after_add, after_forget, after_remove, has_life, is_elsewhere, is_equal, is_live, living_in, placed, without_first}
+use Rattle.fx_listen.specs.Listening.{Table, add_refusal, after_add, after_forget, after_forget_all, after_remove, has_life, is_elsewhere, is_equal, is_live, living_in, placed, without_first}
 use Rattle.fx_listen.proofs.Cuts.{filter-filter}
 use Rattle.fx_listen.proofs.Finding.{is_same-true}
 use Rattle.fx_listen.proofs.LivingLemmas.{living_in-removed}
-use Rattle.fx_store_pairs.specs.Pairs.{is_among}
+use Rattle.fx_store_pairs.specs.Pairs.{is_among, is_touched}
 use Rattle.fx_graph_model.specs.declared.entries.Entry.{Entry}
 use Rattle.fx_graph_model.specs.declared.errors.GraphError.TheVariants as graph
 use Rattle.fx_graph_model.specs.Changes.{State}
@@ -77,6 +79,31 @@ unheard_turn first before now names i d within done here =
   where
     table_of : List Listener → Table
     table_of listeners = record { entries = listeners; given = first.given }
+
+-- names in another order
+
+among_same : (xs ys : List Name) → IsPermutation xs ys → (name : ℕ) → is_among (numbers ys) name ≡ is_among (numbers xs) name
+among_same xs ys moved name =
+    sym
+    (list_any-IsPermutation (λ (other : ℕ). other == name) (numbers xs) (numbers ys)
+    (IsPermutation-map (λ (n : Name). n.0) xs ys moved))
+
+pub unpaired_same : (xs ys : List Name) → IsPermutation xs ys → (pairs : List (ℕ × ℕ))
+    → filter (λ (pair : ℕ × ℕ). not (is_touched (numbers ys) pair)) pairs
+    ≡ filter (λ (pair : ℕ × ℕ). not (is_touched (numbers xs) pair)) pairs
+unpaired_same xs ys moved pairs =
+    filter_agree (λ (pair : ℕ × ℕ). not (is_touched (numbers ys) pair)) (λ (pair : ℕ × ℕ). not (is_touched (numbers xs) pair))
+    (λ pair. rw (among_same xs ys moved pair.0, among_same xs ys moved pair.1) refl) pairs
+
+pub unheard_same : (xs ys : List Name) → IsPermutation xs ys → (table : Table)
+    → after_forget_all (numbers ys) table ≡ after_forget_all (numbers xs) table
+unheard_same xs ys moved table =
+    ap (λ (ls : List Listener). table_of ls)
+    (filter_agree (left_listener (numbers ys)) (left_listener (numbers xs))
+    (λ l. ap not (among_same xs ys moved l.name.0)) table.entries)
+  where
+    table_of : List Listener → Table
+    table_of listeners = record { entries = listeners; given = table.given }
 
 -- an addition
 

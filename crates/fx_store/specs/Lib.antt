@@ -1,4 +1,5 @@
 pub mod Groups
+pub mod Hearing
 pub mod Kept
 pub mod Looking
 pub mod UnderWay

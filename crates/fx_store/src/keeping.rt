@@ -1,9 +1,8 @@
 //! Changes that make no property unread: the end of a binding, of a pair or of a name, listeners that come and go, and
 //! a property that is set to the value that it has. Each is made in one step; then every watched property is read,
 //! where an earlier want of memory left one unread.
-ghost use Rattle.std.specs.Prelude.{ℕ, ◌≡◌, ◌≢◌, ◌≤◌, ◌+◌, [], ◌∷◌, false, filter, not, true, Err, IfErr, IfOk, None, OnErr, OnOk};
+ghost use Rattle.std.specs.Prelude.{ℕ, ◌≡◌, ◌≢◌, ◌≤◌, ◌+◌, [], ◌∷◌, false, true, Err, IfErr, IfOk, None, OnErr, OnOk};
 ghost use Rattle.fx_handles.specs.Living.{IsSound};
-ghost use Rattle.fx_listen.specs.declared.entries.Listener.{Listener as Heard};
 ghost use Rattle.fx_listen.specs.Listening.{placed};
 ghost use Rattle.fx_base.specs.Names.{numbers};
 ghost use Rattle.fx_graph_model.specs.Eager.{eager};
@@ -17,15 +16,16 @@ ghost use Rattle.fx_base.specs.Answers.{IsAnswer};
 ghost use Rattle.fx_store_model.specs.Refusals.{IsForgetAnswer, listen_refusal, unknown_of};
 ghost use Rattle.fx_store_model.specs.Step.{IsReadSome, due};
 ghost use Rattle.fx_store_model.specs.Stored.{after_watching};
-ghost use Rattle.fx_store_pairs.specs.Pairs.{is_among, without_pair};
+ghost use Rattle.fx_store_pairs.specs.Pairs.{without_pair};
 
+use crate::forgetting::forget_parts;
 use crate::marking::{give, group_values};
 use crate::refusing::{of_listen, of_unlisten, of_unpair};
 use crate::store::Store;
 use crate::watching::read_watched;
 use fx_base::{Ledgers, List, Name, Value, Work};
 use fx_handles::{Owner, Owners};
-use fx_listen::{ListenKind, Listeners};
+use fx_listen::ListenKind;
 use fx_store_model::{Notices, StoreError};
 use std::alloc::{AllocError, Global};
 
@@ -238,15 +238,14 @@ impl Store {
     }
 
     /// Takes these properties away, with their pairs and their listeners.
-    fn take_away(&mut self, names: &[Name]) -> Result<(), StoreError>
-        ensures answer { IsForgetAnswer names.now self.old.entries result }
-        ensures ok { OnOk result (self.new ≡ made_forget (numbers names.now) self.old) }
+    fn take_away(&mut self, names: Vec<Name>) -> Result<(), StoreError>
+        ensures answer { IsForgetAnswer names.items self.old.entries result }
+        ensures ok { OnOk result (self.new ≡ made_forget (numbers names.items) self.old) }
         ensures err { OnErr result (self.new ≡ self.old) }
         ensures firm { IfErr result (λ error. error ≢ StoreError.Memory) }
     {
-        self.graph.forget(names)?;
-        self.pairs.forget(names);
-        forget_listeners(&mut self.listeners, names);
+        self.graph.forget(names.as_slice())?;
+        forget_parts(&mut self.pairs, &mut self.listeners, names);
         Ok(())
     }
 
@@ -259,7 +258,7 @@ impl Store {
         ensures applied { Applied (change.Forget names) self.old self.new result work.old.evaluated work.new.evaluated }
         ensures others { work.new ≡ record work.old { evaluated = work.new.evaluated } }
     {
-        self.take_away(names.as_slice())?;
+        self.take_away(names.into_vec())?;
         self.catch_up(alloc, work)?;
         Ok(silent(alloc, None))
     }
@@ -271,17 +270,4 @@ fn know_births(owners: &Owners)
 {
     let nobody = Owner { slot: 0, birth: 0 };
     let _alive = owners.is_live(nobody);
-}
-
-/// Removes all listeners of these properties.
-fn forget_listeners(listeners: &mut Listeners, names: &[Name])
-    ensures { listeners.new ≡ record {
-      entries = filter
-          (λ (listener : Heard). not (is_among (numbers names.now) listener.name.0)) listeners.old.entries;
-      given = listeners.old.given;
-    } }
-{
-    for name in names {
-        listeners.forget(*name);
-    }
 }

@@ -2,6 +2,7 @@
 //! `javafx.beans.property` with its listeners). The stage stands on it.
 #![tactic(auto)]
 
+mod forgetting;
 mod keeping;
 mod marking;
 mod refusing;

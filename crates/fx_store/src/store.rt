@@ -11,9 +11,10 @@ ghost use Rattle.fx_listen.specs.Listening.{IsSound, has_life, is_live, is_numbe
 ghost use Rattle.fx_graph_model.specs.Eager.{eager};
 ghost use Rattle.fx_graph_model.specs.Refusals.{declare_refusal, read_only_in};
 ghost use Rattle.fx_graph_model.specs.Changes.{AreKnown};
-ghost use Rattle.fx_graph_model.specs.Unread.{IsClosed, after_reading, after_reads, evaluations, evaluations_of, marked};
+ghost use Rattle.fx_graph_model.specs.Unread.{IsClosed, IsPartRead, after_reading, after_reads, evaluations, evaluations_of, marked};
 ghost use Rattle.fx_graph_model.specs.Sound.{AreSound, IsAcyclic};
 ghost use Rattle.fx_graph_model.specs.Uses.{bound_in};
+ghost use Rattle.fx_graph.specs.Reading.{ArePartRead};
 ghost use Rattle.fx_store_model.specs.Applied.{Applied};
 ghost use Rattle.fx_store_model.specs.Making.{with_owners, after_declared};
 ghost use Rattle.fx_base.specs.Answers.{IsAnswer};
@@ -127,7 +128,8 @@ impl Store {
         }
     }
 
-    /// The value of the property, which is read. Where memory is wanting, some properties may have been read.
+    /// The value of the property, which is read. Where memory is wanting, some properties that it needs may have been
+    /// read, and no others.
     pub fn read<L: Ledgers>(
         &mut self,
         alloc: Global,
@@ -139,6 +141,8 @@ impl Store {
         ensures ok { OnOk result (self.new
             ≡ with_unread (after_reading self.old.entries name.0 self.old.unread) self.old) }
         ensures memory { result ≡ Err StoreError.Memory → IsReadSome self.old self.new }
+        ensures needed { result ≡ Err StoreError.Memory
+            → IsPartRead self.old.entries name.0 self.old.unread self.new.unread }
         ensures rest { self.new ≡ with_unread self.new.unread self.old }
         ensures refused { IfErr result (λ error. error ≢ StoreError.Memory → self.new ≡ self.old) }
         ensures cost { work.new.evaluated ≤ work.old.evaluated + evaluations self.old.entries name.0 self.old.unread }
@@ -148,7 +152,8 @@ impl Store {
         Ok(value)
     }
 
-    /// Reads these known properties one after another. Where memory is wanting, some properties may have been read.
+    /// Reads these known properties one after another. Where memory is wanting, some properties that they need may have
+    /// been read, and no others.
     pub fn read_all<L: Ledgers>(
         &mut self,
         alloc: Global,
@@ -159,6 +164,7 @@ impl Store {
         ensures ok { OnOk result (self.new
             ≡ with_unread (after_reads self.old.entries (numbers names.now) self.old.unread) self.old) }
         ensures part { IsReadSome self.old self.new }
+        ensures needed { ArePartRead self.old.entries (numbers names.now) self.old.unread self.new.unread }
         ensures cost { work.new.evaluated
             ≤ work.old.evaluated + evaluations_of self.old.entries (numbers names.now) self.old.unread }
         ensures others { work.new ≡ record work.old { evaluated = work.new.evaluated } }

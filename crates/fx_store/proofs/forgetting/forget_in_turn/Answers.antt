@@ -1,6 +1,6 @@
 use Rattle.fx_base.specs.Names.{name_of}
 use Rattle.fx_store.proofs.UnheardLemmas.{unheard_start, unheard_turn}
-use Rattle.fx_store.proofs.keeping.forget_listeners.Goals as goal
+use Rattle.fx_store.proofs.forgetting.forget_in_turn.Goals as goal
 
 pub loop-name-init : goal.loop-name-init
 loop-name-init c = unheard_start c.args.listeners.now

@@ -10,6 +10,7 @@ mod laws;
 mod making;
 mod marks;
 mod memory;
+mod parting;
 mod putting;
 mod recoding;
 mod rewriting;

@@ -13,8 +13,8 @@ labels() {
         print "<VBox fx:id=\"root\" prefWidth=\"320\" prefHeight=\"240\">"
         for (i = 0; i < labels; i++) {
             if (i % 10 == 0)
-                printf "%s<HBox fx:id=\"h%d\">\n", i > 0 ? "</HBox>\n" : "", i / 10
-            width = i > 0 ? sprintf("${n%d.prefWidth %% 7 + %d}", i - 1, i * 5 % 9 + 1) : "6"
+                printf "%s<HBox fx:id=\"h%d\">\n", (i > 0) ? "</HBox>\n" : "", i / 10
+            width = (i > 0) ? sprintf("${n%d.prefWidth %% 7 + %d}", i - 1, i * 5 % 9 + 1) : "6"
             printf "<Label fx:id=\"n%d\" text=\"%d\" prefWidth=\"%s\"/>\n", i, i, width
         }
         if (labels > 0)

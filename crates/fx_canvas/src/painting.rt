@@ -11,7 +11,7 @@ ghost use Rattle.fx_picture.specs.Shapes.{bounds};
 use crate::blocks::{Block, block_of};
 use crate::rows::Row;
 use fx_base::{Color, Rect, Steps};
-use fx_pens::Columns;
+use fx_pens::{Brush, Columns};
 use fx_picture::{Bounds, Entry, Shape, bounds, bounds_of, color_of, is_empty, meeting};
 use std::sync::ledger::Ledger;
 
@@ -108,8 +108,9 @@ fn lay_block<P: Ledger>(rows: &mut [Row], block: Block, shape: &Shape, painted: 
         right: block.right,
     };
     channel_laws(color_of(shape));
+    let brush = Brush::new(shape);
     for y in block.top..block.bottom {
-        rows[y].lay(columns, y as u32, shape, painted);
+        rows[y].lay(columns, y as u32, &brush, painted);
     }
 }
 

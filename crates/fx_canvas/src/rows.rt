@@ -7,8 +7,7 @@ ghost use Rattle.fx_picture.specs.Shapes.{bounds, color_of, holds};
 ghost use Rattle.fx_row_text.specs.Rows.{row_text};
 
 use fx_base::Steps;
-use fx_pens::{Columns, lay_shape};
-use fx_picture::Shape;
+use fx_pens::{Brush, Columns};
 use fx_row_text::print_row;
 use std::alloc::{AllocError, Global};
 use std::marker::Model;
@@ -53,21 +52,22 @@ impl Row {
         self.pixels.as_slice()
     }
 
-    /// Paints row `y` of a shape, from one column on and before another.
+    /// Paints row `y` of a brush's shape, from one column on and before another.
+    #[inline(always)]
     pub(crate) fn lay<P: Ledger>(
         &mut self,
         part: Columns,
         y: u32,
-        shape: &Shape,
+        brush: &Brush<'_>,
         painted: &mut Steps<P>,
     )
         requires columns { AreColumns part self.old.pixels }
-        requires bounds { LieWithin (bounds shape.now) part y }
-        ensures { IsLaid (plain_pen part (color_of shape.now)) (λ x. holds shape.now x y)
+        requires bounds { LieWithin (bounds brush.now) part y }
+        ensures { IsLaid (plain_pen part (color_of brush.now)) (λ x. holds brush.now x y)
             self.old.pixels self.new.pixels painted.old painted.new }
     {
         self.stale = true;
-        lay_shape(self.pixels.as_mut_slice(), part, y, shape, painted);
+        brush.lay(self.pixels.as_mut_slice(), part, y, painted);
     }
 
     /// Makes the text anew where it is stale. Want of memory leaves it stale.

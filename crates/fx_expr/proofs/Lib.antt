@@ -4,6 +4,7 @@ pub mod FormLemmas
 pub mod FormSteps
 pub mod GrammarLemmas
 pub mod LevelSteps
+pub mod NumberLemmas
 pub mod OperandLemmas
 pub mod Outcomes
 pub mod ReadingLemmas

@@ -3,6 +3,7 @@ pub mod Filling
 pub mod Form
 pub mod Grammar
 pub mod Meaning
+pub mod Numbers
 pub mod Operands
 pub mod Reading
 pub mod Scanning

@@ -43,7 +43,7 @@ quotient_of m n = if int_eq n (pos 0) then value.Int (pos 0) else near (int_div 
 abbrev pub rest_of : ℤ → ℤ → Value
 rest_of m n = if int_eq n (pos 0) then value.Int (pos 0) else value.Int (int_rem m n)
 
--- one of the six that take two numbers
+-- one of the nine that take two numbers
 abbrev pub over_numbers : BinarySign → ℤ → ℤ → Value
 over_numbers binary.Plus m n = near (m +ℤ n)
 over_numbers binary.Minus m n = near (m -ℤ n)
@@ -55,6 +55,14 @@ over_numbers binary.GreaterEqual m n = value.Bool (int_le n m)
 over_numbers binary.Less m n = value.Bool (int_lt m n)
 over_numbers binary.LessEqual m n = value.Bool (int_le m n)
 over_numbers _ m n = no_value
+
+-- one of the four that compare two numbers
+abbrev pub compared : BinarySign → ℤ → ℤ → Value
+compared binary.Greater m n = value.Bool (int_lt n m)
+compared binary.GreaterEqual m n = value.Bool (int_le n m)
+compared binary.Less m n = value.Bool (int_lt m n)
+compared binary.LessEqual m n = value.Bool (int_le m n)
+compared _ m n = no_value
 
 abbrev pub numeric : BinarySign → Value → Value → Value
 numeric sign (value.Int m) (value.Int n) = over_numbers sign m n

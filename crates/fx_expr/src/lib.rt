@@ -9,6 +9,7 @@ mod form;
 mod fronts;
 mod grouping;
 mod meaning;
+mod numbers;
 mod paths;
 mod reading;
 mod scanning;
@@ -21,6 +22,7 @@ mod words;
 
 pub use counting::eval;
 pub use filling::{as_text, fill};
+pub use numbers::number_over;
 pub use reading::{ExprError, one_reading, read_expr};
 pub use tree::{BinarySign, Expr, Parsed, UnarySign};
 pub use typing::{KindError, type_of};

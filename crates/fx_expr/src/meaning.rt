@@ -1,5 +1,5 @@
 //! What the signs mean. Each result is total: a value of a kind that a sign doesn't take counts as nothing.
-ghost use Rattle.std.specs.Prelude.{◌≡◌, ◌++◌, ℕ, IfOk, IsTrue, take, length, encode_utf8_all, ◌≤◌};
+ghost use Rattle.std.specs.Prelude.{◌≡◌, ◌++◌, ℕ, IfOk, IsTrue, MatchOption, take, length, encode_utf8_all, ◌≤◌};
 ghost use Rattle.std.specs.Str.{chars};
 ghost use Rattle.std.specs.String.{string_bytes};
 ghost use Rattle.fx_expr.specs.Tree.{tree, is_within};
@@ -108,12 +108,31 @@ fn of_numbers(sign: BinarySign, left: &Value, right: &Value) -> Value
 fn over(sign: BinarySign, m: i64, n: i64) -> Value
     ensures { result ≡ spec.over_numbers sign m n }
 {
+    match arithmetic(sign, m, n) {
+        Some(number) => Value::Int(number),
+        None => compared(sign, m, n),
+    }
+}
+
+/// What one of the five signs of arithmetic makes of two numbers. None for another sign.
+pub fn arithmetic(sign: BinarySign, m: i64, n: i64) -> Option<i64>
+    ensures { MatchOption result (spec.over_numbers sign m n ≡ spec.compared sign m n)
+        (λ k. spec.over_numbers sign m n ≡ Value.Int k) }
+{
     match sign {
-        BinarySign::Plus => Value::Int(m.saturating_add(n)),
-        BinarySign::Minus => Value::Int(m.saturating_sub(n)),
-        BinarySign::Times => Value::Int(m.saturating_mul(n)),
-        BinarySign::Over => quotient(m, n),
-        BinarySign::Rest => remainder(m, n),
+        BinarySign::Plus => Some(m.saturating_add(n)),
+        BinarySign::Minus => Some(m.saturating_sub(n)),
+        BinarySign::Times => Some(m.saturating_mul(n)),
+        BinarySign::Over => Some(quotient(m, n)),
+        BinarySign::Rest => Some(remainder(m, n)),
+        _ => None,
+    }
+}
+
+fn compared(sign: BinarySign, m: i64, n: i64) -> Value
+    ensures { result ≡ spec.compared sign m n }
+{
+    match sign {
         BinarySign::Greater => Value::Bool(m > n),
         BinarySign::GreaterEqual => Value::Bool(m >= n),
         BinarySign::Less => Value::Bool(m < n),
@@ -122,25 +141,25 @@ fn over(sign: BinarySign, m: i64, n: i64) -> Value
     }
 }
 
-fn quotient(m: i64, n: i64) -> Value
-    ensures { result ≡ spec.quotient_of m n }
+fn quotient(m: i64, n: i64) -> i64
+    ensures { Value.Int result ≡ spec.quotient_of m n }
 {
     if n == 0 {
-        return Value::Int(0);
+        return 0;
     }
     match m.checked_div(n) {
-        Some(number) => Value::Int(number),
-        None => Value::Int(i64::MAX),
+        Some(number) => number,
+        None => i64::MAX,
     }
 }
 
-fn remainder(m: i64, n: i64) -> Value
-    ensures { result ≡ spec.rest_of m n }
+fn remainder(m: i64, n: i64) -> i64
+    ensures { Value.Int result ≡ spec.rest_of m n }
 {
     if n == 0 {
-        return Value::Int(0);
+        return 0;
     }
-    Value::Int(m.wrapping_rem(n))
+    m.wrapping_rem(n)
 }
 
 fn plus(alloc: Global, left: &Value, right: &Value) -> Result<Value, AllocError>

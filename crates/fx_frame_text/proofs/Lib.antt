@@ -1,3 +1,4 @@
 pub mod AlikeLemmas
 pub mod ChangeLemmas
 pub mod ImageLemmas
+pub mod SumLemmas

@@ -1,5 +1,5 @@
 //! Adding up the pixels of a frame that isn't written.
-ghost use Rattle.std.specs.Prelude.{◌≡◌, ◌≤◌, ◌<◌, ◌*◌, ◌^◌, length, sum};
+ghost use Rattle.std.specs.Prelude.{◌≡◌, ◌≤◌, ◌<◌, ◌*◌, ◌^◌, All, length, sum};
 ghost use Rattle.fx_frame_text.specs.Canvases.{image_on};
 ghost use Rattle.fx_frame_text.specs.Frames.{pixel_sum};
 
@@ -10,6 +10,7 @@ pub fn canvas_sum(canvas: &Canvas) -> u128
     ensures sum { result ≡ pixel_sum (image_on canvas.now) }
     ensures small { result ≤ 2 ^ 54 }
 {
+    canvas.laws();
     let mut total = 0u128;
     for y in 0..canvas.height() {
         total += u128::from(row_sum(canvas.row(y)));
@@ -17,14 +18,36 @@ pub fn canvas_sum(canvas: &Canvas) -> u128
     total
 }
 
+/// The most pixels, each of three bytes, that are added up as numbers of 32 bits.
+const FEW: usize = 256;
+
+/// The pixels of a row, each of three bytes, added up; few of them at a time, so that many are added at once.
 fn row_sum(row: &[u32]) -> u64
-    requires { length row.now ≤ 2048 }
+    requires short { length row.now ≤ 2048 }
+    requires bytes { All (λ pixel. pixel < 2 ^ 24) row.now }
     ensures sum { result ≡ sum row.now }
-    ensures small { result ≤ length row.now * 2 ^ 32 }
+    ensures small { result ≤ length row.now * 16777215 }
 {
     let mut total = 0u64;
-    for pixel in row {
-        total += u64::from(*pixel);
+    let mut at = 0;
+    while at < row.len() {
+        let end = row.len().min(at + FEW);
+        total += u64::from(part_sum(&row[at..end]));
+        at = end;
+    }
+    total
+}
+
+/// The pixels of a part of a row added up.
+fn part_sum(part: &[u32]) -> u32
+    requires few { length part.now ≤ 256 }
+    requires bytes { All (λ pixel. pixel < 2 ^ 24) part.now }
+    ensures sum { result ≡ sum part.now }
+    ensures small { result ≤ length part.now * 16777215 }
+{
+    let mut total = 0u32;
+    for pixel in part {
+        total += *pixel;
     }
     total
 }

@@ -1,9 +1,9 @@
 -- Several names read one after another, and flags that are put back.
-use Rattle.std.proofs.Common.{◌≡◌, ◌≤◌, ◌<◌, ◌+◌, ℕ, refl, Bool, true, false, not, List, [], ◌∷◌, ◌++◌, length, map, take, drop, sym, ap, subst, ◌∙◌, arith}
+use Rattle.std.proofs.Common.{◌≡◌, ◌≤◌, ◌<◌, ◌+◌, ◌&&◌, ℕ, refl, Bool, true, false, not, List, [], ◌∷◌, ◌++◌, length, map, take, drop, sym, ap, subst, ◌∙◌, arith}
 use Rattle.std.specs.List.{Contains}
 use Rattle.std.proofs.lemmas.Bool.{and_parts, both_ways}
 use Rattle.std.proofs.lemmas.List.{map-append, take-append-drop}
-use Rattle.std.proofs.lemmas.List.Elements.{All-contains, Contains-append_left}
+use Rattle.std.proofs.lemmas.List.Elements.{All-contains, Contains-append_left, Contains-push}
 use Rattle.fx_graph_model.specs.Changes.{State, AreKnown, IsReadInPart, IsSomeRead, after_read, after_read_all}
 use Rattle.fx_graph_model.specs.Uses.{unknown_in, uses}
 use Rattle.fx_graph_model.proofs.Changed.{known_within}
@@ -17,9 +17,10 @@ use Rattle.fx_graph_model.specs.Eager.{eager}
 use Rattle.fx_graph_model.specs.Unread.{marked, after_reading, after_reads, bound_unread, evaluations, evaluations_of, is_reached, IsClosed}
 use Rattle.fx_graph_model.specs.Sound.{IsSettled}
 use Rattle.fx_graph.specs.declared.lists.Lists.{Lists}
+use Rattle.fx_graph.specs.Reading.{ArePartRead}
 use Rattle.fx_graph.specs.Store.{Holds, IsStore, shown}
 use Rattle.fx_graph.proofs.StoreLemmas.{store_flags}
-use Rattle.fx_graph_model.proofs.ManyReads.{evaluations_more, evaluations_push, marked-reads, reads_again, reads_none, reads_push, reads_spent}
+use Rattle.fx_graph_model.proofs.ManyReads.{evaluations_more, evaluations_push, marked-reads, reached-at, reached-more, reads_again, reads_none, reads_push, reads_spent}
 
 not_marked : (before now : Bool) → (now ≡ true → before ≡ true) → before ≡ false → now ≡ false
 not_marked before true fewer off = absurd (both_ways before off (fewer refl))
@@ -176,6 +177,66 @@ looks_some first now names values cost cost' k =
       fewer = reads_fewer _ _ _ _ _ _ _ _ r;
       newly = ap (λ (s : State). s.newly) k.state;
     }
+
+reached_left : (was reached : Bool) → was ≡ true → (was && not reached) ≡ false → reached ≡ true
+reached_left true true was off = refl
+reached_left true false was off = absurd (both_ways true off refl)
+reached_left false reached was off = absurd (both_ways false refl was)
+
+-- what these reads left read is needed by one of the names
+reads_needed : (es : List Entry) (names : List ℕ) (before now : List Bool) (other : ℕ) → now ≡ after_reads es names before
+    → marked before other ≡ true → marked now other ≡ false → is_reached es names other ≡ true
+reads_needed es names before now other flags was off =
+    reached_left (marked before other) (is_reached es names other) was
+    (sym (marked-reads es names before other) ∙ sym (ap (λ (f : List Bool). marked f other) flags) ∙ off)
+
+-- nothing was read
+pub none_needed : (es : List Entry) (names : List ℕ) (flags : List Bool) → ArePartRead es names flags flags
+none_needed es names flags =
+    record {
+      flags = refl;
+      fewer = λ other on. on;
+      needed = λ other was off. absurd (both_ways (marked flags other) off was);
+    }
+
+-- some of the names were read
+pub looks_needed : (first now : Lists) (names all : List ℕ) (values : List Value) (cost cost' : ℕ)
+    → Looks first now names values cost cost' → ((n : ℕ) → Contains names n → Contains all n)
+    → ArePartRead first.entries.items all first.unread.items now.unread.items
+looks_needed first now names all values cost cost' k within =
+    let es = first.entries.items in
+    let r = looks_reads first now names values cost cost' k in
+    record {
+      flags = reads_long _ _ _ _ r.flags;
+      fewer = reads_fewer _ _ _ _ _ _ _ _ r;
+      needed = λ other was off.
+          reached-more es names all other within (reads_needed es names first.unread.items now.unread.items other r.flags was off);
+    }
+
+-- one name more was read in part
+pub looks_part_needed : (first now next : Lists) (names all : List ℕ) (name : ℕ) (values : List Value) (cost cost' : ℕ)
+    → Looks first now names values cost cost' → ((n : ℕ) → Contains (names ++ name ∷ []) n → Contains all n)
+    → IsReadInPart name (shown now) (shown next)
+    → ArePartRead first.entries.items all first.unread.items next.unread.items
+looks_part_needed first now next names all name values cost cost' k within p =
+    record {
+      flags = p.unread.flags ∙ so_far.flags;
+      fewer = λ other on. so_far.fewer other (p.unread.fewer other on);
+      needed = λ other was off. by_flag other (marked now.unread.items other) refl was off;
+    }
+  where
+    es : List Entry
+    es = first.entries.items
+
+    so_far : ArePartRead es all first.unread.items now.unread.items
+    so_far = looks_needed first now names all values cost cost' k (λ n c. within n (Contains-append_left names (name ∷ []) n c))
+
+    by_flag : (other : ℕ) (flag : Bool) → marked now.unread.items other ≡ flag → marked first.unread.items other ≡ true
+        → marked next.unread.items other ≡ false → is_reached es all other ≡ true
+    by_flag other true on was off =
+        reached-at es all name other (within name (Contains-push names name))
+        (rw (looks_entries first now names values cost cost' k) at (p.unread.needed other on off))
+    by_flag other false read was off = so_far.needed other was read
 
 -- the flags are put back after some names were read
 pub looked_back : (first now : Lists) (flags : List Bool) → Holds first → Holds now → IsSomeRead (shown first) (shown now)

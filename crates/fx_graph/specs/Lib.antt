@@ -1,4 +1,5 @@
 pub mod Asked
 pub mod Forgotten
 pub mod Given
+pub mod Reading
 pub mod Store

@@ -30,6 +30,7 @@ ghost use Rattle.fx_graph_model.specs.Changes as changes;
 ghost use Rattle.fx_base.specs.Answers.{IsAnswer, IsFirmAnswer};
 ghost use Rattle.fx_graph_model.specs.Refusals as refusals;
 ghost use Rattle.fx_graph.specs.Given.{ArePlain, AreReadOnly};
+ghost use Rattle.fx_graph.specs.Reading.{ArePartRead};
 ghost use Rattle.fx_graph_refusals.specs.Known.{known_kind, known_value};
 ghost use Rattle.fx_graph_refusals.specs.Known.{origin_in};
 
@@ -294,7 +295,8 @@ impl Graph {
         Ok(value)
     }
 
-    /// Reads these properties one after another. Where memory is wanting, some names may have been read.
+    /// Reads these properties one after another. Where memory is wanting, some names that they need may have been
+    /// read, and no others.
     pub fn read_all<L: Ledgers>(
         &mut self,
         alloc: Global,
@@ -305,6 +307,7 @@ impl Graph {
         ensures values { IfOk result (λ values. values.items ≡ map (eager self.old.entries) (numbers names.now)) }
         ensures ok { OnOk result (self.new ≡ changes.after_read_all (numbers names.now) self.old) }
         ensures part { changes.IsSomeRead self.old self.new }
+        ensures unread { ArePartRead self.old.entries (numbers names.now) self.old.unread self.new.unread }
         ensures cost { work.new.evaluated
             ≤ work.old.evaluated + evaluations_of self.old.entries (numbers names.now) self.old.unread }
         ensures others { work.new ≡ record work.old { evaluated = work.new.evaluated } }
@@ -313,7 +316,7 @@ impl Graph {
     }
 
     /// Reads these properties one after another, without a copy of their values. Where memory is wanting, some names
-    /// may have been read.
+    /// that they need may have been read, and no others.
     pub fn settle_all<L: Ledgers>(
         &mut self,
         alloc: Global,
@@ -323,6 +326,7 @@ impl Graph {
         requires { changes.AreKnown self.old.entries names.now }
         ensures ok { OnOk result (self.new ≡ changes.after_read_all (numbers names.now) self.old) }
         ensures part { changes.IsSomeRead self.old self.new }
+        ensures unread { ArePartRead self.old.entries (numbers names.now) self.old.unread self.new.unread }
         ensures cost { work.new.evaluated
             ≤ work.old.evaluated + evaluations_of self.old.entries (numbers names.now) self.old.unread }
         ensures others { work.new ≡ record work.old { evaluated = work.new.evaluated } }

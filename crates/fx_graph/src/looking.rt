@@ -7,6 +7,7 @@ ghost use Rattle.fx_graph_model.specs.Eager.{eager};
 ghost use Rattle.fx_graph_model.specs.Unread.{marked, evaluations_of};
 ghost use Rattle.fx_graph_model.specs.Changes.{after_read_all, IsSomeRead};
 ghost use Rattle.fx_graph_refusals.specs.Known.{known_value};
+ghost use Rattle.fx_graph.specs.Reading.{ArePartRead};
 ghost use Rattle.fx_graph.specs.Store.{Holds, shown};
 
 use crate::lists::Lists;
@@ -40,6 +41,8 @@ pub fn read_each<L: Ledgers>(
     requires known { (name : ℕ) → Contains (numbers names.now) name → name < length lists.old.entries.items }
     ensures holds { Holds lists.new }
     ensures part { IsSomeRead (shown lists.old) (shown lists.new) }
+    ensures unread { ArePartRead lists.old.entries.items (numbers names.now) lists.old.unread.items
+        lists.new.unread.items }
     ensures again { ((name : ℕ) → Contains (numbers names.now) name → marked lists.old.unread.items name ≡ false)
         → shown lists.new ≡ shown lists.old }
     ensures values { IfOk result (λ values. values.items
@@ -68,6 +71,8 @@ pub fn settle_each<L: Ledgers>(
     requires known { (name : ℕ) → Contains (numbers names.now) name → name < length lists.old.entries.items }
     ensures holds { Holds lists.new }
     ensures part { IsSomeRead (shown lists.old) (shown lists.new) }
+    ensures unread { ArePartRead lists.old.entries.items (numbers names.now) lists.old.unread.items
+        lists.new.unread.items }
     ensures ok { OnOk result (shown lists.new ≡ after_read_all (numbers names.now) (shown lists.old)) }
     ensures cost { work.new.evaluated ≤ work.old.evaluated
         + evaluations_of lists.old.entries.items (numbers names.now) lists.old.unread.items }
@@ -141,15 +146,26 @@ fn is_any_unread(names: &[Name], unread: &[bool]) -> bool
     false
 }
 
+/// Whether one of the flags is set. All are looked at, since the compiler then takes many at a time.
+fn is_one_of(flags: &[bool]) -> bool
+    ensures { result ≡ list_any (λ flag. flag) flags.now }
+{
+    let mut any = false;
+    for flag in flags {
+        any |= *flag;
+    }
+    any
+}
+
 /// Whether one of the first so many flags is set.
 fn is_one_set(flags: &[bool], count: usize) -> bool
     ensures { result ≡ list_any (λ flag. flag) (take count flags.now) }
 {
     if count >= flags.len() {
-        return flags.contains(&true);
+        return is_one_of(flags);
     }
     let (asked, _) = flags.split_at(count);
-    asked.contains(&true)
+    is_one_of(asked)
 }
 
 /// Whether any of so many names from this one on is unread.

@@ -1,7 +1,9 @@
 //! Reading: a walk downwards over what is unread, with a stack of its own, so that a long chain of bindings takes no
 //! deep recursion. Each value is kept, and counted once.
-ghost use Rattle.std.specs.Prelude.{ℕ, ◌≡◌, ◌≤◌, ◌<◌, ◌+◌, if◌then◌else◌, Contains, length, map, slice_set, IfOk, OnOk, true, false};
+ghost use Rattle.std.specs.Prelude.{ℕ, ◌≡◌, ◌≤◌, ◌<◌, ◌+◌, if◌then◌else◌, Contains, length, map, slice_set, IfOk, IsTrue, OnOk, true, false};
 ghost use Rattle.fx_base.specs.Names.{numbers};
+ghost use Rattle.fx_expr.specs.Tree.{tree, is_within};
+ghost use Rattle.fx_expr.specs.Meaning.{mean};
 ghost use Rattle.fx_graph_model.specs.Uses.{entry_of, uses, bound_in, operands_in, is_binding};
 ghost use Rattle.fx_graph_model.specs.Eager.{value_of_definition, eager};
 ghost use Rattle.fx_graph_model.specs.Unread.{marked, bound_unread, evaluations};
@@ -11,7 +13,7 @@ ghost use Rattle.fx_graph.specs.Store.{Holds, shown};
 
 use crate::lists::Lists;
 use fx_base::{Ledgers, Name, Value, Work};
-use fx_expr::eval;
+use fx_expr::{Expr, eval, number_over};
 use fx_graph_model::{Definition, Entry};
 use fx_graph_refusals::asking::is_marked;
 use std::alloc::{AllocError, Global};
@@ -50,6 +52,30 @@ fn kept_values(alloc: Global, operands: &[Name], cache: &[Value]) -> Result<Vec<
     Ok(values)
 }
 
+/// What the expression means over what is kept of its operands. Where numbers alone make it, nothing is copied.
+fn evaluate_bound<L: Ledgers>(
+    alloc: Global,
+    expr: &Expr,
+    operands: &[Name],
+    cache: &[Value],
+    work: &mut Work<L>,
+) -> Result<Value, AllocError>
+    requires places { IsTrue (is_within (tree expr.now) (length operands.now)) }
+    requires names { (name : ℕ) → Contains (numbers operands.now) name → name < length cache.now }
+    ensures value { IfOk result (λ value. value
+        ≡ mean (tree expr.now) (map (kept_value cache.now) (numbers operands.now))) }
+    ensures steps { OnOk result (work.new.evaluated ≡ work.old.evaluated + 1) }
+    ensures most { work.new.evaluated ≤ work.old.evaluated + 1 }
+    ensures others { work.new ≡ record work.old { evaluated = work.new.evaluated } }
+{
+    if let Some(number) = number_over(expr, operands, cache) {
+        work.evaluated.tick();
+        return Ok(Value::Int(number));
+    }
+    let values = kept_values(alloc, operands, cache)?;
+    eval(alloc, expr, values.as_slice(), work)
+}
+
 /// The value that is so defined, over what is kept of its operands.
 fn evaluate<L: Ledgers>(
     alloc: Global,
@@ -67,8 +93,7 @@ fn evaluate<L: Ledgers>(
     match definition {
         Definition::Base(value) => value.copy(alloc),
         Definition::Bound(expr, operands) => {
-            let values = kept_values(alloc, operands.as_slice(), cache)?;
-            eval(alloc, expr.as_expr(), values.as_slice(), work)
+            evaluate_bound(alloc, expr.as_expr(), operands.as_slice(), cache, work)
         }
         Definition::Forgotten => Ok(Value::Bool(false)),
     }

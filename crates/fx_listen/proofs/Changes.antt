@@ -1,5 +1,5 @@
 -- What an addition, a removal and forgetting leave: sorted listeners whose numbers were given.
-use Rattle.std.proofs.Common.{◌≡◌, ◌==◌, ℕ, zero, suc, ◌+◌, ◌-◌, ◌<◌, ◌≤◌, Bool, true, false, not, ◌||◌, leb, ltb, List, [], ◌∷◌, ◌++◌, length, get_or, take, drop, filter, slice_range, position, Option, Some, None, All, AllPairs, refl, sym, ◌∙◌, ap, inl, inr, arith}
+use Rattle.std.proofs.Common.{◌≡◌, ◌==◌, ℕ, zero, suc, ◌+◌, ◌-◌, ◌<◌, ◌≤◌, Bool, true, false, not, ◌||◌, leb, List, [], ◌∷◌, ◌++◌, length, get_or, take, drop, filter, slice_range, position, Option, Some, None, All, AllPairs, refl, sym, ◌∙◌, ap, inl, inr, arith}
 use Rattle.std.specs.List.{list_any, remove}
 use Rattle.std.proofs.lemmas.Bool.{and_left, cases_lt, cond_both, le-leb, leb-true, lt-leb, ltb-true, ne_eqb, or_parts}
 use Rattle.std.proofs.lemmas.List.{get_or-take, length-take-le, take-append-drop}
@@ -10,10 +10,11 @@ use Rattle.std.proofs.lemmas.List.Folds.{list_any-append, list_any_at, list_any_
 use Rattle.std.proofs.lemmas.List.Kept.{AllPairs-cons, AllPairs-filter}
 use Rattle.std.proofs.lemmas.List.Quantifiers.{position-Some}
 use Rattle.fx_handles.specs.declared.Owner.{Owner}
+use Rattle.fx_store_pairs.specs.Pairs.{is_among}
 use Rattle.fx_listen.specs.declared.entries.ListenKind.{ListenKind}
 use Rattle.fx_listen.specs.declared.entries.ListenKind.TheVariants.{Invalid}
 use Rattle.fx_listen.specs.declared.entries.Listener.{Listener}
-use Rattle.fx_listen.specs.Listening.{IsBefore, IsSound, Table, after_add, after_forget, after_remove, is_elsewhere, is_equal, is_live, living_in, placed, pruned, tells, without_first}
+use Rattle.fx_listen.specs.Listening.{IsBefore, IsSound, Table, after_add, after_forget, after_forget_all, after_remove, is_elsewhere, is_equal, is_live, living_in, placed, pruned, tells, without_first}
 use Rattle.fx_listen.specs.Sorting.{IsByName, IsFirst, is_above, is_below, is_upto}
 use Rattle.fx_listen.proofs.Cuts.{AllPairs-append, AllPairs-head, AllPairs-tail, list_any-placeless}
 
@@ -218,3 +219,13 @@ sound_forgotten name table sound =
       sorted = AllPairs-filter IsBefore (is_elsewhere name) table.entries sound.sorted;
       given = All-filter (is_elsewhere name) (λ (l : Listener). l.number ≤ table.given) table.entries sound.given;
     }
+
+pub sound_forgotten_all : (names : List ℕ) (table : Table) → IsSound table → IsSound (after_forget_all names table)
+sound_forgotten_all names table sound =
+    record {
+      sorted = AllPairs-filter IsBefore stays table.entries sound.sorted;
+      given = All-filter stays (λ (l : Listener). l.number ≤ table.given) table.entries sound.given;
+    }
+  where
+    stays : Listener → Bool
+    stays l = not (is_among names l.name.0)

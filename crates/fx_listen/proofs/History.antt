@@ -4,7 +4,7 @@ use Rattle.std.specs.List.{range_with_len}
 use Rattle.std.proofs.lemmas.Bool.{and_from, and_right, cases_Bool, cond_both}
 use Rattle.fx_handles.proofs.Given.{range_with_len-suc}
 use Rattle.fx_listen.specs.declared.entries.Listener.{Listener}
-use Rattle.fx_listen.specs.Laws.{EachNumberOnce, LeadsTo, PruningIsSilent, none, added, removed, forgotten}
+use Rattle.fx_listen.specs.Laws.{EachNumberOnce, LeadsTo, PruningIsSilent, none, added, removed, forgotten, all_forgotten}
 use Rattle.fx_listen.specs.Listening.{Table, is_live, living_in, nobody, numbers_of}
 use Rattle.fx_listen.proofs.Cuts.{filter-filter, filter-same}
 
@@ -19,6 +19,7 @@ given_is _ _ (added {listeners} {table} living listener next before) =
     omega (arith, next, given_is listeners table before, length-append listeners (listener ∷ []))
 given_is _ _ (removed {listeners} {table} test before) = given_is listeners table before
 given_is _ _ (forgotten {listeners} {table} name before) = given_is listeners table before
+given_is _ _ (all_forgotten {listeners} {table} names before) = given_is listeners table before
 
 pub each_number_once : EachNumberOnce
 each_number_once _ _ none = refl
@@ -31,6 +32,7 @@ each_number_once _ _ (added {listeners} {table} living listener next before) =
     ∙ sym (ap (range_with_len 1) (more ∙ add-one (length listeners)) ∙ range_with_len-suc 1 (length listeners))
 each_number_once _ _ (removed {listeners} {table} test before) = each_number_once listeners table before
 each_number_once _ _ (forgotten {listeners} {table} name before) = each_number_once listeners table before
+each_number_once _ _ (all_forgotten {listeners} {table} names before) = each_number_once listeners table before
 
 pub pruning_is_silent : PruningIsSilent
 pruning_is_silent living later entries lived =

@@ -17,6 +17,8 @@ pub data LeadsTo (first : spec.Table) : List Listener → spec.Table → Type 0 
       → LeadsTo first listeners table → LeadsTo first listeners (spec.after_remove test table)
   forgotten : {listeners : List Listener} {table : spec.Table} (name : ℕ)
       → LeadsTo first listeners table → LeadsTo first listeners (spec.after_forget name table)
+  all_forgotten : {listeners : List Listener} {table : spec.Table} (names : List ℕ)
+      → LeadsTo first listeners table → LeadsTo first listeners (spec.after_forget_all names table)
 
 -- the listeners that are added from the start on have the numbers 1, 2, 3 and so on
 abbrev pub EachNumberOnce : Type 0

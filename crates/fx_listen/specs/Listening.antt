@@ -5,6 +5,7 @@ use Rattle.std.specs.Prelude.{ℕ, ◌==◌, ◌≡◌, ◌<◌, ◌≤◌, ◌�
 use Rattle.std.specs.List.{list_any}
 use Rattle.fx_handles.specs.declared.Owner.{Owner}
 use Rattle.fx_handles.specs.Living.{is_same}
+use Rattle.fx_store_pairs.specs.Pairs.{is_among}
 use Rattle.fx_listen.specs.declared.ListenError.{ListenError}
 use Rattle.fx_listen.specs.declared.ListenError.TheVariants.{StaleOwner, Full}
 use Rattle.fx_listen.specs.declared.entries.ListenKind.{ListenKind}
@@ -86,6 +87,13 @@ is_elsewhere name listener = not (listener.name.0 == name)
 -- nobody listens to the property any more
 abbrev pub after_forget : ℕ → Table → Table
 after_forget name table = record table { entries = filter (is_elsewhere name) table.entries }
+
+-- nobody listens to these properties any more
+abbrev pub after_forget_all : List ℕ → Table → Table
+after_forget_all names table =
+    record table {
+      entries = filter (λ (listener : Listener). not (is_among names listener.name.0)) table.entries;
+    }
 
 -- the owner must be alive; and then 10,000 may be live, and numbers end
 abbrev pub add_refusal : List Owner → Option Owner → Table → Option ListenError

@@ -1,13 +1,15 @@
 //! One listener, and what is found among listeners that are sorted by property. `Listeners` keeps one such list.
-ghost use Rattle.std.specs.Prelude.{◌≡◌, ◌==◌, false, ◌&&◌, ◌++◌, ◌<◌, ◌≤◌, drop, filter, length, map, nat_le, position, slice_range, take, vec_capacity, vec_len, IfNone, IfOk, IfSome, OnErr, OnOk};
+ghost use Rattle.std.specs.Prelude.{◌≡◌, ◌==◌, false, ◌&&◌, ◌++◌, ◌<◌, ◌≤◌, drop, filter, length, map, nat_le, not, position, slice_range, take, vec_capacity, vec_len, IfNone, IfOk, IfSome, OnErr, OnOk};
 ghost use Rattle.std.specs.List.{find, list_any};
 ghost use Rattle.std.specs.Option.{option_map};
 ghost use Rattle.fx_listen.specs.Listening as spec;
+ghost use Rattle.fx_store_pairs.specs.Pairs.{is_among};
 ghost use Rattle.fx_listen.specs.Sorting.{IsByName, IsFirst, is_above, is_below, is_from, is_heard, is_on, is_upto};
 
 use crate::MOST_LIVE;
 use fx_base::Name;
 use fx_handles::{Owner, Owners};
+use fx_store_pairs::Searched;
 use std::alloc::{AllocError, Global};
 
 /// How a listener is told of a change, as by JavaFX's `InvalidationListener` and `ChangeListener`.
@@ -305,4 +307,12 @@ pub fn forget(listeners: &mut Vec<Listener>, name: Name)
     if first < next {
         listeners.drain(first..next);
     }
+}
+
+/// Takes out all on these properties. All are looked at, in one pass.
+pub fn forget_all(listeners: &mut Vec<Listener>, names: &Searched)
+    ensures { listeners.new.items
+        ≡ filter (λ listener. not (is_among names.now listener.name.0)) listeners.old.items }
+{
+    listeners.retain(|listener| !names.has(listener.name));
 }

@@ -10,12 +10,13 @@ ghost use Rattle.fx_base.specs.Answers.{IsAnswer};
 ghost use Rattle.fx_listen.specs.Listening as spec;
 ghost use Rattle.std.specs.List.{find, list_any};
 ghost use Rattle.std.specs.Option.{option_map};
-ghost use Rattle.std.specs.Prelude.{◌≡◌, ◌==◌, ◌&&◌, ◌+◌, filter, IfOk, OnErr, OnOk};
+ghost use Rattle.std.specs.Prelude.{◌≡◌, ◌==◌, ◌&&◌, ◌+◌, filter, length, IfOk, OnErr, OnOk};
 
 use entries::{heard, is_any_heard, is_full_of_living, listeners_on, numbers_heard};
 pub use entries::{ListenKind, Listener, has_life};
 use fx_base::Name;
 use fx_handles::{Owner, Owners};
+use fx_store_pairs::Searched;
 pub use laws::{
     additions_are_of_the_living, births_revive_nobody, forgetting_is_of_the_living,
     numbers_are_given_once, pruning_is_silent, releases_end_their_own, removals_are_of_the_living,
@@ -154,6 +155,20 @@ impl Listeners {
         ensures { self.new ≡ spec.after_forget name.0 self.old }
     {
         entries::forget(&mut self.entries, name);
+    }
+
+    /// Removes all listeners of these properties, in one pass over all.
+    pub fn forget_all(&mut self, names: &Searched)
+        ensures { self.new ≡ spec.after_forget_all names.now self.old }
+    {
+        entries::forget_all(&mut self.entries, names);
+    }
+
+    /// How many listeners are on the property, the dead among them.
+    pub fn count_on(&self, name: Name) -> usize
+        ensures { result ≡ length (filter (λ listener. listener.name.0 == name.0) self.now.entries) }
+    {
+        listeners_on(self.entries.as_slice(), name).len()
     }
 
     /// The numbers of the live ones of this kind on the property, rising.

@@ -7,3 +7,4 @@ pub mod ShapeLemmas
 pub mod LineLemmas
 pub mod GlyphLemmas
 pub mod PixelLemmas
+pub mod EdgeLemmas

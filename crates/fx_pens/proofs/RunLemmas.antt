@@ -33,16 +33,23 @@ middle_places g (suc (suc (suc zero))) h = omega arith
 middle_places g (suc (suc (suc (suc zero)))) h = omega arith
 middle_places g (suc (suc (suc (suc (suc r))))) h = absurd (omega (arith, h))
 
-pub left_bit : (g r : ℕ) → r < 5 → (g / 2 ^ (12 - 3 * r) / 4 % 2 == 1) ≡ has_dot g 0 r
+left_bit : (g r : ℕ) → r < 5 → (g / 2 ^ (12 - 3 * r) / 4 % 2 == 1) ≡ has_dot g 0 r
 left_bit g r h = ap (λ n. n % 2 == 1) (left_places g r h) ∙ sym (shifted_bit g r 0 h (omega arith))
 
-pub middle_bit : (g r : ℕ) → r < 5 → (g / 2 ^ (12 - 3 * r) / 2 % 2 == 1) ≡ has_dot g 1 r
+middle_bit : (g r : ℕ) → r < 5 → (g / 2 ^ (12 - 3 * r) / 2 % 2 == 1) ≡ has_dot g 1 r
 middle_bit g r h = ap (λ n. n % 2 == 1) (middle_places g r h) ∙ sym (shifted_bit g r 1 h (omega arith))
 
-pub right_bit : (g r : ℕ) → r < 5 → (g / 2 ^ (12 - 3 * r) % 2 == 1) ≡ has_dot g 2 r
+right_bit : (g r : ℕ) → r < 5 → (g / 2 ^ (12 - 3 * r) % 2 == 1) ≡ has_dot g 2 r
 right_bit g r h =
     let same : 12 - 3 * r ≡ 14 - (3 * r + 2) = omega arith in
     ap (λ n. g / 2 ^ n % 2 == 1) same ∙ sym (shifted_bit g r 2 h (omega arith))
+
+-- the last three bits of a number
+abbrev bits_in : ℕ → Bits
+bits_in three = record { left = three / 4 % 2 == 1; middle = three / 2 % 2 == 1; right = three % 2 == 1 }
+
+pub three_bits : (g r : ℕ) → r < 5 → bits_in (g / 2 ^ (12 - 3 * r)) ≡ bits_of g r
+three_bits g r h = rw (left_bit g r h, middle_bit g r h, right_bit g r h) refl
 
 -- ---- wherever the bits begin
 pub row_is_char : (pen : Pen) (start : ℤ) (c x : ℕ) → 0 < pen.scale → 1 ≤ cell_width c

@@ -1,12 +1,14 @@
 -- A colour laid over a part of a row.
-use Rattle.std.proofs.Common.{suc, replicate, lit<, inl, inr, get_or-drop, ◌≡◌, ◌<◌, ◌≤◌, ℕ, ◌+◌, ◌-◌, ◌*◌, List, [], ◌∷◌, ◌++◌, cond, length, get_or, take, drop, map, ◌∙◌, ap, refl, arith, length-take, length-drop, length-append}
+use Rattle.std.proofs.Common.{suc, replicate, lit<, inl, inr, get_or-drop, ◌≡◌, ◌<◌, ◌≤◌, ℕ, ◌+◌, ◌-◌, ◌*◌, List, [], ◌∷◌, ◌++◌, cond, length, get_or, take, drop, map, ◌∙◌, ap, sym, refl, arith, length-take, length-drop, length-append}
 use borrow.Rule.Slice.PartMut.{mid_of, post_of, put_mid, mid_len, Post-is}
 use Rattle.std.proofs.lemmas.Bool.Decides.{leb_tells}
-use Rattle.std.proofs.lemmas.List.{get_or_append_left, get_or-append_right, get_or-map, get_or-take, length-map}
+use Rattle.std.proofs.lemmas.List.{get_or_append_left, get_or-append_right, get_or-map, get_or-take, length-map, length-replicate, replicate-append-replicate, take-append-drop, take-append-le, take-replicate}
 use Rattle.std.proofs.lemmas.Nat.{div-mul-add}
 use Rattle.fx_base.specs.Pixel.{blended, channel, pixel_of, red_of, green_of, blue_of}
 use Rattle.fx_base.specs.declared.color.Color.{Color}
+use Rattle.fx_lanes.proofs.Rows.{Made, made_all, made_block}
 use Rattle.fx_pens.specs.Dots.{is_in}
+use lib.Lanes.{put_chunk}
 
 abbrev pub SpanChanged : Color → ℕ → ℕ → List ℕ → List ℕ → Type 0
 SpanChanged color from to old new = (x : ℕ) → x < length old → get_or new x 0 ≡ cond (is_in from to x) (blended color (get_or old x 0)) (get_or old x 0)
@@ -84,3 +86,24 @@ length-put a e xs ys rise within same =
     let back : post_of a (e - a) xs ≡ drop e xs = Post-is a e xs rise in
     let tail : length (post_of a (e - a) xs) ≡ length xs - e = ap (λ (l : List ℕ). length l) back ∙ length-drop e xs in
     length-append (take a xs) (ys ++ post_of a (e - a) xs) ∙ (ap (λ n. length (take a xs) + n) (length-append ys (post_of a (e - a) xs)) ∙ omega (arith, length-take a xs, same, tail))
+
+-- the last few places written over, where the front has the colour up to them
+pub made_behind : (old row : List ℕ) (color at few : ℕ) → few ≤ length old → length old - few ≤ at → Made old row (replicate at color) at
+    → put_chunk (length old - few) row (replicate few color) ≡ replicate (length old) color
+made_behind old row color at few room past made =
+    let last = length old - few in
+    let long : length row ≡ length old =
+    ap length made.parts ∙ (length-append (replicate at color) (drop at old) ∙ omega (arith, length-replicate at color, length-drop at old, made.within)) in
+    let reaches : last ≤ length (replicate at color) = omega (arith, length-replicate at color, past) in
+    let front : take last row ≡ replicate last color =
+    ap (λ l. take last l) made.parts ∙ (take-append-le last (replicate at color) (drop at old) reaches ∙ take-replicate last at color past) in
+    let here : Made row row (replicate last color) last = record {
+      within = omega (arith, long, room);
+      long = length-replicate last color;
+      parts = sym (take-append-drop last row) ∙ ap (λ l. l ++ drop last row) front;
+    } in
+    let whole : last + few ≡ length old = omega (arith, room) in
+    made_all row (put_chunk last row (replicate few color)) (replicate last color ++ replicate few color) (last + few)
+    (made_block row row (replicate last color) (replicate few color) last few here (length-replicate few color) (omega (arith, long, whole)))
+    (omega (arith, long, whole))
+    ∙ (replicate-append-replicate last few color ∙ ap (λ n. replicate n color) whole)

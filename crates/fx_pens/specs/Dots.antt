@@ -1,8 +1,9 @@
 -- What painting does to one row: the dots are laid over once each, and counted.
-use Rattle.std.specs.Prelude.{◌≡◌, ◌<◌, ◌≤◌, ℕ, ℤ, pos, Bool, ◌&&◌, ◌||◌, ◌+◌, ◌-◌, ◌*◌, ◌/◌, ◌+ℤ◌, ◌-ℤ◌, List, count_by, length, nat_le, nat_lt, slice_index, if◌then◌else◌}
+use Rattle.std.specs.Prelude.{◌≡◌, ◌<◌, ◌≤◌, ℕ, ℤ, pos, Bool, ◌&&◌, ◌||◌, ◌+◌, ◌-◌, ◌*◌, ◌/◌, ◌+ℤ◌, ◌-ℤ◌, ◌≤ℤ◌, List, count_by, length, nat_le, nat_lt, slice_index, if◌then◌else◌}
 use Rattle.std.specs.List.{range_with_len}
 use Rattle.fx_base.specs.Pixel.{blended}
 use Rattle.fx_base.specs.declared.color.Color.{Color}
+use Rattle.fx_pens.specs.declared.parts.Edges.{Edges}
 use Rattle.fx_pens.specs.declared.runs.Bits.{Bits}
 use Rattle.fx_pens.specs.declared.spans.Pen.{Pen}
 use Rattle.fx_cells.specs.Columns.{cell_width, cells_of}
@@ -55,6 +56,20 @@ row_dots pen start bits x =
     ((bits.left && bit_dots pen start x)
     || (bits.middle && bit_dots pen (start +ℤ pos (1 * pen.scale)) x))
     || (bits.right && bit_dots pen (start +ℤ pos (2 * pen.scale)) x)
+
+-- no edge lies before another one
+pub record DoRise (edges : Edges) : Type 0 where
+  pub left : edges.first ≤ℤ edges.second
+  pub middle : edges.second ≤ℤ edges.third
+  pub right : edges.third ≤ℤ edges.end
+
+-- in the pen's columns, each of three bits that begin here lies from one edge on and before the next
+pub record AreEdges (pen : Pen) (start : ℤ) (edges : Edges) : Type 0 where
+  pub left : (x : ℕ) → x < pen.right → in_range edges.first edges.second x ≡ bit_dots pen start x
+  pub middle : (x : ℕ) → x < pen.right
+      → in_range edges.second edges.third x ≡ bit_dots pen (start +ℤ pos (1 * pen.scale)) x
+  pub right : (x : ℕ) → x < pen.right
+      → in_range edges.third edges.end x ≡ bit_dots pen (start +ℤ pos (2 * pen.scale)) x
 
 -- the row of a glyph that the pen paints, in the first of the cells of a character that begin here
 unfoldable pub char_dots : Pen → ℤ → ℕ → ℕ → Bool

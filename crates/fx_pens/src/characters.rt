@@ -33,7 +33,7 @@ fn found_width(c: char) -> u64
 
 /// The bits of a row of a glyph.
 #[inline(always)]
-#[tactic(auto, using(crate::proofs::RunLemmas::left_bit, crate::proofs::RunLemmas::middle_bit, crate::proofs::RunLemmas::right_bit))]
+#[tactic(auto, using(crate::proofs::RunLemmas::three_bits))]
 pub(crate) fn bits_of(glyph: u16, row: u64) -> Bits
     requires { row < 5 }
     ensures { result ≡ bits_of glyph row }

@@ -1,12 +1,13 @@
 //! One row of letters. Where they begin far off or are huge, each bit is cut to the row by itself.
 ghost use Rattle.std.specs.Prelude.{◌≡◌, ◌≤◌, ◌^◌, ◌+ℤ◌, ◌≤ℤ◌, ◌<◌, ◌*◌, ◌/◌, pos, negsuc, chars, true, IfSome};
-ghost use Rattle.fx_pens.specs.Dots.{IsInk, IsLaid, IsPen, char_dots, line_dots, row_dots};
+ghost use Rattle.std.specs.Int.{int_max, int_min};
+ghost use Rattle.fx_pens.specs.Dots.{AreEdges, DoRise, IsInk, IsLaid, IsPen, char_dots, line_dots};
 
 use crate::characters::{bits_of, width_of};
-use crate::near::{is_near, lay_near};
-use crate::runs::Bits;
-use crate::spans::{Pen, ink, lay_bit};
-use fx_base::{Steps, Text};
+use crate::near::lay_near;
+use crate::parts::{Edges, lay_edges};
+use crate::spans::Pen;
+use fx_base::Steps;
 use fx_cells::glyph;
 use std::sync::ledger::Ledger;
 
@@ -14,19 +15,23 @@ use std::sync::ledger::Ledger;
 pub(crate) fn lay_line<P: Ledger>(
     row: &mut [u32],
     pen: &Pen,
+    ink: Option<u32>,
+    is_near: bool,
     first: i64,
     text: &str,
     painted: &mut Steps<P>,
 )
-    requires { IsPen pen.now row.old }
+    requires pen { IsPen pen.now row.old }
+    requires ink { IfSome ink (IsInk pen.now.color) }
+    requires scale { is_near ≡ true → pen.now.scale ≤ 65536 }
+    requires near { is_near ≡ true → negsuc (2 ^ 40) ≤ℤ first }
     ensures { IsLaid pen.now (line_dots pen.now first (chars text.now)) row.old row.new painted.old painted.new }
 {
     let line = pen.below / pen.scale;
     if line >= 5 {
         return;
     }
-    let ink = ink(pen.color);
-    if is_near(pen, first) {
+    if is_near {
         lay_near(row, pen, ink, line, first, text, painted);
     } else {
         lay_far(row, pen, ink, line, first, text, painted);
@@ -82,54 +87,41 @@ fn lay_character<P: Ledger>(
         return;
     }
     let bits = bits_of(glyph(c), line);
-    lay_bits(row, pen, ink, start, bits, painted);
+    lay_edges(row, pen, ink, edges_from(pen, start), bits, painted);
 }
 
-/// Whether all three bits lie before the pen's columns.
-fn is_before(pen: &Pen, start: i128) -> bool
+/// The edges of the bits that begin at this column, as far as a window shows them.
+fn edges_from(pen: &Pen, start: i128) -> Edges
+    requires near { pen.now.right ≤ 65536 }
     requires scale { pen.now.scale ≤ 9223372036854775807 }
     requires least { negsuc (2 ^ 70) ≤ℤ start }
     requires most { start ≤ℤ pos (2 ^ 70) }
-    ensures { result ≡ true → (start +ℤ pos (3 * pen.now.scale)) ≤ℤ pos pen.now.left }
+    ensures rises { DoRise result }
+    ensures edges { AreEdges pen.now start result }
 {
-    behind(start, pen.scale, 3) <= pen.left as i128
+    let first = clamped(start);
+    let second = clamped(behind(start, pen.scale, 1));
+    let third = clamped(behind(start, pen.scale, 2));
+    let end = clamped(behind(start, pen.scale, 3));
+    Edges {
+        first,
+        second,
+        third,
+        end,
+    }
 }
 
-/// Paints the bits of a glyph's row that begins at this column, each cut to the pen's columns.
-fn lay_bits<P: Ledger>(
-    row: &mut [u32],
-    pen: &Pen,
-    ink: Option<u32>,
-    start: i128,
-    bits: Bits,
-    painted: &mut Steps<P>,
-)
-    requires pen { IsPen pen.now row.old }
-    requires ink { IfSome ink (IsInk pen.now.color) }
-    requires least { negsuc (2 ^ 70) ≤ℤ start }
-    requires most { start ≤ℤ pos (2 ^ 70) }
-    ensures { IsLaid pen.now (row_dots pen.now start bits) row.old row.new painted.old painted.new }
+/// A column, or the nearest one to it of a window and beside it.
+fn clamped(at: i128) -> i64
+    ensures { result ≡ int_min (int_max at (negsuc 0)) (pos 65536) }
 {
-    if is_before(pen, start) {
-        return;
+    if at < -1 {
+        return -1;
     }
-    lay_bit(row, pen, ink, start, bits.left, painted);
-    lay_bit(
-        row,
-        pen,
-        ink,
-        behind(start, pen.scale, 1),
-        bits.middle,
-        painted,
-    );
-    lay_bit(
-        row,
-        pen,
-        ink,
-        behind(start, pen.scale, 2),
-        bits.right,
-        painted,
-    );
+    if at > 65536 {
+        return 65536;
+    }
+    at as i64
 }
 
 /// So many scales behind a column.

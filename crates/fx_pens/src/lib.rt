@@ -2,14 +2,14 @@
 //! counted. It stands on the picture, below the canvas.
 #![tactic(auto)]
 
+mod brushes;
 mod characters;
 mod letters;
 mod near;
 mod parts;
 mod pixels;
 mod runs;
-mod shapes;
 mod spans;
 
-pub use shapes::lay_shape;
+pub use brushes::Brush;
 pub use spans::{Columns, Pen};

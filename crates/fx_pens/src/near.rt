@@ -13,11 +13,11 @@ use fx_cells::glyph;
 use std::sync::ledger::Ledger;
 
 /// Whether the first column and the scale are small numbers.
-pub(crate) fn is_near(pen: &Pen, first: i64) -> bool
-    ensures scale { result ≡ true → pen.now.scale ≤ 65536 }
+pub(crate) fn is_near(scale: u64, first: i64) -> bool
+    ensures scale { result ≡ true → scale ≤ 65536 }
     ensures near { result ≡ true → negsuc (2 ^ 40) ≤ℤ first }
 {
-    pen.scale <= 65536 && first >= -1_099_511_627_776
+    scale <= 65536 && first >= -1_099_511_627_776
 }
 
 /// Paints the row of a text whose first cell begins at this column.

@@ -1,6 +1,7 @@
 //! The row of a glyph of which the edges of the pen's columns may cut a part off.
-ghost use Rattle.std.specs.Prelude.{◌≡◌, ◌≤◌, ◌<◌, ◌&&◌, ◌*◌, ◌/◌, ◌^◌, ◌≤ℤ◌, ◌+ℤ◌, pos, negsuc, true, IfSome};
-ghost use Rattle.fx_pens.specs.Dots.{IsInk, IsLaid, IsPen, bit_dots, char_dots, row_dots};
+ghost use Rattle.std.specs.Prelude.{◌≡◌, ◌≤◌, ◌<◌, ◌&&◌, ◌*◌, ◌/◌, ◌^◌, ◌≤ℤ◌, ◌+ℤ◌, ℤ, pos, negsuc, true, IfSome};
+ghost use Rattle.fx_picture.specs.Bounds.{in_range};
+ghost use Rattle.fx_pens.specs.Dots.{AreEdges, DoRise, IsInk, IsLaid, IsPen, char_dots, row_dots};
 
 use crate::characters::{bits_of, width_of};
 use crate::runs::Bits;
@@ -32,80 +33,94 @@ pub(crate) fn lay_cut<P: Ledger>(
     if width_of(c) == 0 {
         return;
     }
-    lay_parts(row, pen, ink, start, bits_of(glyph(c), line), painted);
+    lay_edges(
+        row,
+        pen,
+        ink,
+        edges_from(pen, start),
+        bits_of(glyph(c), line),
+        painted,
+    );
 }
 
-/// Paints three bits, of which the first begins at this column.
+/// Where a row of a glyph is cut into its three bits.
+#[derive(Clone, Copy)]
+pub(crate) struct Edges {
+    pub(crate) first: i64,
+    pub(crate) second: i64,
+    pub(crate) third: i64,
+    pub(crate) end: i64,
+}
+
+/// The edges of the bits that begin at this column.
 #[inline(always)]
-fn lay_parts<P: Ledger>(
+fn edges_from(pen: &Pen, start: i64) -> Edges
+    requires scale { pen.now.scale ≤ 65536 }
+    requires least { negsuc (2 ^ 40) ≤ℤ start }
+    requires most { start ≤ℤ pos 65536 }
+    ensures rises { DoRise result }
+    ensures edges { AreEdges pen.now start result }
+{
+    let second = further(start, pen.scale, 1);
+    let third = further(start, pen.scale, 2);
+    let end = further(start, pen.scale, 3);
+    Edges {
+        first: start,
+        second,
+        third,
+        end,
+    }
+}
+
+/// Paints the bits of a row of a glyph, each cut to the pen's columns.
+#[inline(always)]
+pub(crate) fn lay_edges<P: Ledger>(
     row: &mut [u32],
     pen: &Pen,
     ink: Option<u32>,
-    start: i64,
+    edges: Edges,
     bits: Bits,
     painted: &mut Steps<P>,
 )
     requires pen { IsPen pen.now row.old }
     requires ink { IfSome ink (IsInk pen.now.color) }
-    requires scale { pen.now.scale ≤ 65536 }
-    requires least { negsuc (2 ^ 40) ≤ℤ start }
-    requires most { start ≤ℤ pos 65536 }
-    ensures { IsLaid pen.now (row_dots pen.now start bits) row.old row.new painted.old painted.new }
+    requires rises { DoRise edges }
+    ensures { (start : ℤ) → AreEdges pen.now start edges
+        → IsLaid pen.now (row_dots pen.now start bits) row.old row.new painted.old painted.new }
 {
-    if is_before(pen, start) {
+    if edges.end <= pen.left as i64 {
         return;
     }
-    lay_part(row, pen, ink, start, bits.left, painted);
-    lay_part(
-        row,
-        pen,
-        ink,
-        further(start, pen.scale, 1),
-        bits.middle,
-        painted,
-    );
-    lay_part(
-        row,
-        pen,
-        ink,
-        further(start, pen.scale, 2),
-        bits.right,
-        painted,
-    );
+    let Edges {
+        first,
+        second,
+        third,
+        end,
+    } = edges;
+    lay_part(row, pen, ink, first, second, bits.left, painted);
+    lay_part(row, pen, ink, second, third, bits.middle, painted);
+    lay_part(row, pen, ink, third, end, bits.right, painted);
 }
 
-/// Whether all three bits lie before the pen's columns.
-#[inline(always)]
-fn is_before(pen: &Pen, start: i64) -> bool
-    requires left { pen.now.left ≤ 65536 }
-    requires scale { pen.now.scale ≤ 65536 }
-    requires least { negsuc (2 ^ 40) ≤ℤ start }
-    requires most { start ≤ℤ pos 65536 }
-    ensures { result ≡ true → (start +ℤ pos (3 * pen.now.scale)) ≤ℤ pos pen.now.left }
-{
-    further(start, pen.scale, 3) <= pen.left as i64
-}
-
-/// Paints one bit of a glyph that begins at this column, if the bit is set.
+/// Paints one bit of a glyph, from one edge on and before another, if the bit is set.
 #[inline(always)]
 fn lay_part<P: Ledger>(
     row: &mut [u32],
     pen: &Pen,
     ink: Option<u32>,
     start: i64,
+    end: i64,
     set: bool,
     painted: &mut Steps<P>,
 )
     requires pen { IsPen pen.now row.old }
     requires ink { IfSome ink (IsInk pen.now.color) }
-    requires scale { pen.now.scale ≤ 65536 }
-    requires least { negsuc (2 ^ 41) ≤ℤ start }
-    requires most { start ≤ℤ pos (2 ^ 20) }
-    ensures { IsLaid pen.now (λ x. set && bit_dots pen.now start x) row.old row.new painted.old painted.new }
+    requires rises { start ≤ℤ end }
+    ensures { IsLaid pen.now (λ x. set && in_range start end x) row.old row.new painted.old painted.new }
 {
     if set {
         let from = cut(pen, start);
-        let to = cut(pen, further(start, pen.scale, 1));
+        let to = cut(pen, end);
         lay_span(row, pen, ink, from, to, painted);
     }
 }

@@ -1,8 +1,8 @@
 //! One colour over a part of a row.
-ghost use Rattle.std.specs.Prelude.{◌≡◌, ◌≤◌, ◌+ℤ◌, ◌≤ℤ◌, ◌&&◌, ◌+◌, ◌-◌, ℕ, pos, negsuc, ◌^◌, IfSome, length, map, replicate};
+ghost use Rattle.std.specs.Prelude.{◌≡◌, ◌≤◌, IfSome, length, map, replicate};
 ghost use Rattle.fx_base.specs.Pixel.{blended, pixel_of};
 ghost use Rattle.fx_lanes.specs.Blending.{packed_color};
-ghost use Rattle.fx_pens.specs.Dots.{IsInk, IsLaid, IsPen, bit_dots, is_in};
+ghost use Rattle.fx_pens.specs.Dots.{IsInk, IsLaid, IsPen, is_in};
 
 use fx_base::{Color, Steps};
 use fx_lanes::{blend_row, fill};
@@ -48,53 +48,6 @@ pub(crate) fn lay_span<P: Ledger>(
     painted.add((to - from) as u64);
 }
 
-/// Paints one bit of a glyph that begins at this column, if the bit is set.
-pub(crate) fn lay_bit<P: Ledger>(
-    row: &mut [u32],
-    pen: &Pen,
-    ink: Option<u32>,
-    start: i128,
-    set: bool,
-    painted: &mut Steps<P>,
-)
-    requires pen { IsPen pen.now row.old }
-    requires ink { IfSome ink (IsInk pen.now.color) }
-    requires least { negsuc (2 ^ 100) ≤ℤ start }
-    requires most { start ≤ℤ pos (2 ^ 100) }
-    ensures { IsLaid pen.now (λ x. set && bit_dots pen.now start x) row.old row.new painted.old painted.new }
-{
-    if set {
-        let from = cut(pen, start);
-        let to = cut(pen, behind(start, pen.scale));
-        lay_span(row, pen, ink, from, to, painted);
-    }
-}
-
-/// A column, cut to the pen's.
-pub(crate) fn cut(pen: &Pen, at: i128) -> usize
-    requires rises { pen.now.left ≤ pen.now.right }
-    requires near { pen.now.right ≤ 65536 }
-    ensures low { at ≤ℤ pos pen.now.left → result ≡ pen.now.left }
-    ensures among { pos pen.now.left ≤ℤ at → at ≤ℤ pos pen.now.right → pos result ≡ at }
-    ensures high { pos pen.now.right ≤ℤ at → result ≡ pen.now.right }
-{
-    if at <= pen.left as i128 {
-        return pen.left;
-    }
-    if at >= pen.right as i128 {
-        return pen.right;
-    }
-    at as usize
-}
-
-fn behind(start: i128, scale: u64) -> i128
-    requires least { negsuc (2 ^ 100) ≤ℤ start }
-    requires most { start ≤ℤ pos (2 ^ 100) }
-    ensures { result ≡ start +ℤ pos scale }
-{
-    start + i128::from(scale)
-}
-
 /// Lays a colour over all of a row, where `ink` is what it makes of any pixel.
 #[inline(always)]
 fn lay_color(row: &mut [u32], color: Color, ink: Option<u32>)
@@ -133,18 +86,32 @@ fn blend(row: &mut [u32], color: Color)
     blend_row(row, packed(color));
 }
 
-/// Writes a colour, 0x00RRGGBB, to every pixel of a short row.
+/// Writes a colour, 0x00RRGGBB, to every pixel of a short row: by blocks of four, of which the last may lie over a part
+/// of the one before, so that no pixel is left for itself.
 #[inline(always)]
 fn write_few(row: &mut [u32], color: u32)
     ensures { row.new ≡ replicate (length row.old) color }
 {
+    if row.len() < 4 {
+        write_each(row, color);
+        return;
+    }
     let lanes = u32x4::splat(color);
+    let last = row.len() - 4;
     let mut at = 0;
-    while row.len() - at >= 4 {
+    while at < last {
         lanes.copy_to_slice(&mut row[at..]);
         at += 4;
     }
-    for i in at..row.len() {
+    lanes.copy_to_slice(&mut row[last..]);
+}
+
+/// Writes a colour to one pixel after another.
+#[inline(always)]
+fn write_each(row: &mut [u32], color: u32)
+    ensures { row.new ≡ replicate (length row.old) color }
+{
+    for i in 0..row.len() {
         row[i] = color;
     }
 }

@@ -10,3 +10,4 @@ mod walking;
 
 pub use laws::{joined_is_walked, joining_is_an_equivalence, joining_is_least, pairs_are_joined};
 pub use pairs::Pairs;
+pub use searching::Searched;

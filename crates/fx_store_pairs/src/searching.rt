@@ -38,6 +38,13 @@ impl<'a> Searched<'a> {
         }
     }
 
+    /// Whether no name is below the one before it, so that each is found by halves.
+    pub fn do_rise(&self) -> bool
+        ensures { result ≡ rises_from 0 self.now }
+    {
+        self.do_rise
+    }
+
     /// Whether the name is one of these.
     pub fn has(&self, name: Name) -> bool
         ensures { result ≡ stands_among self.now name.0 }

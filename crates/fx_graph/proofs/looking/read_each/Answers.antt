@@ -3,7 +3,7 @@ use Rattle.fx_base.specs.Names.{name_of}
 use Rattle.fx_base.specs.declared.work.Work.{Work}
 use Rattle.fx_graph_edges.proofs.RowLemmas.{number_at, numbers_more}
 use Rattle.fx_graph.specs.Store.{shown}
-use Rattle.fx_graph.proofs.LookLemmas.{first_names, looks_entries, looks_more, looks_part, looks_reads, looks_some, looks_start, reads_spent_all, reads_stopped, reads_unchanged}
+use Rattle.fx_graph.proofs.LookLemmas.{first_names, looks_entries, looks_more, looks_needed, looks_part, looks_part_needed, looks_reads, looks_some, looks_start, reads_spent_all, reads_stopped, reads_unchanged}
 use Rattle.fx_graph.proofs.looking.read_each.Goals as goal
 
 pub loop-name-init : goal.loop-name-init
@@ -19,6 +19,14 @@ value_of-requires-clause-known g c =
 
 pub returns-in_err-value-clause-part : goal.returns-in_err-value-clause-part
 returns-in_err-value-clause-part g c = looks_part c.args.lists.now c.loop-name.lists c.value_of.new.lists _ _ _ _ _ c.loop-name.invariant.0 c.value_of.ensures.part
+
+pub returns-in_err-value-clause-unread : goal.returns-in_err-value-clause-unread
+returns-in_err-value-clause-unread g c =
+    let i = c.loop-name.name-index in
+    let names = c.args.names.now in
+    looks_part_needed c.args.lists.now c.loop-name.lists c.value_of.new.lists _ _ _ _ _ _ c.loop-name.invariant.0
+    (λ n h. first_names names (i + 1) n (subst (λ (xs : List ℕ). Contains xs n) (sym (numbers_more names i (name_of 0) c.loop-name-test.true)) h))
+    c.value_of.ensures.part
 
 pub returns-in_err-value-clause-again : goal.returns-in_err-value-clause-again
 returns-in_err-value-clause-again g c = λ off.
@@ -44,6 +52,14 @@ returns-in_err-value-clause-cost g c =
 
 pub returns-in_err-push-clause-part : goal.returns-in_err-push-clause-part
 returns-in_err-push-clause-part g c = looks_part c.args.lists.now c.loop-name.lists c.value_of.new.lists _ _ _ _ _ c.loop-name.invariant.0 c.value_of.ensures.part
+
+pub returns-in_err-push-clause-unread : goal.returns-in_err-push-clause-unread
+returns-in_err-push-clause-unread g c =
+    let i = c.loop-name.name-index in
+    let names = c.args.names.now in
+    looks_part_needed c.args.lists.now c.loop-name.lists c.value_of.new.lists _ _ _ _ _ _ c.loop-name.invariant.0
+    (λ n h. first_names names (i + 1) n (subst (λ (xs : List ℕ). Contains xs n) (sym (numbers_more names i (name_of 0) c.loop-name-test.true)) h))
+    c.value_of.ensures.part
 
 pub returns-in_err-push-clause-again : goal.returns-in_err-push-clause-again
 returns-in_err-push-clause-again g c = λ off.
@@ -80,6 +96,10 @@ returns-clause-holds g c = c.loop-name.invariant.0.holds
 
 pub returns-clause-part : goal.returns-clause-part
 returns-clause-part g c = looks_some _ _ _ _ _ _ c.loop-name.invariant.0
+
+pub returns-clause-unread : goal.returns-clause-unread
+returns-clause-unread g c =
+    looks_needed _ _ _ _ _ _ _ c.loop-name.invariant.0 (first_names c.args.names.now c.loop-name.name-index)
 
 pub returns-clause-again : goal.returns-clause-again
 returns-clause-again g c = λ off.

@@ -3,7 +3,7 @@ use Rattle.fx_base.specs.Names.{name_of}
 use Rattle.fx_base.specs.declared.work.Work.{Work}
 use Rattle.fx_graph_edges.proofs.RowLemmas.{number_at, numbers_more}
 use Rattle.fx_graph_model.specs.Eager.{eager}
-use Rattle.fx_graph.proofs.LookLemmas.{first_names, looks_entries, looks_more, looks_part, looks_reads, looks_some, looks_start, reads_spent_all, reads_stopped}
+use Rattle.fx_graph.proofs.LookLemmas.{first_names, looks_entries, looks_more, looks_needed, looks_part, looks_part_needed, looks_reads, looks_some, looks_start, reads_spent_all, reads_stopped}
 use Rattle.fx_graph.proofs.looking.settle_each.Goals as goal
 
 pub loop-name-init : goal.loop-name-init
@@ -20,6 +20,14 @@ settle-requires-clause-known g c =
 pub returns-in_err-settle-clause-part : goal.returns-in_err-settle-clause-part
 returns-in_err-settle-clause-part g c =
     looks_part c.args.lists.now c.loop-name.lists c.settle.new.lists _ _ _ _ _ c.loop-name.invariant.0.1
+    c.in_err-settle.ensures.part
+
+pub returns-in_err-settle-clause-unread : goal.returns-in_err-settle-clause-unread
+returns-in_err-settle-clause-unread g c =
+    let i = c.loop-name.name-index in
+    let names = c.args.names.now in
+    looks_part_needed c.args.lists.now c.loop-name.lists c.settle.new.lists _ _ _ _ _ _ c.loop-name.invariant.0.1
+    (λ n h. first_names names (i + 1) n (subst (λ (xs : List ℕ). Contains xs n) (sym (numbers_more names i (name_of 0) c.loop-name-test.true)) h))
     c.in_err-settle.ensures.part
 
 pub returns-in_err-settle-clause-cost : goal.returns-in_err-settle-clause-cost
@@ -49,6 +57,10 @@ returns-clause-holds g c = c.loop-name.invariant.0.1.holds
 
 pub returns-clause-part : goal.returns-clause-part
 returns-clause-part g c = looks_some _ _ _ _ _ _ c.loop-name.invariant.0.1
+
+pub returns-clause-unread : goal.returns-clause-unread
+returns-clause-unread g c =
+    looks_needed _ _ _ _ _ _ _ c.loop-name.invariant.0.1 (first_names c.args.names.now c.loop-name.name-index)
 
 pub returns-clause-cost : goal.returns-clause-cost
 returns-clause-cost g c =

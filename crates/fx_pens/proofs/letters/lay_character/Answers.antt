@@ -17,5 +17,5 @@ pub returns : goal.returns
 returns g c =
     let wide : 1 ≤ cell_width c.args.c = omega (arith, c.width_of.ensures.width, c.if-width_of-eq0.false) in
     char_laid c.args.pen.now (to_z w128 (of_z w128 c.args.start)) c.args.start c.args.c c.glyph.result c.args.line c.bits_of-bits.result c.args.row.now
-    c.args.row.now c.lay_bits.new.row c.args.painted.now c.lay_bits.new.painted c.requires.pen (to_z-of_z w128 c.args.start c.ranges.start)
-    c.bits_of-bits.ensures c.glyph.ensures.value c.requires.line wide c.lay_bits.ensures
+    c.args.row.now c.lay_edges.new.row c.args.painted.now c.lay_edges.new.painted c.requires.pen (to_z-of_z w128 c.args.start c.ranges.start)
+    c.bits_of-bits.ensures c.glyph.ensures.value c.requires.line wide (c.lay_edges.ensures _ c.edges_from.ensures.edges)

@@ -16,5 +16,5 @@ pub returns : goal.returns
 returns g c =
     let wide : 1 ≤ cell_width c.args.c = omega (arith, c.width_of.ensures.width, c.if-width_of-eq0.false) in
     char_laid c.args.pen.now (to_z w64 (of_z w64 c.args.start)) c.args.start c.args.c c.glyph.result c.args.line c.bits_of.result c.args.row.now
-    c.args.row.now c.lay_parts.new.row c.args.painted.now c.lay_parts.new.painted c.requires.pen (to_z-of_z w64 c.args.start c.ranges.start)
-    c.bits_of.ensures c.glyph.ensures.value c.requires.line wide c.lay_parts.ensures
+    c.args.row.now c.lay_edges.new.row c.args.painted.now c.lay_edges.new.painted c.requires.pen (to_z-of_z w64 c.args.start c.ranges.start)
+    c.bits_of.ensures c.glyph.ensures.value c.requires.line wide (c.lay_edges.ensures _ c.edges_from.ensures.edges)

@@ -1,7 +1,7 @@
-use Rattle.std.proofs.Common.{◌≡◌, ◌+ℤ◌, ◌∙◌, ◌&&◌, pos, ap, sym, arith, rules, w64, FitsSigned}
-use Rattle.std.proofs.lemmas.Int.{ints, to_z-of_z}
+use Rattle.std.proofs.Common.{◌&&◌, ◌∙◌, ap, sym, FitsSigned, w64}
+use Rattle.std.proofs.lemmas.Int.{to_z-of_z}
 use Rattle.fx_picture.specs.Bounds.{in_range}
-use Rattle.fx_pens.specs.Dots.{bit_dots, is_in}
+use Rattle.fx_pens.specs.Dots.{is_in}
 use Rattle.fx_pens.proofs.DotLemmas.{laid-none, laid-same}
 use Rattle.fx_pens.proofs.CutLemmas.{bit_span}
 use Rattle.fx_pens.proofs.parts.lay_part.Goals as goal
@@ -10,22 +10,20 @@ pub returns-then-set : goal.returns-then-set
 returns-then-set g c =
     let pen = c.args.pen.now in
     let start : FitsSigned w64 c.args.start = c.ranges.start in
-    let end : FitsSigned w64 c.further.result = search rules in
-    let once = simp to_z-of_z at c.further.ensures.value in
-    let behind : c.further.result ≡ c.args.start +ℤ pos pen.scale = omega (arith, ints, once) in
+    let end : FitsSigned w64 c.args.end = c.ranges.end in
     let low = simp to_z-of_z at c.cut-from.ensures.low in
     let among = simp to_z-of_z at c.cut-from.ensures.among in
     let high = simp to_z-of_z at c.cut-from.ensures.high in
     let low_end = simp to_z-of_z at c.cut-to.ensures.low in
     let among_end = simp to_z-of_z at c.cut-to.ensures.among in
     let high_end = simp to_z-of_z at c.cut-to.ensures.high in
-    laid-same pen (is_in c.cut-from.result c.cut-to.result) (λ x. c.args.set && bit_dots pen c.args.start x)
+    laid-same pen (is_in c.cut-from.result c.cut-to.result) (λ x. c.args.set && in_range c.args.start c.args.end x)
     c.args.row.now c.lay_span.new.row c.args.painted.now c.lay_span.new.painted
-    (λ x a b. bit_span pen.left pen.right c.cut-from.result c.cut-to.result x c.args.start c.further.result a b low among high low_end among_end high_end
-    ∙ (ap (λ e. in_range c.args.start e x) behind ∙ ap (λ t. t && bit_dots pen c.args.start x) (sym c.if-set.true)))
+    (λ x a b. bit_span pen.left pen.right c.cut-from.result c.cut-to.result x c.args.start c.args.end a b low among high low_end among_end high_end
+    ∙ ap (λ t. t && in_range c.args.start c.args.end x) (sym c.if-set.true))
     c.requires.pen.rises c.lay_span.ensures
 
 pub returns-else-set : goal.returns-else-set
 returns-else-set g c =
-    laid-none c.args.pen.now (λ x. c.args.set && bit_dots c.args.pen.now c.args.start x) c.args.row.now c.args.painted.now c.requires.pen.rises
-    (λ x a b. ap (λ t. t && bit_dots c.args.pen.now c.args.start x) c.if-set.false)
+    laid-none c.args.pen.now (λ x. c.args.set && in_range c.args.start c.args.end x) c.args.row.now c.args.painted.now c.requires.pen.rises
+    (λ x a b. ap (λ t. t && in_range c.args.start c.args.end x) c.if-set.false)

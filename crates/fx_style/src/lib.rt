@@ -14,7 +14,6 @@ mod parting;
 mod putting;
 mod recoding;
 mod rewriting;
-mod same;
 mod styles;
 
 pub use checking::can_be_styled;

@@ -11,6 +11,7 @@ mod node_styles;
 mod paints;
 mod recoding;
 mod rooms;
+mod same;
 mod styling;
 mod values;
 
@@ -19,5 +20,6 @@ pub use laws::rows_are_named;
 pub use node_styles::NodeStyle;
 pub use recoding::{are_recoded, has_bound, write_bound};
 pub use rooms::Room;
+pub use same::is_same_look;
 pub use styling::{Ground, restyle, style_in};
 pub use values::Winning;

@@ -13,4 +13,5 @@ pub mod ChainLaws
 pub mod OnceLemmas
 pub mod IdleLemmas
 pub mod RecodedLemmas
-pub mod RewriteLemmas
+pub mod PartingLemmas
+pub mod PartedLemmas

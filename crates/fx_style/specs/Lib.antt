@@ -2,6 +2,7 @@ pub mod Above
 pub mod Changes
 pub mod Kept
 pub mod Lasts
+pub mod Parting
 pub mod Places
 pub mod Plans
 pub mod Rewriting

@@ -10,10 +10,10 @@ mod laws;
 mod making;
 mod marks;
 mod memory;
+mod parting;
 mod putting;
 mod recoding;
 mod rewriting;
-mod same;
 mod styles;
 
 pub use checking::can_be_styled;

@@ -5,11 +5,10 @@ ghost use Rattle.fx_style.specs.Kept.{put_looks, put_rest, rest_of};
 ghost use Rattle.fx_style.specs.Changes.{IsNoted, NamesChanges};
 
 use crate::kept::{Fresh, Rest};
-use crate::same::is_same_look;
 use fx_base::{List, NodeKey};
 use fx_look::Look;
 use fx_lookup::NamedPaint;
-use fx_node_style::{NodeStyle, Room};
+use fx_node_style::{NodeStyle, Room, is_same_look};
 use std::alloc::{AllocError, Global};
 use std::mem;
 

@@ -1,10 +1,11 @@
 //! The looks of all nodes, kept from one update to the next.
-ghost use Rattle.std.specs.Prelude.{◌≡◌, ◌+◌, ◌<◌, [], ℕ, false, true, IfOk, IfSome, OnErr, OnOk, is_some, length, map, slice_get, slice_index_or};
+ghost use Rattle.std.specs.Prelude.{◌≡◌, ◌+◌, ◌<◌, [], ℕ, List, false, true, IfOk, IfSome, OnErr, OnOk, is_some, length, map, slice_get, slice_index_or};
 ghost use Rattle.std.specs.Option.{option_copied};
 ghost use Rattle.fx_select.specs.Chains.{ParentsStandBefore};
 ghost use Rattle.fx_style.specs.Changes.{NamesChanges};
-ghost use Rattle.fx_style.specs.Kept.{AreDifferent, HaveDifferentKeys, fresh_at, kept_at, put_looks, put_rest};
+ghost use Rattle.fx_style.specs.Kept.{AreDifferent, HaveDifferentKeys, fresh_at, is_among, put_looks, put_rest};
 ghost use Rattle.fx_style.specs.Lasts.{AreStylesOf};
+ghost use Rattle.fx_style.specs.Parting.{IsParted};
 ghost use Rattle.fx_style.specs.Rewriting.{rewritten_at};
 ghost use Rattle.fx_style.specs.Rules.{AreIndexed, HaveRows, IsUpdate, KeepsOthers, kept_of, needs, worked};
 ghost use Rattle.fx_style.specs.Turns.{ArePut, AreRightBelow, HaveKeysOf};
@@ -14,8 +15,9 @@ use crate::kept::{Fresh, Rest};
 use crate::making::{Old, Scene, made};
 use crate::marks::marked;
 use crate::memory::Memory;
+use crate::parting::{Parts, parts_of};
 use crate::putting::{blank_looks, blank_rest, changed_places, places_of};
-use crate::rewriting::{are_recoded_there, places_of_others, rewrite};
+use crate::rewriting::{places_of_all, rewrite};
 use fx_base::{Ledgers, Work};
 use fx_kinds::StyleFacts;
 use fx_look::Look;
@@ -130,42 +132,108 @@ impl Styles {
               + worked (needs restyle.now (kept_of self.old scene.entry.facts.now)) (length scene.entry.facts.now);
         }) }
     {
-        let marks = marked(alloc, restyle, scene.facts.len())?;
-        let stay = self.stays(scene.facts.len());
-        if stay && are_recoded_there(scene, self.rest.as_slice(), marks.as_slice()) {
-            return self.rewrite(alloc, scene.facts, marks.as_slice(), memory, work);
+        if let Some(parts) = self.parted(alloc, scene, restyle)? {
+            return self.update_parts(alloc, scene, &parts, memory, work);
         }
+        let stay = self.stays(scene.facts.len());
         let fresh = self.fresh(alloc, scene, stay, restyle, &mut memory, work)?;
         let changed = self.changes(alloc, stay, fresh.as_slice())?;
         self.put(alloc, scene.facts, stay, fresh, changed, memory)
     }
 
-    /// Writes the lengths that bindings give into what is kept of the marked nodes, and keeps the memory.
-    fn rewrite<L: Ledgers>(
+    /// The nodes of an update apart, if what is kept are the styles of other facts, and no node comes, goes or moves.
+    fn parted(
+        &self,
+        alloc: Global,
+        scene: Scene<'_>,
+        restyle: &[usize],
+    ) -> Result<Option<Parts>, AllocError>
+        requires before { ParentsStandBefore scene.facts.now }
+        requires last { IfSome (option_copied scene.last) (AreStylesOf scene.sheets.now scene.facts.now restyle.now
+            self.now.looks self.now.rest) }
+        ensures { IfOk result (λ found. IfSome found (λ parts. IsParted scene.entry.sheets.now scene.entry.facts.now
+            restyle.now self.now parts.there.items parts.left.items)) }
+    {
+        if !self.stays(scene.facts.len()) {
+            return Ok(None);
+        }
+        let marks = marked(alloc, restyle, scene.facts.len())?;
+        parts_of(alloc, scene, self.rest.as_slice(), marks.as_slice())
+    }
+
+    /// Styles the nodes that are left anew, and writes the lengths that bindings give into what is kept of the others
+    /// that are listed.
+    fn update_parts<L: Ledgers>(
         &mut self,
+        alloc: Global,
+        scene: Scene<'_>,
+        parts: &Parts,
+        mut memory: Memory,
+        work: &mut Work<L>,
+    ) -> Result<(), AllocError>
+        requires before { ParentsStandBefore scene.facts.now }
+        requires keys { AreDifferent scene.facts.now }
+        requires sheets { AreIndexed scene.index.now scene.sheets.now }
+        requires codes { HaveRows scene.facts.now }
+        requires looks { length self.old.looks ≡ length scene.facts.now }
+        requires rest { length self.old.rest ≡ length scene.facts.now }
+        requires there { length parts.now.there.items ≡ length scene.facts.now }
+        ensures styles { OnOk result ((restyle : List ℕ) → IsParted scene.entry.sheets.now scene.entry.facts.now restyle
+            self.old parts.now.there.items parts.now.left.items
+            → IsUpdate scene.entry.sheets.now scene.entry.facts.now restyle self.old self.new) }
+        ensures changed { OnOk result (KeepsOthers self.old self.new) }
+        ensures err { OnErr result (self.new ≡ self.old) }
+        ensures cost { OnOk result ((restyle : List ℕ) → IsParted scene.entry.sheets.now scene.entry.facts.now restyle
+            self.old parts.now.there.items parts.now.left.items
+            → work.new ≡ record work.old {
+              styled = work.old.styled
+                  + worked (needs restyle (kept_of self.old scene.entry.facts.now)) (length scene.entry.facts.now);
+            }) }
+    {
+        let bare = Scene {
+            index: scene.index,
+            sheets: scene.sheets,
+            facts: scene.facts,
+            last: None,
+        };
+        let fresh = self.fresh(alloc, bare, true, parts.left.as_slice(), &mut memory, work)?;
+        let there = parts.there.as_slice();
+        let changed = self.changes_of_all(alloc, scene.facts, there, fresh.as_slice())?;
+        self.put(alloc, scene.facts, true, fresh, changed, memory)?;
+        self.rewrite(scene.facts, there, work);
+        Ok(())
+    }
+
+    /// The places whose looks may be others once the fresh entries stand there, and the lengths of the marked ones.
+    fn changes_of_all(
+        &self,
         alloc: Global,
         facts: &[StyleFacts],
         marks: &[bool],
-        memory: Memory,
-        work: &mut Work<L>,
-    ) -> Result<(), AllocError>
+        fresh: &[Fresh],
+    ) -> Result<Vec<usize>, AllocError>
+        requires looks { length self.now.looks ≡ length facts.now }
+        requires marks { length marks.now ≡ length facts.now }
+        ensures lengths { IfOk result (λ places. (at : ℕ) → is_among places.items at ≡ false
+            → rewritten_at marks.now facts.now self.now.looks at ≡ slice_get self.now.looks at) }
+        ensures named { IfOk result (λ places. NamesChanges self.now.looks fresh.now places.items) }
+    {
+        places_of_all(alloc, self.looks.as_slice(), facts, marks, fresh)
+    }
+
+    /// Writes the lengths that bindings give into what is kept of the marked nodes.
+    fn rewrite<L: Ledgers>(&mut self, facts: &[StyleFacts], marks: &[bool], work: &mut Work<L>)
         requires looks { length self.old.looks ≡ length facts.now }
         requires marks { length marks.now ≡ length facts.now }
-        ensures long { OnOk result (length self.new.looks ≡ length self.old.looks) }
-        ensures looks { OnOk result ((at : ℕ) → slice_get self.new.looks at
-            ≡ rewritten_at marks.now facts.now self.old.looks at) }
-        ensures rest { OnOk result (self.new.rest ≡ self.old.rest) }
-        ensures changed { OnOk result (KeepsOthers self.old self.new) }
-        ensures err { OnErr result (self.new ≡ self.old) }
-        ensures cost { OnOk result (work.new ≡ record work.old {
+        ensures long { length self.new.looks ≡ length self.old.looks }
+        ensures looks { (at : ℕ) → slice_get self.new.looks at ≡ rewritten_at marks.now facts.now self.old.looks at }
+        ensures rest { self.new.rest ≡ self.old.rest }
+        ensures changed { self.new.changed ≡ self.old.changed }
+        ensures cost { work.new ≡ record work.old {
           styled = work.old.styled + worked (λ at. slice_index_or marks.now at false) (length facts.now);
-        }) }
+        } }
     {
-        let changed = places_of_others(alloc, self.looks.as_slice(), facts, marks)?;
         rewrite(&mut self.looks, facts, marks, work);
-        self.changed = changed;
-        self.memory = memory;
-        Ok(())
     }
 
     /// Are there as many entries as nodes now, so that what is kept may stay in its places?

@@ -4,7 +4,8 @@ ghost use Rattle.std.specs.Prelude.{◌≡◌, IsTrue};
 use fx_base::{Same, Sides};
 use fx_look::Look;
 
-pub(crate) fn is_same_look(one: &Look, other: &Look) -> bool
+/// Whether two looks surely are the same, field by field; a no says nothing. No list is copied.
+pub fn is_same_look(one: &Look, other: &Look) -> bool
     ensures { IsTrue result → one.now ≡ other.now }
 {
     are_same_places(one, other)

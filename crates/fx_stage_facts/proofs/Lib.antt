@@ -8,5 +8,6 @@ pub mod PlaceLemmas
 pub mod PublishLemmas
 pub mod ReadLemmas
 pub mod RefillLemmas
+pub mod StayingLemmas
 pub mod TreeLemmas
 pub mod ValueLemmas

@@ -6,8 +6,8 @@ use Rattle.std.specs.Str.{bytes_eq}
 use Rattle.std.proofs.lemmas.Bool.{cases_lt}
 use Rattle.std.proofs.Math.Seq.{take-suc}
 use Rattle.std.proofs.lemmas.Grind.{flat_map-append}
-use Rattle.std.proofs.lemmas.List.{append-nil, get_or-append-add, get_or_append_left, length-append}
-use Rattle.std.proofs.lemmas.List.Elements.{All-append, All-contains, All-cons, All-head, All-nil, All-tail, All-weaker, Contains-get_or}
+use Rattle.std.proofs.lemmas.List.{append-nil, append_assoc, get_or-append-add, get_or_append_left, length-append}
+use Rattle.std.proofs.lemmas.List.Elements.{All-append, All-contains, All-cons, All-filter, All-head, All-nil, All-tail, All-weaker, Contains-get_or, filter-append}
 use Rattle.std.proofs.lemmas.List.FromFn.{get_or-range_with_len, length-range_with_len}
 use Rattle.std.proofs.lemmas.List.Quantifiers.{position-Some}
 use Rattle.fx_base.specs.Names.{name_of}
@@ -23,6 +23,7 @@ use Rattle.fx_graph_model.specs.declared.errors.GraphError.{GraphError}
 use Rattle.fx_graph_model.specs.declared.errors.GraphError.TheVariants.{Unknown, WrongKind}
 use Rattle.fx_graph_model.specs.Equality.{same_kind}
 use Rattle.fx_graph_model.specs.Refusals.{kind_at, pair_names, publish_refusal, read_only_in, unknown_name, wrong_kind}
+use Rattle.fx_graph_model.specs.Sound.{AreSound}
 use Rattle.fx_graph_model.specs.Uses.{unknown_in}
 use Rattle.fx_graph_model.proofs.Members.{contains_first, contains_later}
 use Rattle.fx_kinds.specs.Properties.{properties_of}
@@ -34,6 +35,7 @@ use Rattle.fx_stage_model.specs.World.{World}
 use Rattle.fx_store_model.specs.declared.changes.Change.TheVariants.{Publish}
 use Rattle.fx_store_model.specs.Refusals.{of_graph_refusal, refusal}
 use Rattle.fx_store_model.specs.Step.{IsFit}
+use Rattle.fx_store_model.specs.Stored.{Stored}
 use Rattle.fx_base.specs.Answers.{or_else}
 use Rattle.fx_store_model.specs.declared.errors.StoreError.{StoreError}
 use Rattle.fx_stage_types.specs.declared.answers.Outcome.{Outcome}
@@ -41,7 +43,8 @@ use Rattle.fx_stage_types.specs.declared.answers.StageError.{StageError}
 use Rattle.fx_stage_model.specs.Answers.{cost_of}
 use Rattle.fx_stage_model.specs.Properties.{by_store, changed}
 use Rattle.fx_stage_model.specs.Taking.{IsTaken, IsUnfinished}
-use Rattle.fx_stage_facts.specs.Publishing.{AreOnce, Size, is_number, is_size, pair_of, pairs_at, pairs_in, pairs_of, published, size_if, size_named, sized, sized_by}
+use Rattle.fx_stage_facts.specs.Publishing.{AreOnce, Size, differing, differs, is_number, is_size, pair_of, pairs_at, pairs_in, pairs_of, published, size_if, size_named, sized, sized_by}
+use Rattle.fx_stage_facts.proofs.StayingLemmas.{fewer_fit, same_published}
 use Rattle.fx_stage_facts.proofs.ValueLemmas.{named, same_name, some_property}
 
 abbrev Pair : Type 0
@@ -282,15 +285,35 @@ module _ (world : World) (sound : IsSound world.store.entries world.graph.table 
         (pairs_of world sizes) (all_right sizes),
   )
 
-  pub publish_allowed : (sizes : List Size) → refusal (Publish (pairs_of world sizes)) world.store ≡ None
+  allowed : (pairs : List Pair) → All IsRight pairs → refusal (Publish pairs) world.store ≡ None
   unfolding refusal publish_refusal
-  publish_allowed sizes =
-      let right = all_right sizes in
+  allowed pairs right =
       let unknown =
-      none_unknown (pairs_of world sizes)
-      (All-weaker IsRight (λ (pair : Pair). is_size world.store.entries pair.0.0 ≡ true) (λ pair is. is.0) (pairs_of world sizes) right) in
-      ap (λ (o : Option GraphError). of_graph_refusal (or_else o (wrong_kind world.store.entries (pairs_of world sizes)))) unknown
-      ∙ ap of_graph_refusal (none_wrong (pairs_of world sizes) right)
+      none_unknown pairs
+      (All-weaker IsRight (λ (pair : Pair). is_size world.store.entries pair.0.0 ≡ true) (λ pair is. is.0) pairs
+      right) in
+      ap (λ (o : Option GraphError). of_graph_refusal (or_else o (wrong_kind world.store.entries pairs))) unknown
+      ∙ ap of_graph_refusal (none_wrong pairs right)
+
+  pub publish_allowed : (sizes : List Size) → refusal (Publish (pairs_of world sizes)) world.store ≡ None
+  publish_allowed sizes = allowed (pairs_of world sizes) (all_right sizes)
+
+  -- and so it is without the sizes that stay
+
+  pub differing_fits : (sizes : List Size) → AreOnce sizes
+      → IsFit (Publish (differing world.store (pairs_of world sizes))) world.store
+  differing_fits sizes once = fewer_fit world.store (pairs_of world sizes) (publish_fits sizes once)
+
+  pub same_changed : (sizes : List Size) → AreOnce sizes → AreSound world.store.entries
+      → changed (Publish (differing world.store (pairs_of world sizes))) world
+      ≡ changed (Publish (pairs_of world sizes)) world
+  unfolding changed
+  same_changed sizes once right =
+      ap (by_store (Publish (differing world.store (pairs_of world sizes))) world)
+      (allowed (differing world.store (pairs_of world sizes))
+      (All-filter (differs world.store) IsRight (pairs_of world sizes) (all_right sizes)))
+      ∙ ap Ok (same_published world (pairs_of world sizes) right (publish_fits sizes once))
+      ∙ sym (ap (by_store (Publish (pairs_of world sizes)) world) (publish_allowed sizes))
 
   -- so what the stage answers of that change is what is said of a publication
 
@@ -318,18 +341,31 @@ module _ (world : World) (sound : IsSound world.store.entries world.graph.table 
       subst (λ (o : Option StoreError). new ≤ old + cost_of (by_store (Publish (pairs_of world sizes)) world o))
       (publish_allowed sizes) few
 
+-- two parts one behind the other
+pub two_pushed : (store : Stored) (before between first second : List Pair) → between ≡ before ++ differing store first
+    → between ++ differing store second ≡ before ++ differing store (first ++ second)
+two_pushed store before between first second pushed =
+    ap (λ (ps : List Pair). ps ++ differing store second) pushed
+    ∙ append_assoc before (differing store first) (differing store second)
+    ∙ ap (λ (ps : List Pair). before ++ ps) (sym (filter-append (differs store) first second))
+
 -- one node more
 pub pairs_next : (world : World) (sizes : List Size) (place : ℕ) (d : Size) (before now : List Pair) → place < length sizes
-    → now ≡ before ++ pairs_at world (get_or sizes place d) → before ≡ pairs_of world (take place sizes)
-    → now ≡ pairs_of world (take (place + 1) sizes)
+    → now ≡ before ++ differing world.store (pairs_at world (get_or sizes place d))
+    → before ≡ differing world.store (pairs_of world (take place sizes))
+    → now ≡ differing world.store (pairs_of world (take (place + 1) sizes))
 pairs_next world sizes place d before now within pushed before_is =
     let next : take (place + 1) sizes ≡ take place sizes ++ get_or sizes place d ∷ [] =
     ap (λ (n : ℕ). take n sizes) (add-one place) ∙ take-suc sizes place d within in
+    let front = pairs_of world (take place sizes) in
+    let here = pairs_at world (get_or sizes place d) in
     pushed
-    ∙ ap (λ (ps : List Pair). ps ++ pairs_at world (get_or sizes place d)) before_is
-    ∙ ap (λ (ps : List Pair). pairs_of world (take place sizes) ++ ps) (sym (append-nil (pairs_at world (get_or sizes place d))))
+    ∙ ap (λ (ps : List Pair). ps ++ differing world.store here) before_is
+    ∙ sym (filter-append (differs world.store) front here)
+    ∙ ap (differing world.store)
+    (ap (λ (ps : List Pair). front ++ ps) (sym (append-nil here))
     ∙ sym (flat_map-append (pairs_at world) (take place sizes) (get_or sizes place d ∷ []))
-    ∙ ap (pairs_of world) (sym next)
+    ∙ ap (pairs_of world) (sym next))
 
 -- a publication, by what the stage answers
 

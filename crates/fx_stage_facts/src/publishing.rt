@@ -1,5 +1,7 @@
 //! What a frame gives back to the stage: the window, and the sizes of nodes.
-ghost use Rattle.std.specs.Prelude.{◌≡◌, ◌≤◌, ◌+◌, ◌++◌, IfOk, OnOk, Some};
+ghost use Rattle.std.specs.Prelude.{◌≡◌, ◌≤◌, ◌+◌, ◌++◌, ◌∷◌, [], IfOk, OnOk, Some};
+ghost use Rattle.fx_graph_model.specs.Sound.{AreSound};
+ghost use Rattle.fx_stage_model.specs.Sound.{IsSound};
 ghost use Rattle.fx_stage_types.specs.Tables.{data_of};
 ghost use Rattle.fx_stage_types.specs.declared.node_data.NodeData.{NodeData as Data};
 ghost use Rattle.fx_base.specs.declared.keys.NodeKey.{NodeKey as Key};
@@ -54,7 +56,36 @@ fn if_size(store: &Store, name: Name) -> Option<Name>
     }
 }
 
-/// Puts the node's property behind the others, with this length.
+/// Is the property known to have this length already?
+#[inline]
+#[tactic(auto, unfolding(fx_graph_model::specs::Equality::same_value))]
+fn stays(store: &Store, name: Name, length: i64) -> bool
+    ensures { result ≡ spec.stays store.now (spec.sized_by length name) }
+{
+    match store.value(name) {
+        Some(Value::Int(number)) => *number == length,
+        _ => false,
+    }
+}
+
+/// Puts the property behind the others, with this length, unless it has it already.
+fn push_if_new(
+    pairs: &mut Vec<(Name, Value)>,
+    store: &Store,
+    name: Name,
+    length: i64,
+) -> Result<(), AllocError>
+    ensures { OnOk result (pairs.new.items
+        ≡ pairs.old.items ++ spec.differing store.now (spec.sized_by length name ∷ [])) }
+{
+    if stays(store, name, length) {
+        return Ok(());
+    }
+    pairs.push((name, Value::Int(length)))?;
+    Ok(())
+}
+
+/// Puts the node's property behind the others, with this length, unless it has it already.
 fn push_pair(
     pairs: &mut Vec<(Name, Value)>,
     store: &Store,
@@ -65,18 +96,16 @@ fn push_pair(
 ) -> Result<(), AllocError>
     requires class { places.now ≡ node.now.class }
     requires low { node.now.first ≤ 4000000 }
-    ensures { OnOk result (pairs.new.items
-        ≡ pairs.old.items ++ spec.pair_of store.now.entries node.now (name_of asked) length) }
+    ensures { OnOk result (pairs.new.items ≡ pairs.old.items
+        ++ spec.differing store.now (spec.pair_of store.now.entries node.now (name_of asked) length)) }
 {
     match size_named(store, places, node, asked) {
         None => Ok(()),
-        Some(name) => {
-            pairs.push((name, Value::Int(length)))?;
-            Ok(())
-        }
+        Some(name) => push_if_new(pairs, store, name, length),
     }
 }
 
+/// Puts those of the two that differ behind the others.
 fn push_both(
     pairs: &mut Vec<(Name, Value)>,
     store: &Store,
@@ -87,14 +116,14 @@ fn push_both(
 ) -> Result<(), AllocError>
     requires class { places.now ≡ node.now.class }
     requires low { node.now.first ≤ 4000000 }
-    ensures { OnOk result (pairs.new.items
-        ≡ pairs.old.items ++ spec.pairs_in store.now.entries width height (Some node.now)) }
+    ensures { OnOk result (pairs.new.items ≡ pairs.old.items
+        ++ spec.differing store.now (spec.pairs_in store.now.entries width height (Some node.now))) }
 {
     push_pair(pairs, store, places, node, Asked::Width, width)?;
     push_pair(pairs, store, places, node, Asked::Height, height)
 }
 
-/// Puts the two properties of a node behind the others.
+/// Puts those of a node's two properties that differ behind the others.
 fn push_size(
     alloc: Global,
     pairs: &mut Vec<(Name, Value)>,
@@ -103,7 +132,8 @@ fn push_size(
     size: &(NodeKey, i64, i64),
 ) -> Result<(), AllocError>
     requires low { (node : Data) → data_of stage.now.graph.table size.now.0 ≡ Some node → node.first ≤ 4000000 }
-    ensures { OnOk result (pairs.new.items ≡ pairs.old.items ++ spec.pairs_at stage.now size.now) }
+    ensures { OnOk result (pairs.new.items
+        ≡ pairs.old.items ++ spec.differing stage.now.store (spec.pairs_at stage.now size.now)) }
 {
     let (key, width, height) = *size;
     match stage.graph().node(key) {
@@ -115,14 +145,15 @@ fn push_size(
     }
 }
 
-/// The two properties of each of these nodes, with their values.
+/// The two properties of each of these nodes, with their values, but for those that have them already.
 fn pairs_of(
     alloc: Global,
     stage: &Stage,
     sizes: &[(NodeKey, i64, i64)],
 ) -> Result<Vec<(Name, Value)>, AllocError>
     requires low { (key : Key) (node : Data) → data_of stage.now.graph.table key ≡ Some node → node.first ≤ 4000000 }
-    ensures { IfOk result (λ pairs. pairs.items ≡ spec.pairs_of stage.now sizes.now) }
+    ensures { IfOk result (λ pairs. pairs.items
+        ≡ spec.differing stage.now.store (spec.pairs_of stage.now sizes.now)) }
 {
     let mut places = Places::of(alloc, Class::Region)?;
     let mut pairs = Vec::with_capacity(alloc, sizes.len().saturating_mul(2))?;
@@ -132,8 +163,17 @@ fn pairs_of(
     Ok(pairs)
 }
 
+/// What is true of every stage and of its store.
+fn laws_of(stage: &Stage)
+    ensures stage { IsSound stage.now.store.entries stage.now.graph.table stage.now.names.free }
+    ensures store { AreSound stage.now.store.entries }
+{
+    stage.laws();
+    stage.store().laws();
+}
+
 /// Ends a frame: the window has this width and this height from now on, and the nodes have these widths and heights,
-/// in pixels, published in one change.
+/// in pixels, published in one change. A width or height that stays costs a comparison.
 pub fn publish<L: Ledgers>(
     alloc: Global,
     stage: &mut Stage,
@@ -147,7 +187,7 @@ pub fn publish<L: Ledgers>(
         ≤ work.old.evaluated + (spec.sized sizes.now stage.old).cost) }
     ensures others { work.new ≡ record work.old { evaluated = work.new.evaluated } }
 {
-    stage.laws();
+    laws_of(stage);
     let pairs = pairs_of(alloc, stage, sizes)?;
     match stage.publish(alloc, List::from_vec(pairs), work) {
         Ok(outcome) => {

@@ -1,12 +1,11 @@
-use Rattle.std.proofs.Common.{◌≡◌, ◌∙◌, List, IfOk, ap, subst, sym}
+use Rattle.std.proofs.Common.{◌∙◌, List, ap, subst, sym}
 use Rattle.fx_base.specs.declared.keys.NodeKey.{NodeKey}
 use Rattle.fx_stage_model.specs.Graphs.{Graph}
 use Rattle.fx_tree.specs.Scene.{is_once}
-use Rattle.fx_stage_facts.specs.declared.facts.Facts.{Facts}
 use Rattle.fx_stage_facts.specs.Attached.{attached_keys, keys_in}
 use Rattle.fx_stage_facts.specs.Reads.{AreRead}
 use Rattle.fx_stage_facts.specs.Scenes.{facts_of}
-use Rattle.fx_stage_facts.proofs.FactsLemmas.{facts_looked, on_ok}
+use Rattle.fx_stage_facts.proofs.FactsLemmas.{facts_looked}
 use Rattle.fx_stage_facts.proofs.facts.refresh_facts.Goals as goal
 
 pub look-requires : goal.look-requires

@@ -14,37 +14,40 @@ use Rattle.fx_pens.specs.declared.spans.Columns.{Columns}
 use Rattle.fx_picture.specs.Shapes.{color_of, holds}
 use Rattle.fx_picture.specs.declared.shapes.Shape.{Shape}
 
-rows_more : (top end y : ℕ) → top ≤ end → (is_in top end y || (y == end)) ≡ is_in top (end + 1) y
+pub rows_more : (top end y : ℕ) → top ≤ end → (is_in top end y || (y == end)) ≡ is_in top (end + 1) y
 rows_more top end y h = grind (arith, nat_tests)
 
-rows_apart : (top end y : ℕ) → (is_in top end y && (y == end)) ≡ false
+pub rows_apart : (top end y : ℕ) → (is_in top end y && (y == end)) ≡ false
 rows_apart top end y = grind (arith, nat_tests)
 
-twice : (a b i : Bool) (f : ℕ → ℕ) (u : ℕ) → (a && b) ≡ false → cond (b && i) (f (cond (a && i) (f u) u)) (cond (a && i) (f u) u) ≡ cond ((a || b) && i) (f u) u
+pub twice : (a b i : Bool) (f : ℕ → ℕ) (u : ℕ) → (a && b) ≡ false → cond (b && i) (f (cond (a && i) (f u) u)) (cond (a && i) (f u) u) ≡ cond ((a || b) && i) (f u) u
 twice true true i f u h = cc
 twice true false i f u h = refl
 twice false true i f u h = refl
 twice false false i f u h = refl
 
-range_more : (from count : ℕ) → range_with_len from (suc count) ≡ range_with_len from count ++ ((from + count) ∷ [])
+pub range_more : (from count : ℕ) → range_with_len from (suc count) ≡ range_with_len from count ++ ((from + count) ∷ [])
 range_more from zero = ap (λ (n : ℕ). n ∷ []) (omega arith)
 range_more from (suc count) =
     ap (λ (l : List ℕ). from ∷ l) (range_more (from + 1) count ∙ ap (λ (n : ℕ). range_with_len (from + 1) count ++ (n ∷ [])) (omega arith))
 
+pub sum_more : (f : ℕ → ℕ) (top y : ℕ) → top ≤ y
+    → sum_by f (range_with_len top (y - top)) + f y ≡ sum_by f (range_with_len top ((y + 1) - top))
+sum_more f top y h =
+    let n : (y + 1) - top ≡ suc (y - top) = omega arith in
+    let last : top + (y - top) ≡ y = omega arith in
+    sym (ap (λ k. sum_by f (range_with_len top k)) n
+    ∙ (ap (sum_by f) (range_more top (y - top) ∙ ap (λ (k : ℕ). range_with_len top (y - top) ++ (k ∷ [])) last)
+    ∙ sum_by_push f (range_with_len top (y - top)) y))
+
 points_more : (block : Block) (y : ℕ) (s : Shape) → block.top ≤ y
     → points_above block y s + count_in (λ x. holds s x y) block.left block.right ≡ points_above block (y + 1) s
-points_more block y s h =
-    let f : ℕ → ℕ = λ k. count_in (λ x. holds s x k) block.left block.right in
-    let n : (y + 1) - block.top ≡ suc (y - block.top) = omega arith in
-    let last : block.top + (y - block.top) ≡ y = omega arith in
-    sym (ap (λ k. sum_by f (range_with_len block.top k)) n
-    ∙ (ap (sum_by f) (range_more block.top (y - block.top) ∙ ap (λ (k : ℕ). range_with_len block.top (y - block.top) ++ (k ∷ [])) last)
-    ∙ sum_by_push f (range_with_len block.top (y - block.top)) y))
+points_more block y s h = sum_more (λ k. count_in (λ x. holds s x k) block.left block.right) block.top y h
 
 abbrev pub columns_of : Block → Columns
 columns_of block = record { left = block.left; right = block.right }
 
-out_of : (top bottom at y : ℕ) → top ≤ at → at < bottom → is_in top bottom y ≡ false → (y == at) ≡ false
+pub out_of : (top bottom at y : ℕ) → top ≤ at → at < bottom → is_in top bottom y ≡ false → (y == at) ≡ false
 out_of top bottom at y a b h = grind (arith, nat_tests)
 
 pub block_none : (block : Block) (s : Shape) (rows : List Line) (p : ℕ)

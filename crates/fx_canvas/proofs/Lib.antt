@@ -2,6 +2,8 @@ pub mod ClipLemmas
 pub mod ByteLemmas
 pub mod DrawingLemmas
 pub mod BlockLemmas
+pub mod DottedLemmas
+pub mod OpaqueLemmas
 pub mod CountLemmas
 pub mod AreaLemmas
 pub mod RepaintLemmas

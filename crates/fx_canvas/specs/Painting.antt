@@ -14,6 +14,7 @@ use Rattle.fx_picture.specs.declared.shapes.Shape.{Shape}
 use Rattle.fx_canvas.specs.Surfaces.{AreBytes, Line, pixel_at, row_at}
 use Rattle.fx_canvas.specs.declared.blocks.Block.{Block}
 use Rattle.fx_pens.specs.Dots.{count_in, is_in}
+use Rattle.fx_pens.specs.declared.spans.Pen.{Pen}
 
 -- ---- the pixels that are written
 -- how many points within bounds pass a test, row by row
@@ -62,6 +63,16 @@ abbrev pub points_above : Block → ℕ → Shape → ℕ
 points_above block end s =
     sum_by (λ y. count_in (λ x. holds s x y) block.left block.right) (range_with_len block.top (end - block.top))
 
+-- dots laid over a point in the rows from one on and before another
+abbrev pub dots_above : Pen → ℕ → ℕ → (ℕ → ℕ → Bool) → ℕ → ℕ → ℕ → ℕ
+dots_above pen top end dots x y under =
+    if is_in top end y && (is_in pen.left pen.right x && dots x y) then blended pen.color under else under
+
+-- how many pixels that writes
+abbrev pub count_above : Pen → ℕ → ℕ → (ℕ → ℕ → Bool) → ℕ
+count_above pen top end dots =
+    sum_by (λ y. count_in (λ x. dots x y) pen.left pen.right) (range_with_len top (end - top))
+
 -- as many rows, each as long
 pub record HaveOneSize (old new : List Line) : Type 0 where
   pub down : length new ≡ length old
@@ -83,6 +94,27 @@ pub record IsDrawn (change : ℕ → ℕ → ℕ → ℕ) (touched : ℕ → Boo
   pub kept : (y : ℕ) → touched y ≡ false → row_at new y ≡ row_at old y
   pub counted : after ≡ before + count
   pub bytes : AreBytes old → AreBytes new
+
+-- a pen of one colour for the columns of a block
+abbrev pub block_pen : Block → Color → Pen
+block_pen block color =
+    record { left = block.left; right = block.right; scale = 1; below = 0; color = color }
+
+-- dots are laid over the rows above one, of those from another one on and before a third
+abbrev pub AreDotted : Pen → ℕ → ℕ → ℕ → (ℕ → ℕ → Bool) → List Line → List Line → ℕ → ℕ → Type 0
+AreDotted pen top bottom end dots old new before after =
+    IsDrawn (dots_above pen top end dots) (is_in top bottom) (count_above pen top end dots) old new before after
+
+-- there are rows from one on and before another, and each has the pen's columns
+pub record HasRows (pen : Pen) (top bottom : ℕ) (rows : List Line) : Type 0 where
+  pub falls : top ≤ bottom
+  pub down : bottom ≤ length rows
+  pub rises : pen.left ≤ pen.right
+  pub across : (y : ℕ) → y < length rows → pen.right ≤ length (row_at rows y).pixels
+  pub some : 0 < pen.scale
+  pub narrow : pen.scale ≤ 65536
+  pub near : pen.right ≤ 65536
+  pub bytes : HasBytes pen.color
 
 -- the edges lie in the rows
 pub record FitsIn (area : Bounds) (rows : List Line) : Type 0 where

@@ -5,6 +5,7 @@
 
 mod blocks;
 mod canvas;
+mod opaque;
 mod painting;
 mod rows;
 

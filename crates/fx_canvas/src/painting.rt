@@ -3,15 +3,16 @@ ghost use Rattle.std.specs.Prelude.{◌≡◌, ◌∷◌, [], All, true, if◌th
 ghost use Rattle.std.specs.List.{sum_by};
 ghost use Rattle.fx_base.specs.Rectangle.{in_span, inside};
 ghost use Rattle.fx_canvas.specs.Painting as spec;
-ghost use Rattle.fx_pens.specs.Dots.{is_in};
+ghost use Rattle.fx_pens.specs.Dots.{IsInk, is_in};
 ghost use Rattle.fx_picture.specs.Bounds.{bounds_of, in_range, is_empty, meet};
 ghost use Rattle.fx_picture.specs.Pixels.{pixel, shapes_of};
-ghost use Rattle.fx_picture.specs.Shapes.{bounds};
+ghost use Rattle.fx_picture.specs.Shapes.{bounds, color_of};
 
 use crate::blocks::{Block, block_of};
+use crate::opaque::{fill_rows, lay_letters};
 use crate::rows::Row;
 use fx_base::{Color, Rect, Steps};
-use fx_pens::{Brush, Columns};
+use fx_pens::{Brush, Columns, Pen, ink, near_pen};
 use fx_picture::{Bounds, Entry, Shape, bounds, bounds_of, color_of, is_empty, meeting};
 use std::sync::ledger::Ledger;
 
@@ -97,8 +98,79 @@ fn is_clipped_away(area: Bounds, shape: &Shape) -> bool
     }
 }
 
-/// Lays a shape over a block, which lies within its bounds, row by row.
+/// Lays a shape over a block, which lies within its bounds.
 fn lay_block<P: Ledger>(rows: &mut [Row], block: Block, shape: &Shape, painted: &mut Steps<P>)
+    requires { spec.IsBlock block (bounds shape.now) rows.old }
+    ensures { spec.IsDrawn (spec.laid_above block block.bottom shape.now) (is_in block.top block.bottom)
+        (spec.points_above block block.bottom shape.now) rows.old rows.new painted.old painted.new }
+{
+    match ink(color_of(shape)) {
+        Some(pixel) => lay_opaque(rows, block, shape, pixel, painted),
+        None => lay_rows(rows, block, shape, painted),
+    }
+}
+
+/// The same where the shape's colour is opaque: it makes any pixel this one.
+fn lay_opaque<P: Ledger>(
+    rows: &mut [Row],
+    block: Block,
+    shape: &Shape,
+    pixel: u32,
+    painted: &mut Steps<P>,
+)
+    requires block { spec.IsBlock block (bounds shape.now) rows.old }
+    requires ink { IsInk (color_of shape.now) pixel }
+    ensures { spec.IsDrawn (spec.laid_above block block.bottom shape.now) (is_in block.top block.bottom)
+        (spec.points_above block block.bottom shape.now) rows.old rows.new painted.old painted.new }
+{
+    channel_laws(color_of(shape));
+    match shape {
+        Shape::Fill { color, .. } => lay_fill(rows, block, *color, pixel, painted),
+        Shape::Letters {
+            x,
+            y,
+            scale,
+            text,
+            color,
+            ..
+        } => {
+            let columns = Columns {
+                left: block.left,
+                right: block.right,
+            };
+            match near_pen(columns, block.top as u32, *x, *y, *scale, *color) {
+                Some(pen) => lay_letters(rows, block, &pen, pixel, *x, text.as_str(), painted),
+                None => lay_rows(rows, block, shape, painted),
+            }
+        }
+    }
+}
+
+/// Fills a block with an opaque colour.
+fn lay_fill<P: Ledger>(
+    rows: &mut [Row],
+    block: Block,
+    color: Color,
+    pixel: u32,
+    painted: &mut Steps<P>,
+)
+    requires rows { spec.HasRows (spec.block_pen block color) block.top block.bottom rows.old }
+    requires ink { IsInk color pixel }
+    ensures { spec.AreDotted (spec.block_pen block color) block.top block.bottom block.bottom
+        (λ x y. is_in block.left block.right x) rows.old rows.new painted.old painted.new }
+{
+    let pen = Pen {
+        left: block.left,
+        right: block.right,
+        scale: 1,
+        below: 0,
+        color,
+    };
+    fill_rows(rows, block, &pen, pixel, painted);
+}
+
+/// Lays a shape over a block, which lies within its bounds, row by row.
+fn lay_rows<P: Ledger>(rows: &mut [Row], block: Block, shape: &Shape, painted: &mut Steps<P>)
     requires { spec.IsBlock block (bounds shape.now) rows.old }
     ensures { spec.IsDrawn (spec.laid_above block block.bottom shape.now) (is_in block.top block.bottom)
         (spec.points_above block block.bottom shape.now) rows.old rows.new painted.old painted.new }

@@ -12,7 +12,7 @@ count-cons : (p : ℕ → Bool) (x : ℕ) (xs : List ℕ) → count_by p (x ∷ 
 count-cons p x xs = sum_by-cons (λ y. cond (p y) 1 0) x xs
 
 -- ---- tests that agree, and tests that never both hold
-count-same : (p q : ℕ → Bool) (from n : ℕ) → ((x : ℕ) → from ≤ x → x < from + n → p x ≡ q x)
+pub count-same : (p q : ℕ → Bool) (from n : ℕ) → ((x : ℕ) → from ≤ x → x < from + n → p x ≡ q x)
     → count_by p (range_with_len from n) ≡ count_by q (range_with_len from n)
 count-same p q from zero h = refl
 count-same p q from (suc n) h =
@@ -28,7 +28,7 @@ split_one true false h m k = omega arith
 split_one false true h m k = omega arith
 split_one false false h m k = omega arith
 
-count-either : (p q : ℕ → Bool) (from n : ℕ) → ((x : ℕ) → from ≤ x → x < from + n → (p x && q x) ≡ false)
+pub count-either : (p q : ℕ → Bool) (from n : ℕ) → ((x : ℕ) → from ≤ x → x < from + n → (p x && q x) ≡ false)
     → count_by (λ x. p x || q x) (range_with_len from n) ≡ count_by p (range_with_len from n) + count_by q (range_with_len from n)
 count-either p q from zero h = refl
 count-either p q from (suc n) h =
@@ -40,7 +40,7 @@ count-either p q from (suc n) h =
     ∙ (ap (λ m. m + (cond (q from) 1 0 + count_by q (range_with_len (from + 1) n))) (sym (count-cons p from (range_with_len (from + 1) n)))
     ∙ ap (λ m. count_by p (from ∷ range_with_len (from + 1) n) + m) (sym (count-cons q from (range_with_len (from + 1) n))))))
 
-count-none : (from n : ℕ) → count_by (λ x. false) (range_with_len from n) ≡ 0
+pub count-none : (from n : ℕ) → count_by (λ x. false) (range_with_len from n) ≡ 0
 count-none from zero = refl
 count-none from (suc n) = let c = count-cons (λ x. false) from (range_with_len (from + 1) n) in let r = count-none (from + 1) n in omega (arith, c, r)
 

@@ -375,7 +375,7 @@ line_apart pen start cs c x =
     mixed false b t u h = refl
 
 -- below the rows of its glyphs a line is blank
-row_blank : (g q r : ℕ) → 5 ≤ r → has_dot g q r ≡ false
+pub row_blank : (g q r : ℕ) → 5 ≤ r → has_dot g q r ≡ false
 unfolding has_dot
 row_blank g q r h = let off : nat_lt r 5 ≡ false = grind (arith, nat_tests, h) in rw off (ap (λ t. t && (g / 2 ^ (14 - (3 * r + q)) % 2 == 1)) (and_false (nat_lt q 3)))
 

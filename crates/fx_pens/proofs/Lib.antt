@@ -5,6 +5,8 @@ pub mod LetterLemmas
 pub mod RunLemmas
 pub mod ShapeLemmas
 pub mod LineLemmas
+pub mod PlaceLemmas
 pub mod GlyphLemmas
 pub mod PixelLemmas
 pub mod EdgeLemmas
+pub mod StampLemmas

@@ -6,6 +6,7 @@ use Rattle.fx_base.specs.declared.color.Color.{Color}
 use Rattle.fx_pens.specs.declared.parts.Edges.{Edges}
 use Rattle.fx_pens.specs.declared.runs.Bits.{Bits}
 use Rattle.fx_pens.specs.declared.spans.Pen.{Pen}
+use Rattle.fx_pens.specs.declared.stamps.Stamp.{Stamp}
 use Rattle.fx_cells.specs.Columns.{cell_width, cells_of}
 use Rattle.fx_cells.specs.Font.{glyph_of}
 use Rattle.fx_picture.specs.Bounds.{in_range}
@@ -56,6 +57,28 @@ row_dots pen start bits x =
     ((bits.left && bit_dots pen start x)
     || (bits.middle && bit_dots pen (start +ℤ pos (1 * pen.scale)) x))
     || (bits.right && bit_dots pen (start +ℤ pos (2 * pen.scale)) x)
+
+-- three bits between the edges of a stamp
+unfoldable pub bits_between : Stamp → Bits → ℕ → Bool
+bits_between stamp bits x =
+    ((bits.left && is_in stamp.first stamp.second x) || (bits.middle && is_in stamp.second stamp.third x))
+    || (bits.right && is_in stamp.third stamp.end x)
+
+-- a row of a stamp's glyph
+abbrev pub stamp_dots : Stamp → ℕ → ℕ → Bool
+stamp_dots stamp line = bits_between stamp (bits_of stamp.glyph line)
+
+-- the edges of a stamp rise from one column up to another
+pub record IsStamp (low high : ℕ) (stamp : Stamp) : Type 0 where
+  pub from : low ≤ stamp.first
+  pub left : stamp.first ≤ stamp.second
+  pub middle : stamp.second ≤ stamp.third
+  pub right : stamp.third ≤ stamp.end
+  pub to : stamp.end ≤ high
+
+-- the same pen so many rows further down
+abbrev pub lowered : Pen → ℕ → Pen
+lowered pen rows = record pen { below = pen.below + rows }
 
 -- no edge lies before another one
 pub record DoRise (edges : Edges) : Type 0 where

@@ -1,5 +1,5 @@
 -- What paints a row of a shape, from one column on and before another.
-use Rattle.std.specs.Prelude.{◌≡◌, ◌<◌, ◌≤◌, ◌≤ℤ◌, ◌^◌, ℕ, ℤ, pos, negsuc, Bool, List, Option, IfSome, true, length, max}
+use Rattle.std.specs.Prelude.{◌≡◌, ◌<◌, ◌≤◌, ◌≤ℤ◌, ◌-ℤ◌, ◌^◌, ℕ, ℤ, pos, negsuc, Bool, List, Option, IfSome, true, length, max}
 use Rattle.fx_base.specs.declared.color.Color.{Color}
 use Rattle.fx_pens.specs.Dots.{IsInk}
 use Rattle.fx_pens.specs.declared.spans.Columns.{Columns}
@@ -23,6 +23,16 @@ LieWithin b part y = (x : ℕ) → part.left ≤ x → x < part.right → within
 -- a pen of one colour
 abbrev pub plain_pen : Columns → Color → Pen
 plain_pen part color = record { left = part.left; right = part.right; scale = 1; below = 0; color = color }
+
+-- the pen for the rows of letters from this one on
+abbrev pub letters_pen : Columns → ℕ → ℤ → ℤ → Color → Pen
+letters_pen part top y scale color = record {
+  left = part.left;
+  right = part.right;
+  scale = max (whole scale) 1;
+  below = whole (pos top -ℤ y);
+  color = color;
+}
 
 -- how wide and high a bit of a shape's glyphs is
 abbrev pub scale_of : Shape → ℕ

@@ -1,7 +1,7 @@
 //! What lays a shape row by row: what is the same for all rows is worked out once.
-ghost use Rattle.std.specs.Prelude.{◌≡◌, ◌≤◌, ◌-ℤ◌, IfSome, max, pos};
+ghost use Rattle.std.specs.Prelude.{◌≡◌, ◌≤◌, ◌<◌, ◌^◌, ◌-ℤ◌, ◌≤ℤ◌, IfSome, max, negsuc, pos};
 ghost use Rattle.fx_pens.specs.Dots.{IsInk, IsLaid, is_in};
-ghost use Rattle.fx_pens.specs.Shapes.{AreColumns, LieWithin, first_column, plain_pen, scale_of};
+ghost use Rattle.fx_pens.specs.Shapes.{AreColumns, LieWithin, first_column, letters_pen, plain_pen, scale_of};
 ghost use Rattle.fx_picture.specs.Shapes.{bounds, color_of, holds, whole};
 
 use crate::letters::lay_line;
@@ -85,6 +85,31 @@ impl<'a> Brush<'a> {
             }
         }
     }
+}
+
+/// The pen for the rows of letters from this one on, if they begin at small numbers and are not huge.
+pub fn near_pen(part: Columns, top: u32, x: i64, y: i64, scale: i64, color: Color) -> Option<Pen>
+    ensures pen { IfSome result (λ pen. pen ≡ letters_pen part top y scale color) }
+    ensures some { IfSome result (λ pen. 0 < pen.scale) }
+    ensures scale { IfSome result (λ pen. pen.scale ≤ 65536) }
+    ensures near { IfSome result (λ pen. negsuc (2 ^ 40) ≤ℤ x) }
+    ensures below { IfSome result (λ pen. pen.below ≤ 393216) }
+{
+    let size = some_scale(scale);
+    let rows = below(top, y);
+    if !is_near(size, x) {
+        return None;
+    }
+    if rows > 393_216 {
+        return None;
+    }
+    Some(Pen {
+        left: part.left,
+        right: part.right,
+        scale: size,
+        below: rows,
+        color,
+    })
 }
 
 /// Paints all of the columns.

@@ -1,5 +1,5 @@
 //! One row of a shape, painted by runs over the row kernels: each pixel that the shape holds is laid over once, and
-//! counted. It stands on the picture, below the canvas.
+//! counted. What is the same for all rows of a glyph is a stamp. It stands on the picture, below the canvas.
 #![tactic(auto)]
 
 mod brushes;
@@ -10,6 +10,9 @@ mod parts;
 mod pixels;
 mod runs;
 mod spans;
+mod stamps;
 
-pub use brushes::Brush;
-pub use spans::{Columns, Pen};
+pub use brushes::{Brush, near_pen};
+pub use near::behind;
+pub use spans::{Columns, Pen, ink, lay_span};
+pub use stamps::{Stamp, lay_stamp, stamp_of};

@@ -102,7 +102,7 @@ fn lay_wide<P: Ledger>(
 
 /// The column behind the cells of a character that begin at this one.
 #[inline(always)]
-fn behind(start: i64, scale: u64, c: char) -> i64
+pub fn behind(start: i64, scale: u64, c: char) -> i64
     requires least { negsuc (2 ^ 40) ≤ℤ start }
     requires most { start ≤ℤ pos 65536 }
     requires scale { scale ≤ 65536 }

@@ -127,7 +127,7 @@ fn lay_part<P: Ledger>(
 
 /// A column, cut to the pen's.
 #[inline(always)]
-fn cut(pen: &Pen, at: i64) -> usize
+pub(crate) fn cut(pen: &Pen, at: i64) -> usize
     requires rises { pen.now.left ≤ pen.now.right }
     requires near { pen.now.right ≤ 65536 }
     ensures low { at ≤ℤ pos pen.now.left → result ≡ pen.now.left }
@@ -145,7 +145,7 @@ fn cut(pen: &Pen, at: i64) -> usize
 
 /// So many scales behind a column.
 #[inline(always)]
-fn further(start: i64, scale: u64, count: u64) -> i64
+pub(crate) fn further(start: i64, scale: u64, count: u64) -> i64
     requires least { negsuc (2 ^ 41) ≤ℤ start }
     requires most { start ≤ℤ pos (2 ^ 20) }
     requires scale { scale ≤ 65536 }

@@ -89,7 +89,7 @@ fn lay_alone<P: Ledger>(
     }
 }
 
-fn choose(first: bool, one: usize, other: usize) -> usize
+pub(crate) fn choose(first: bool, one: usize, other: usize) -> usize
     ensures { result ≡ (if first then one else other) }
 {
     if first { one } else { other }

@@ -29,7 +29,7 @@ pub struct Columns {
 
 /// Paints the columns from one on and before another.
 #[inline(always)]
-pub(crate) fn lay_span<P: Ledger>(
+pub fn lay_span<P: Ledger>(
     row: &mut [u32],
     pen: &Pen,
     ink: Option<u32>,
@@ -117,7 +117,7 @@ fn write_each(row: &mut [u32], color: u32)
 }
 
 /// What a colour makes of any pixel, if it is opaque.
-pub(crate) fn ink(color: Color) -> Option<u32>
+pub fn ink(color: Color) -> Option<u32>
     ensures { IfSome result (IsInk color) }
 {
     if color.a == 255 {

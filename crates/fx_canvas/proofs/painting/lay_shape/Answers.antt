@@ -1,5 +1,5 @@
 -- what lies in the area is a block, unless nothing does
-use Rattle.std.proofs.Common.{◌≡◌, ◌∙◌, true, false, ap, sym, subst}
+use Rattle.std.proofs.Common.{◌≡◌, ◌∙◌, false, ap, sym, subst}
 use Rattle.fx_canvas.specs.Painting.{HasEdges}
 use Rattle.fx_canvas.proofs.AreaLemmas.{area_drawn, area_none, cut_block, cut_edges}
 use Rattle.fx_picture.specs.Bounds.{is_empty, meet}

@@ -11,6 +11,7 @@ use Rattle.fx_picture.specs.Shapes.{bounds, color_of, holds, whole}
 use Rattle.fx_picture.specs.declared.edges.Bounds.{Bounds}
 use Rattle.fx_picture.specs.declared.entries.Entry.{Entry}
 use Rattle.fx_picture.specs.declared.shapes.Shape.{Shape}
+use Rattle.fx_picture.specs.declared.shapes.Shape.TheVariants.{Fill, Letters}
 use Rattle.fx_canvas.specs.Surfaces.{AreBytes, Line, pixel_at, row_at}
 use Rattle.fx_canvas.specs.declared.blocks.Block.{Block}
 use Rattle.fx_pens.specs.Dots.{count_in, is_in}
@@ -72,6 +73,11 @@ dots_above pen top end dots x y under =
 abbrev pub count_above : Pen → ℕ → ℕ → (ℕ → ℕ → Bool) → ℕ
 count_above pen top end dots =
     sum_by (λ y. count_in (λ x. dots x y) pen.left pen.right) (range_with_len top (end - top))
+
+-- the row before which nothing of a shape shows
+abbrev pub first_row : Shape → ℤ
+first_row (Fill rect color) = rect.y
+first_row (Letters x y scale text clip color) = clip.y
 
 -- as many rows, each as long
 pub record HaveOneSize (old new : List Line) : Type 0 where

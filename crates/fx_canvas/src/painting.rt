@@ -1,5 +1,5 @@
 //! Shapes laid over the rows of a window: each is cut to the area that is painted before its rows are walked.
-ghost use Rattle.std.specs.Prelude.{◌≡◌, ◌∷◌, [], All, true, if◌then◌else◌};
+ghost use Rattle.std.specs.Prelude.{◌≡◌, ◌∷◌, [], All, true, int_le, if◌then◌else◌};
 ghost use Rattle.std.specs.List.{sum_by};
 ghost use Rattle.fx_base.specs.Rectangle.{in_span, inside};
 ghost use Rattle.fx_canvas.specs.Painting as spec;
@@ -73,7 +73,39 @@ fn lay_shapes<P: Ledger>(rows: &mut [Row], area: Bounds, shapes: &[Shape], paint
 }
 
 /// Lays a shape over an area.
+#[inline(always)]
 fn lay_shape<P: Ledger>(rows: &mut [Row], area: Bounds, shape: &Shape, painted: &mut Steps<P>)
+    requires { spec.FitsIn area rows.old }
+    ensures { spec.IsDrawn (spec.laid_in area (shape.now ∷ [])) (in_range area.min_y area.max_y)
+        (spec.points_of area shape.now) rows.old rows.new painted.old painted.new }
+{
+    if begins_below(area, shape) {
+        return;
+    }
+    lay_cut(rows, area, shape, painted);
+}
+
+/// Whether all of a shape lies below an area. Its bounds aren't worked out for that.
+#[inline(always)]
+fn begins_below(area: Bounds, shape: &Shape) -> bool
+    ensures { result ≡ int_le area.max_y (spec.first_row shape.now) }
+{
+    area.max_y <= i128::from(first_row(shape))
+}
+
+/// The row before which nothing of a shape shows.
+#[inline(always)]
+fn first_row(shape: &Shape) -> i64
+    ensures { result ≡ spec.first_row shape.now }
+{
+    match shape {
+        Shape::Fill { rect, .. } => rect.y,
+        Shape::Letters { clip, .. } => clip.y,
+    }
+}
+
+/// Lays what an area shows of a shape.
+fn lay_cut<P: Ledger>(rows: &mut [Row], area: Bounds, shape: &Shape, painted: &mut Steps<P>)
     requires { spec.FitsIn area rows.old }
     ensures { spec.IsDrawn (spec.laid_in area (shape.now ∷ [])) (in_range area.min_y area.max_y)
         (spec.points_of area shape.now) rows.old rows.new painted.old painted.new }

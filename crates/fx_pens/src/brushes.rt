@@ -87,7 +87,8 @@ impl<'a> Brush<'a> {
     }
 }
 
-/// The pen for the rows of letters from this one on, if they begin at small numbers and are not huge.
+/// The pen for the rows of letters from this one on, if they begin at small numbers and are not huge. Bits of one pixel
+/// are left to the brush, which writes them without spans.
 pub fn near_pen(part: Columns, top: u32, x: i64, y: i64, scale: i64, color: Color) -> Option<Pen>
     ensures pen { IfSome result (λ pen. pen ≡ letters_pen part top y scale color) }
     ensures some { IfSome result (λ pen. 0 < pen.scale) }
@@ -97,6 +98,9 @@ pub fn near_pen(part: Columns, top: u32, x: i64, y: i64, scale: i64, color: Colo
 {
     let size = some_scale(scale);
     let rows = below(top, y);
+    if size == 1 {
+        return None;
+    }
     if !is_near(size, x) {
         return None;
     }

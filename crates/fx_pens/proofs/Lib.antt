@@ -1,4 +1,5 @@
 pub mod SpanLemmas
+pub mod ShortLemmas
 pub mod DotLemmas
 pub mod CutLemmas
 pub mod LetterLemmas

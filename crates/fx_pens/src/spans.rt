@@ -1,5 +1,5 @@
 //! One colour over a part of a row.
-ghost use Rattle.std.specs.Prelude.{◌≡◌, ◌≤◌, IfSome, length, map, replicate};
+ghost use Rattle.std.specs.Prelude.{◌≡◌, ◌≤◌, ◌<◌, IfSome, length, map, replicate};
 ghost use Rattle.fx_base.specs.Pixel.{blended, pixel_of};
 ghost use Rattle.fx_lanes.specs.Blending.{packed_color};
 ghost use Rattle.fx_pens.specs.Dots.{IsInk, IsLaid, IsPen, is_in};
@@ -93,7 +93,7 @@ fn write_few(row: &mut [u32], color: u32)
     ensures { row.new ≡ replicate (length row.old) color }
 {
     if row.len() < 4 {
-        write_each(row, color);
+        write_three(row, color);
         return;
     }
     let lanes = u32x4::splat(color);
@@ -106,14 +106,20 @@ fn write_few(row: &mut [u32], color: u32)
     lanes.copy_to_slice(&mut row[last..]);
 }
 
-/// Writes a colour to one pixel after another.
+/// Writes a colour to each of at most three pixels: the first one, the one in the middle and the last.
 #[inline(always)]
-fn write_each(row: &mut [u32], color: u32)
+fn write_three(row: &mut [u32], color: u32)
+    requires { length row.old < 4 }
     ensures { row.new ≡ replicate (length row.old) color }
 {
-    for i in 0..row.len() {
-        row[i] = color;
+    if row.is_empty() {
+        return;
     }
+    let middle = row.len() / 2;
+    let last = row.len() - 1;
+    row[0] = color;
+    row[middle] = color;
+    row[last] = color;
 }
 
 /// What a colour makes of any pixel, if it is opaque.

@@ -1,5 +1,5 @@
 //! Rows of pixels, each with its printed text, which is kept as long as nothing is written to the row.
-ghost use Rattle.std.specs.Prelude.{◌≡◌, ◌/◌, IfOk, OnOk, false};
+ghost use Rattle.std.specs.Prelude.{◌≡◌, ◌≤◌, ◌/◌, IfOk, OnOk, false};
 ghost use Rattle.fx_canvas.specs.Surfaces.{white_line};
 ghost use Rattle.fx_pens.specs.Dots.{IsInk, IsLaid, IsPen, IsStamp, is_in, stamp_dots};
 ghost use Rattle.fx_pens.specs.Shapes.{AreColumns, LieWithin, plain_pen};
@@ -100,6 +100,8 @@ impl Row {
     )
         requires pen { IsPen pen.now self.old.pixels }
         requires ink { IsInk pen.now.color pixel }
+        requires narrow { pen.now.scale ≤ 65536 }
+        requires low { pen.now.below ≤ 400000 }
         requires stamp { IsStamp pen.now.left pen.now.right stamp.now }
         ensures { IsLaid pen.now (stamp_dots stamp.now (pen.now.below / pen.now.scale)) self.old.pixels self.new.pixels
             painted.old painted.new }

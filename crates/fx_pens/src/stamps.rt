@@ -89,11 +89,13 @@ pub fn lay_stamp<P: Ledger>(
 )
     requires pen { IsPen pen.now row.old }
     requires ink { IsInk pen.now.color pixel }
+    requires narrow { pen.now.scale ≤ 65536 }
+    requires low { pen.now.below ≤ 400000 }
     requires stamp { IsStamp pen.now.left pen.now.right stamp.now }
     ensures { IsLaid pen.now (stamp_dots stamp.now (pen.now.below / pen.now.scale)) row.old row.new
         painted.old painted.new }
 {
-    let line = pen.below / pen.scale;
+    let line = (pen.below as u32 / pen.scale as u32) as u64;
     if line >= 5 {
         return;
     }

@@ -5,3 +5,4 @@ pub mod DrawingLemmas
 pub mod AlignLemmas
 pub mod HiddenLemmas
 pub mod WholeLemmas
+pub mod InsetLemmas

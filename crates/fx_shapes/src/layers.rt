@@ -76,14 +76,22 @@ fn add_border(
 }
 
 /// Adds a fill, if it shows.
+#[inline]
 fn add_fill(shapes: &mut Vec<Shape>, rect: Rect, color: Color) -> Result<(), AllocError>
     ensures { OnOk result (shapes.new.items ≡ shapes.old.items ++ shown (Shape.Fill rect color ∷ [])) }
 {
-    add_if(
-        shapes,
-        Shape::Fill { rect, color },
-        color.a > 0 && has_area(rect),
-    )
+    if !shows(rect, color) {
+        return Ok(());
+    }
+    shapes.push(Shape::Fill { rect, color })?;
+    Ok(())
+}
+
+/// Whether a fill shows.
+fn shows(rect: Rect, color: Color) -> bool
+    ensures { result ≡ is_shown (Shape.Fill rect color) }
+{
+    color.a > 0 && has_area(rect)
 }
 
 /// Whether a rectangle holds a point.

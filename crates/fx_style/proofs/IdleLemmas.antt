@@ -1,5 +1,5 @@
 -- Nodes that keep what they have where it stands.
-use Rattle.std.proofs.Common.{◌≡◌, ◌<◌, ◌+◌, ℕ, Bool, true, false, List, Option, Some, None, length, refl, sym, ◌∙◌, ap, subst, arith}
+use Rattle.std.proofs.Common.{◌≡◌, ◌<◌, ◌≤◌, ◌+◌, [], zero, suc, ℕ, Bool, true, false, List, Option, Some, None, length, refl, sym, ◌∙◌, ap, subst, arith}
 use Rattle.std.specs.Prelude.{slice_get, option_and_then}
 use Rattle.std.specs.List.{filter_map}
 use Rattle.fx_css_types.specs.declared.sheets.SheetAt.{SheetAt}
@@ -16,7 +16,7 @@ use Rattle.fx_style.specs.Rules.{anew, needs, needs_by, renewed_by, ticks, worke
 use Rattle.fx_style.specs.Turns.{AreRightBelow, Stays}
 use Rattle.fx_style.proofs.CostLemmas.{worked_more}
 use Rattle.fx_style.proofs.FreshLemmas.{append-none}
-use Rattle.fx_style.proofs.TurnLemmas.{kept_ticks, stays_here, stays_style}
+use Rattle.fx_style.proofs.TurnLemmas.{get_there, kept_ticks, stays_here, stays_style}
 use Rattle.fx_style.proofs.UpdateLemmas.{now_of, right_more}
 
 -- a node that isn't listed, with its key where it stands
@@ -27,7 +27,15 @@ pub record Idles (restyle : List ℕ) (looks : List Look) (rest : List Rest) (no
   pub in_rest : at < length rest
 
 abbrev turn_of : StyleFacts → ℕ → Turn
-turn_of node at = record { at = at; key = node.key; listed = false; calm = false; stay = true; place = None }
+turn_of node at = record {
+  at = at;
+  key = node.key;
+  listed = false;
+  calm = false;
+  stay = true;
+  place = None;
+  before = None;
+}
 
 pub stays : (restyle : List ℕ) (looks : List Look) (rest : List Rest) (node : StyleFacts) (at : ℕ)
     → Idles restyle looks rest node at → Stays looks rest (turn_of node at)
@@ -69,3 +77,28 @@ idle_cost facts restyle looks rest at next node is idle e =
     let more : worked (needs restyle kept) at + ticks (needs restyle kept at) ≡ worked (needs restyle kept) next =
     worked_more (needs restyle kept) at next e in
     omega (arith, more, nothing)
+
+-- where all nodes do, nothing is made
+
+pub still_right : (sheets : List SheetAt) (facts : List StyleFacts) (restyle : List ℕ) (looks : List Look)
+    (rest : List Rest) → ParentsStandBefore facts
+    → ((at : ℕ) (node : StyleFacts) → slice_get facts at ≡ Some node → Idles restyle looks rest node at) → (n : ℕ)
+    → n ≤ length facts → AreRightBelow sheets facts restyle (kept_at looks rest facts) looks rest [] n
+still_right sheets facts restyle looks rest before idle zero few = record {
+  each = λ j node below is. absurd (omega (arith, below));
+}
+still_right sheets facts restyle looks rest before idle (suc n) few =
+    let there = get_there facts n (omega (arith, few)) in
+    let one : n + 1 ≡ suc n = omega arith in
+    subst (λ (m : ℕ). AreRightBelow sheets facts restyle (kept_at looks rest facts) looks rest [] m) one
+    (idle_right sheets facts restyle looks rest [] n there.0 before there.1 refl (idle n there.0 there.1)
+    (still_right sheets facts restyle looks rest before idle n (omega (arith, few))))
+
+pub still_cost : (facts : List StyleFacts) (restyle : List ℕ) (looks : List Look) (rest : List Rest)
+    → ((at : ℕ) (node : StyleFacts) → slice_get facts at ≡ Some node → Idles restyle looks rest node at) → (n : ℕ)
+    → n ≤ length facts → worked (needs restyle (kept_at looks rest facts)) n ≡ 0
+still_cost facts restyle looks rest idle zero few = refl
+still_cost facts restyle looks rest idle (suc n) few =
+    let there = get_there facts n (omega (arith, few)) in
+    sym (idle_cost facts restyle looks rest n (suc n) there.0 there.1 (idle n there.0 there.1) (omega arith))
+    ∙ still_cost facts restyle looks rest idle n (omega (arith, few))

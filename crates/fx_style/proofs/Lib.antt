@@ -13,5 +13,6 @@ pub mod ChainLaws
 pub mod OnceLemmas
 pub mod IdleLemmas
 pub mod RecodedLemmas
+pub mod SiblingLemmas
 pub mod PartingLemmas
 pub mod PartedLemmas

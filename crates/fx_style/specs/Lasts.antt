@@ -28,6 +28,11 @@ pub record DiffersInLengths (old node : StyleFacts) : Type 0 where
   pub alike : node ≡ record old { codes = node.codes }
   pub codes : AreRecoded old.codes node.codes
 
+-- a node that is another up to its key and lengths that bindings give
+pub record IsLike (old node : StyleFacts) : Type 0 where
+  pub alike : node ≡ record old { key = node.key; codes = node.codes }
+  pub codes : AreRecoded old.codes node.codes
+
 -- the node of a place is the one that stood there up to these
 pub record IsRecodedAt (last : Option (List StyleFacts)) (facts : List StyleFacts) (at : ℕ) : Type 0 where
   pub olds : List StyleFacts

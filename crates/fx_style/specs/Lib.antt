@@ -7,5 +7,6 @@ pub mod Places
 pub mod Plans
 pub mod Rewriting
 pub mod Rules
+pub mod Siblings
 pub mod Styled
 pub mod Turns

@@ -63,7 +63,8 @@ pub(crate) fn planned<'a>(plan: Plan<'a>, at: usize) -> Option<Seen<'a>>
     }
 }
 
-fn fresh_entry<'a>(plan: Plan<'a>, at: usize) -> Option<&'a Entry>
+/// The entry that was made for a place, if one was.
+pub(crate) fn fresh_entry<'a>(plan: Plan<'a>, at: usize) -> Option<&'a Entry>
     requires plan { AreSteps plan.fresh.now plan.steps.now }
     requires there { at < length plan.steps.now }
     ensures { option_copied result ≡ fresh_at plan.entry.fresh.now at }

@@ -1,10 +1,12 @@
 //! What is kept of a node, and where.
-ghost use Rattle.std.specs.Prelude.{◌≡◌, IsTrue, Some, slice_get};
+ghost use Rattle.std.specs.Prelude.{◌≡◌, ℕ, IsTrue, Some, slice_get};
 ghost use Rattle.std.specs.List.{position};
 ghost use Rattle.std.specs.Option.{option_copied};
+ghost use Rattle.fx_kinds.specs.declared.facts.StyleFacts.{StyleFacts as Facts};
 ghost use Rattle.fx_style.specs.Kept.{HaveDifferentKeys, is_key, place_of_key};
 
 use fx_base::{List, NodeKey};
+use fx_kinds::StyleFacts;
 use fx_lookup::NamedPaint;
 use fx_node_style::NodeStyle;
 
@@ -56,6 +58,20 @@ pub(crate) fn stands_at(rest: &[Rest], key: NodeKey, at: usize) -> bool
         Some(one) => is_key(one.key, key),
         None => false,
     }
+}
+
+/// Does the key of each of these nodes stand at its place?
+pub(crate) fn all_stand(rest: &[Rest], facts: &[StyleFacts]) -> bool
+    requires { HaveDifferentKeys rest.now }
+    ensures { IsTrue result → (at : ℕ) (node : Facts) → slice_get facts.now at ≡ Some node
+        → place_of_key rest.now node.key ≡ Some at }
+{
+    for (at, node) in facts.iter().enumerate() {
+        if !stands_at(rest, node.key, at) {
+            return false;
+        }
+    }
+    true
 }
 
 fn rest_at(rest: &[Rest], at: usize) -> Option<&Rest>

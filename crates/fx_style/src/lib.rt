@@ -14,6 +14,7 @@ mod parting;
 mod putting;
 mod recoding;
 mod rewriting;
+mod siblings;
 mod styles;
 
 pub use checking::can_be_styled;

@@ -1,7 +1,7 @@
 //! The entries that an update makes anew, before anything that is kept is changed.
 ghost use Rattle.std.specs.Prelude.{◌≡◌, ◌++◌, ◌∷◌, ◌+◌, ◌<◌, ◌≤◌, [], ℕ, Option as Maybe, Some, None, true, false, IfOk, IfSome, IsTrue, OnOk, is_some, length, map, slice_get, slice_index_or};
 ghost use Rattle.std.specs.List.{filter_map};
-ghost use Rattle.std.specs.Option.{option_copied, option_map};
+ghost use Rattle.std.specs.Option.{ForSome, option_copied, option_map};
 ghost use Rattle.fx_kinds.specs.declared.facts.StyleFacts.{StyleFacts as Facts};
 ghost use Rattle.fx_css_types.specs.Limits.{AreShort, AreWithinLimits};
 ghost use Rattle.fx_select.specs.Chains.{ParentsStandBefore, chain};
@@ -16,10 +16,11 @@ ghost use Rattle.fx_style.specs.Rules as spec;
 
 use crate::above::{Plan, look_up, paints_up, parent_at};
 use crate::entries::Entries;
-use crate::kept::{Rest, place_of_key, stands_at};
-use crate::marks::marked;
+use crate::kept::{Rest, all_stand, place_of_key, stands_at};
+use crate::marks::{marked, marked_before};
 use crate::memory::{Memory, taken_entries};
 use crate::recoding::{copy_rewritten, is_calm, is_recoded};
+use crate::siblings::copy_sibling;
 use fx_base::{Ledgers, NodeKey, Work};
 use fx_css_types::{Candidate, SheetAt, sheets_within_limits_are_short};
 use fx_kinds::{StyleFacts, initial_alignment};
@@ -125,7 +126,8 @@ fn style_by_rules<L: Ledgers>(
 }
 
 /// Makes the draft the style of a node from nothing, by what its ancestors have by now: by what is kept of it where
-/// just lengths that bindings give are others, else by the rules that match it.
+/// just lengths that bindings give are others, or by what was made of the sibling before it where that is like it, else
+/// by the rules that match it.
 fn style_anew<L: Ledgers>(
     alloc: Global,
     scene: Scene<'_>,
@@ -146,6 +148,7 @@ fn style_anew<L: Ledgers>(
         (kept_at plan.looks.now plan.rest.now scene.facts.now) plan.looks.now plan.rest.now plan.fresh.now turn.at }
     requires calm { turn.calm ≡ true → (p : ℕ) → parent_at scene.facts.now turn.at ≡ Some p
         → is_among plan.listed.now p ≡ false }
+    requires before_it { ForSome turn.before (λ p. (p < turn.at) × (is_among plan.listed.now p ≡ true)) }
     ensures style { OnOk result (memory.new.draft
         ≡ spec.anew scene.entry.sheets.now scene.entry.facts.now turn.at (filter_map (plan_style plan.entry)
         (places_up scene.entry.facts.now (parent_at scene.entry.facts.now turn.at)))) }
@@ -158,6 +161,11 @@ fn style_anew<L: Ledgers>(
             work.styled.tick();
             return Ok(());
         }
+    }
+    let copied = copy_sibling(alloc, scene.facts, plan, turn, &mut memory.draft)?;
+    if copied {
+        work.styled.tick();
+        return Ok(());
     }
     style_by_rules(alloc, scene, plan, turn.at, memory, work)
 }
@@ -183,7 +191,7 @@ pub(crate) fn copy_style(
 }
 
 /// What an update does with a node of this key: is it listed, is its parent not, may what is kept stay in its place,
-/// and where does its key stand?
+/// where does its key stand, and is the node at the place before it listed?
 #[derive(Clone, Copy)]
 pub(crate) struct Turn {
     pub at: usize,
@@ -192,6 +200,7 @@ pub(crate) struct Turn {
     pub calm: bool,
     pub stay: bool,
     pub place: Option<usize>,
+    pub before: Option<usize>,
 }
 
 /// What is left of a node for an update.
@@ -255,6 +264,7 @@ fn remade<L: Ledgers>(
         (kept_at plan.looks.now plan.rest.now scene.facts.now) plan.looks.now plan.rest.now plan.fresh.now turn.at }
     requires calm { turn.calm ≡ true → (p : ℕ) → parent_at scene.facts.now turn.at ≡ Some p
         → is_among plan.listed.now p ≡ false }
+    requires before_it { ForSome turn.before (λ p. (p < turn.at) × (is_among plan.listed.now p ≡ true)) }
     ensures style { IfOk result (λ made. or_else (option_map (entry turn.key) (drafted made memory.new.draft))
         (entry_in plan.entry.looks.now plan.entry.rest.now turn.at)
         ≡ Some (entry turn.key
@@ -326,6 +336,16 @@ fn is_idle(old: Old<'_>, listed: bool, key: NodeKey, at: usize) -> bool
     old.stay && !listed && stands_at(old.rest, key, at)
 }
 
+/// Is no node listed, and may each keep what it has where it stands?
+fn is_still(old: Old<'_>, facts: &[StyleFacts], restyle: &[usize]) -> bool
+    requires keys { HaveDifferentKeys old.rest.now }
+    ensures { IsTrue result → (restyle.now ≡ []) × (old.entry.stay ≡ true)
+        × ((at : ℕ) (node : Facts) → slice_get facts.now at ≡ Some node
+        → place_of_key old.entry.rest.now node.key ≡ Some at) }
+{
+    restyle.is_empty() && old.stay && all_stand(old.rest, facts)
+}
+
 /// The entries that an update makes anew, in the order of their places. Where what is kept may not stay in its places,
 /// every place gets one.
 pub(crate) fn made<L: Ledgers>(
@@ -356,8 +376,11 @@ pub(crate) fn made<L: Ledgers>(
     }) }
 {
     let facts = scene.facts;
-    let marks = marked(alloc, restyle, facts.len())?;
     let mut fresh = taken_entries(memory, alloc, facts.len());
+    if is_still(old, facts, restyle) {
+        return Ok(fresh);
+    }
+    let marks = marked(alloc, restyle, facts.len())?;
     let mut steps = vec![in alloc; None; facts.len()]?;
     let mut guess = 0;
     for (at, node) in facts.iter().enumerate() {
@@ -375,12 +398,14 @@ pub(crate) fn made<L: Ledgers>(
             calm: is_calm(marks.as_slice(), node.parent),
             stay: old.stay,
             place,
+            before: marked_before(marks.as_slice(), at),
         };
+        let done = fresh.as_slice();
         let plan = Plan {
             listed: restyle,
             looks: old.looks,
             rest: old.rest,
-            fresh: fresh.as_slice(),
+            fresh: done,
             steps: steps.as_slice(),
         };
         let made = remade(alloc, scene, plan, turn, memory, work)?;

@@ -1,5 +1,6 @@
 //! Which places of a list are named.
-ghost use Rattle.std.specs.Prelude.{◌≡◌, ◌<◌, ◌==◌, ◌||◌, ℕ, false, IfOk, length, slice_index_or};
+ghost use Rattle.std.specs.Prelude.{◌≡◌, ◌<◌, ◌==◌, ◌||◌, ℕ, false, true, IfOk, length, slice_index_or};
+ghost use Rattle.std.specs.Option.{ForSome};
 ghost use Rattle.fx_style.specs.Kept.{is_among};
 
 use std::alloc::{AllocError, Global};
@@ -31,4 +32,19 @@ fn mark(marks: &mut [bool], place: usize)
     if place < marks.len() {
         marks[place] = true;
     }
+}
+
+/// The place before this one, if it is marked.
+pub(crate) fn marked_before(marks: &[bool], at: usize) -> Option<usize>
+    requires { at < length marks.now }
+    ensures { ForSome result (λ p. (p < at) × (slice_index_or marks.now p false ≡ true)) }
+{
+    if at == 0 {
+        return None;
+    }
+    let before = at - 1;
+    if !marks[before] {
+        return None;
+    }
+    Some(before)
 }

@@ -3,7 +3,7 @@
 ghost use Rattle.std.specs.Prelude.{◌≡◌, ◌<◌, ℕ, false, option_and_then, IfOk, IsTrue, Some, length, slice_get, slice_index_or};
 ghost use Rattle.std.specs.Option.{ForSome, option_copied, option_map};
 ghost use Rattle.fx_style.specs.Kept.{entry_in, style_of_entry};
-ghost use Rattle.fx_style.specs.Lasts.{DiffersInLengths, IsRecodedAt, rewritten};
+ghost use Rattle.fx_style.specs.Lasts.{DiffersInLengths, IsLike, IsRecodedAt, rewritten};
 ghost use Rattle.fx_style.specs.Plans.{drafted};
 
 use crate::kept::Rest;
@@ -60,6 +60,22 @@ fn has_same_sheets(old: &StyleFacts, node: &StyleFacts) -> bool
     ensures { IsTrue result → (node.now.inline ≡ old.now.inline) × (node.now.sheets ≡ old.now.sheets) }
 {
     node.inline == old.inline && node.sheets.as_slice() == old.sheets.as_slice()
+}
+
+/// Is a node like another one of its parent, up to its key and lengths that bindings give?
+pub(crate) fn is_like(old: &StyleFacts, node: &StyleFacts) -> bool
+    ensures { IsTrue result → IsLike old.now node.now }
+{
+    has_same_parent(old, node)
+        && has_same_names(old, node)
+        && has_same_sheets(old, node)
+        && are_recoded(old.codes.as_slice(), node.codes.as_slice())
+}
+
+fn has_same_parent(old: &StyleFacts, node: &StyleFacts) -> bool
+    ensures { IsTrue result → (node.now.parent ≡ old.now.parent) × (node.now.class ≡ old.now.class) }
+{
+    node.parent == old.parent && node.class == old.class
 }
 
 /// Is the parent of a node, if it has one, not marked?

@@ -1,15 +1,17 @@
-use Rattle.std.proofs.Common.{◌≡◌, ◌++◌, ◌<◌, ◌+◌, ℕ, Bool, true, false, List, Option, Some, None, get_or, length, refl, sym, ◌∙◌, ap, subst, inl, inr, arith, add_assoc}
+use Rattle.std.proofs.Common.{◌≡◌, ◌++◌, [], ◌<◌, ◌+◌, ℕ, Bool, true, false, List, Option, Some, None, get_or, length, refl, sym, ◌∙◌, ap, subst, inl, inr, arith, add_assoc}
 use Rattle.std.specs.Prelude.{slice_get, is_some, option_and_then}
 use Rattle.std.specs.List.{filter_map}
 use Rattle.std.specs.Option.{option_map}
 use Rattle.std.proofs.lemmas.Bool.{cases_eq}
-use Rattle.std.proofs.lemmas.Option.{slice_get-get_or, slice_get_read}
+use Rattle.std.proofs.lemmas.Option.{slice_get-get_or, slice_get_read, slice_get_within}
 use Rattle.fx_base.specs.declared.work.Work.{Work}
 use Rattle.fx_kinds.specs.declared.facts.StyleFacts.{StyleFacts}
 use Rattle.fx_node_style.specs.declared.node_styles.NodeStyle.{NodeStyle}
 use Rattle.fx_style.specs.declared.kept.Entry.{Entry}
 use Rattle.fx_style.specs.declared.kept.Fresh.{Fresh}
-use Rattle.fx_style.specs.Kept.{entry, fresh_at, is_among, kept_at, kept_under}
+use Rattle.fx_style.specs.declared.kept.Rest.{Rest}
+use Rattle.fx_look.specs.declared.looks.Look.{Look}
+use Rattle.fx_style.specs.Kept.{entry, fresh_at, is_among, kept_at, kept_under, place_of_key}
 use Rattle.fx_style.specs.Places.{parent_at, places_up}
 use Rattle.fx_style.specs.Plans.{AreSteps, drafted, made_fresh, put_step}
 use Rattle.fx_style.specs.Rules.{anew, needs, needs_by, renewed_by, ticks, worked}
@@ -17,7 +19,7 @@ use Rattle.fx_style.specs.Turns.{AreRightBelow}
 use Rattle.fx_style.proofs.CostLemmas.{worked_more}
 use Rattle.fx_style.proofs.FreshLemmas.{AreFew, few_more, fresh-here, fresh-other, long_more, steps_more}
 use Rattle.fx_style.proofs.RecodedLemmas.{parent_is}
-use Rattle.fx_style.proofs.IdleLemmas.{Idles, idle_cost, idle_right}
+use Rattle.fx_style.proofs.IdleLemmas.{Idles, idle_cost, idle_right, still_cost, still_right}
 use Rattle.fx_style.proofs.UpdateLemmas.{now_of, right_more}
 use Rattle.fx_style.proofs.making.made.Goals as goal
 
@@ -89,7 +91,7 @@ loop-at-preserved g c =
           (c.in_ok-made.ensures.style
           ∙ ap (λ (l : List Fresh). Some (entry node.key (renewed_by c.index-listed.result.now
           (kept_under looks rest node.key) (anew sheets facts at (filter_map (now_of looks rest l) up)))))
-          c.as_slice-in-loop-at.ensures
+          c.as_slice-done.ensures
           ∙ ap (λ (b : Bool). Some (entry node.key (renewed_by b (kept_under looks rest node.key)
           (anew sheets facts at (filter_map (now_of looks rest fs) up))))) listed
           ∙ ap (λ (k : Option NodeStyle). Some (entry node.key (renewed_by (is_among restyle at) k
@@ -136,6 +138,62 @@ remade-requires-clause-calm g c = λ calm p up.
     sym (c.in_ok-marks.ensures.marks p (omega (arith, less, c.loop-at-test.true)))
     ∙ ap (λ (l : List Bool). get_or l p false) (sym c.as_slice.ensures.value)
     ∙ c.is_calm.ensures calm p above
+
+-- nothing is listed, and each key stands at its place
+idles : (facts : List StyleFacts) (restyle : List ℕ) (looks : List Look) (rest : List Rest) → restyle ≡ []
+    → length looks ≡ length facts → length rest ≡ length facts
+    → ((at : ℕ) (node : StyleFacts) → slice_get facts at ≡ Some node → place_of_key rest node.key ≡ Some at)
+    → (at : ℕ) (node : StyleFacts) → slice_get facts at ≡ Some node → Idles restyle looks rest node at
+idles facts restyle looks rest none in_looks in_rest stand at node is =
+    let within = slice_get_within facts at node is in
+    record {
+      unlisted = ap (λ (l : List ℕ). is_among l at) none;
+      place = stand at node is;
+      in_looks = subst (λ (n : ℕ). at < n) (sym in_looks) within;
+      in_rest = subst (λ (n : ℕ). at < n) (sym in_rest) within;
+    }
+
+pub returns-then-is_still-clause-right : goal.returns-then-is_still-clause-right
+returns-then-is_still-clause-right g c =
+    let facts = c.args.scene.facts.now in
+    let restyle = c.args.restyle.now in
+    let looks = c.args.old.looks.now in
+    let rest = c.args.old.rest.now in
+    let still = c.is_still.ensures c.if-is_still.true in
+    let long = c.requires.stay still.1 in
+    subst (λ (l : List Fresh). AreRightBelow c.args.scene.sheets.now facts restyle (kept_at looks rest facts) looks
+    rest l (length facts)) (sym c.taken_entries-fresh.ensures)
+    (still_right c.args.scene.sheets.now facts restyle looks rest c.requires.before
+    (idles facts restyle looks rest still.0 long.0 long.1 still.2) (length facts) (omega arith))
+
+pub returns-then-is_still-clause-all : goal.returns-then-is_still-clause-all
+returns-then-is_still-clause-all g c = λ must k below.
+    let still = c.is_still.ensures c.if-is_still.true in
+    absurd (let h : true ≡ false = sym still.1 ∙ must in cc)
+
+pub returns-then-is_still-clause-cost : goal.returns-then-is_still-clause-cost
+returns-then-is_still-clause-cost g c =
+    let facts = c.args.scene.facts.now in
+    let restyle = c.args.restyle.now in
+    let looks = c.args.old.looks.now in
+    let rest = c.args.old.rest.now in
+    let still = c.is_still.ensures c.if-is_still.true in
+    let long = c.requires.stay still.1 in
+    let none = still_cost facts restyle looks rest (idles facts restyle looks rest still.0 long.0 long.1 still.2)
+    (length facts) (omega arith) in
+    let same : c.args.work.now.styled
+    ≡ c.args.work.now.styled + worked (needs restyle (kept_at looks rest facts)) (length facts) =
+    omega (arith, none) in
+    ap (λ (n : ℕ). record c.args.work.now { styled = n }) same
+
+pub remade-requires-clause-before_it : goal.remade-requires-clause-before_it
+remade-requires-clause-before_it g c = λ p named.
+    let marked = c.marked_before.ensures p named in (
+      marked.0,
+      sym (c.in_ok-marks.ensures.marks p (omega (arith, marked.0, c.loop-at-test.true)))
+          ∙ ap (λ (l : List Bool). get_or l p false) (sym c.as_slice-in-loop-at.ensures.value)
+          ∙ marked.1,
+    )
 
 pub loop-at-preserved-then-is_idle : goal.loop-at-preserved-then-is_idle
 loop-at-preserved-then-is_idle g c =

@@ -6,6 +6,7 @@ use Rattle.fx_style.specs.Kept.{entry_in, style_of_entry}
 use Rattle.fx_style.specs.Lasts.{AreStylesOf, rewritten}
 use Rattle.fx_style.specs.Plans.{drafted}
 use Rattle.fx_style.proofs.RecodedLemmas.{rewritten_is}
+use Rattle.fx_style.proofs.SiblingLemmas.{sibling_is}
 use Rattle.fx_style.proofs.making.style_anew.Goals as goal
 
 the_style : (a b : NodeStyle) → Some a ≡ Some b → a ≡ b
@@ -36,3 +37,17 @@ returns-then-branch-clause-style g c =
     ∙ (ap (λ (l : List CodeValue). option_map (rewritten l) kept) codes
     ∙ rewritten_is sheets facts r.olds listed looks rest c.args.plan.fresh.now c.requires.before are at r.old r.node
     r.was r.is r.differs (c.requires.calm c.if-turn.true) c.requires.right)))
+
+pub returns-then-copied-clause-style : goal.returns-then-copied-clause-style
+returns-then-copied-clause-style g c =
+    let facts = c.args.scene.facts.now in
+    let at = c.args.turn.at in
+    let own = c.in_ok-copied.ensures c.if-copied.true in
+    let of = own.sibling in
+    let marked = c.requires.before_it of.place of.named in
+    own.style
+    ∙ sibling_is c.args.scene.sheets.now facts c.args.plan.listed.now c.args.plan.looks.now c.args.plan.rest.now
+    c.args.plan.fresh.now c.requires.before of.place at own.made of.made_like marked.0 marked.1 c.requires.right
+
+pub copy_sibling-requires-clause-before_it : goal.copy_sibling-requires-clause-before_it
+copy_sibling-requires-clause-before_it g c = λ p named. (c.requires.before_it p named).0

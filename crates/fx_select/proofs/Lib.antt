@@ -14,5 +14,6 @@ pub mod OrderLemmas
 pub mod OwnLemmas
 pub mod RuleLemmas
 pub mod StrongestLemmas
+pub mod TextLemmas
 pub mod WeightLemmas
 pub mod RisingLemmas

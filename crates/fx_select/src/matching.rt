@@ -11,6 +11,9 @@ use fx_base::Text;
 use fx_css_types::{Combinator, Compound, Selector};
 use fx_kinds::{Class, StyleFacts, name_of};
 
+/// Texts of at most so many bytes are compared byte by byte.
+const FEW_BYTES: usize = 8;
+
 /// Does the selector match the node at this place? A selector without compounds matches nothing. With each ancestor
 /// that is tried for a combinator the walk goes one call deeper, so the nodes are as few as a scene may have.
 pub fn matches(selector: &Selector, facts: &[StyleFacts], at: usize) -> bool
@@ -27,7 +30,15 @@ pub fn is_match(selector: &Selector, facts: &[StyleFacts], at: usize) -> bool
     requires there { at < length facts.now }
     ensures { result ≡ matches_chain selector.now (chain facts.now at) }
 {
-    match match_up(selector.compounds.as_slice(), facts, at) {
+    let compounds = selector.compounds.as_slice();
+    let Some((last, before)) = compounds.split_last() else {
+        return false;
+    };
+    let node = node_at(facts, at);
+    if !fits(last, node) {
+        return false;
+    }
+    match match_before(last.combinator, before, facts, node.parent) {
         Match::Here => true,
         Match::NotHere => false,
         Match::Nowhere => false,
@@ -137,14 +148,60 @@ fn fits_kind(kind: &Option<Text>, class: Class) -> bool
 {
     match kind {
         None => true,
-        Some(kind) => kind.as_str() == name_of(class),
+        Some(kind) => is_text(kind.as_str(), name_of(class)),
     }
 }
 
+#[inline]
 fn has_each(texts: &[Text], wanted: &[Text]) -> bool
     ensures { result ≡ list_all (has_text texts.now) wanted.now }
 {
-    wanted.iter().all(|text| texts.contains(text))
+    for text in wanted {
+        if !has_text(texts, text.as_str()) {
+            return false;
+        }
+    }
+    true
+}
+
+fn has_text(texts: &[Text], text: &str) -> bool
+    ensures { result ≡ has_text texts.now text.now }
+{
+    for one in texts {
+        if is_text(one.as_str(), text) {
+            return true;
+        }
+    }
+    false
+}
+
+/// Are the two one text? Most that aren't differ in their lengths or their first bytes, so short ones are compared
+/// byte by byte, without a call.
+#[inline]
+#[tactic(auto, using(crate::proofs::TextLemmas::unlike))]
+fn is_text(one: &str, other: &str) -> bool
+    ensures { result ≡ bytes_eq one.now other.now }
+{
+    if one.len() != other.len() {
+        return false;
+    }
+    if one.len() > FEW_BYTES {
+        return one == other;
+    }
+    have_same_bytes(one.as_bytes(), other.as_bytes())
+}
+
+#[inline]
+fn have_same_bytes(bytes: &[u8], others: &[u8]) -> bool
+    requires { length bytes.now ≡ length others.now }
+    ensures { result ≡ bytes_eq bytes.now others.now }
+{
+    for at in 0..bytes.len() {
+        if bytes[at] != others[at] {
+            return false;
+        }
+    }
+    true
 }
 
 fn is_each(id: &Text, wanted: &[Text]) -> bool

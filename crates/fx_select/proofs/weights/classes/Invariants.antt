@@ -1,7 +1,0 @@
--- the classes and pseudo-classes of the compounds so far
-use Rattle.std.proofs.Common.{◌≡◌, take}
-use Rattle.fx_css_types.specs.Specificity.{class_count}
-use Rattle.fx_select.proofs.weights.classes.Given as goal
-
-abbrev pub invariant-loop-compound : goal.invariant-loop-compound
-invariant-loop-compound l = l.count ≡ class_count (take l.compound-index l.compounds)

@@ -1,7 +1,0 @@
--- the ids of the compounds so far
-use Rattle.std.proofs.Common.{◌≡◌, take}
-use Rattle.fx_css_types.specs.Specificity.{id_count}
-use Rattle.fx_select.proofs.weights.ids.Given as goal
-
-abbrev pub invariant-loop-compound : goal.invariant-loop-compound
-invariant-loop-compound l = l.count ≡ id_count (take l.compound-index l.compounds)

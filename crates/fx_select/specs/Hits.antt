@@ -1,6 +1,6 @@
 -- Which listed selectors match a node, over the node and its ancestors.
-use Rattle.std.specs.Prelude.{ℕ, ◌==◌, Bool, false, ◌&&◌, ◌||◌, List, [], ◌∷◌, ◌++◌, map, slice_get, Option, Some, None, option_and_then, if◌then◌else◌}
-use Rattle.std.specs.Option.{option_map}
+use Rattle.std.specs.Prelude.{ℕ, ◌≡◌, ◌==◌, Bool, false, ◌&&◌, ◌||◌, List, [], ◌∷◌, ◌++◌, map, slice_get, Option, Some, None, option_and_then, if◌then◌else◌}
+use Rattle.std.specs.Option.{ForSome, option_map}
 use Rattle.std.specs.List.{list_any, filter_map, flat_map}
 use Rattle.fx_css_types.specs.declared.selectors.Selector.{Selector}
 use Rattle.fx_css_types.specs.declared.sheets.Rule.{Rule}
@@ -9,6 +9,7 @@ use Rattle.fx_css_types.specs.declared.sheets.SheetOrigin.{SheetOrigin}
 use Rattle.fx_css_types.specs.declared.sheets.Candidate.{Candidate}
 use Rattle.fx_kinds.specs.declared.facts.StyleFacts.{StyleFacts}
 use Rattle.fx_kinds.specs.Classes.{name_of}
+use Rattle.fx_select.specs.declared.hits.Seen.{Seen}
 use Rattle.fx_select.specs.declared.lists.SelectorAt.{SelectorAt}
 use Rattle.fx_select.specs.Keys.{Key, ById, ByClass, ByKind, InRest}
 use Rattle.fx_select.specs.Listing.{Listing, bare_of, each, listed}
@@ -31,6 +32,10 @@ lists_sheet sheet node = list_any (λ (place : ℕ). place == sheet) node.sheets
 abbrev pub is_visible : List StyleFacts → ℕ → Bool
 is_visible [] sheet = false
 is_visible (node ∷ above) sheet = is_inline node sheet || list_any (lists_sheet sheet) (node ∷ above)
+
+-- what was found for a sheet, if anything was, is whether the first node sees it
+abbrev pub IsRight : List StyleFacts → Option Seen → Type 0
+IsRight nodes last = ForSome last (λ (s : Seen). s.visible ≡ is_visible nodes s.sheet)
 
 abbrev pub is_own : List StyleFacts → ℕ → Bool
 is_own [] sheet = false

@@ -2,7 +2,7 @@
 //! The index collects them and gives each of their rules once.
 ghost use Rattle.std.specs.Prelude.{◌≡◌, ◌++◌, ◌<◌, ◌≤◌, ◌==◌, length, OnOk, All};
 ghost use Rattle.std.specs.List.{filter_map, list_any};
-ghost use Rattle.std.specs.Option.{ForSome, option_copied, option_to_list};
+ghost use Rattle.std.specs.Option.{option_copied, option_to_list};
 ghost use Rattle.fx_select.specs.Chains.{ParentsStandBefore, chain};
 ghost use Rattle.fx_select.specs.Hits as spec;
 ghost use Rattle.fx_css_types.specs.Limits.{AreShort, AreShortRules, AreShortSelectors};
@@ -17,30 +17,33 @@ use std::alloc::AllocError;
 
 /// Whether a node sees a sheet, as it was found for the selector before.
 #[derive(Clone, Copy)]
-struct Seen {
+pub struct Seen {
     sheet: usize,
     visible: bool,
 }
 
-/// Puts those of the selectors behind the hits that match the node at this place.
+/// Puts those of the selectors behind the hits that match the node at this place. `last` is what was found for the
+/// selector before, and in the end what was found for the last one.
 pub fn push_hits(
     hits: &mut Vec<Candidate>,
     listed: &[SelectorAt],
     sheets: &[SheetAt],
     facts: &[StyleFacts],
     at: usize,
+    last: &mut Option<Seen>,
 ) -> Result<(), AllocError>
     requires before { ParentsStandBefore facts.now }
     requires there { at < length facts.now }
     requires short { AreShort sheets.now }
-    ensures { OnOk result (hits.new.items
+    requires last { spec.IsRight (chain facts.now at) last.old }
+    ensures hits { OnOk result (hits.new.items
         ≡ hits.old.items ++ filter_map (spec.hit_of sheets.now (chain facts.now at)) listed.now) }
+    ensures last { spec.IsRight (chain facts.now at) last.new }
 {
-    let mut last = None;
     for selector in listed {
-        let visible = is_seen(last, selector.sheet, facts, at);
+        let visible = is_seen(*last, selector.sheet, facts, at);
         push_hit(hits, hit_of(*selector, visible, sheets, facts, at))?;
-        last = Some(Seen {
+        *last = Some(Seen {
             sheet: selector.sheet,
             visible,
         });
@@ -232,7 +235,7 @@ fn bare_weight(
 fn is_seen(last: Option<Seen>, sheet: usize, facts: &[StyleFacts], at: usize) -> bool
     requires before { ParentsStandBefore facts.now }
     requires there { at < length facts.now }
-    requires last { ForSome last (λ s. s.visible ≡ spec.is_visible (chain facts.now at) s.sheet) }
+    requires last { spec.IsRight (chain facts.now at) last }
     ensures { result ≡ spec.is_visible (chain facts.now at) sheet }
 {
     match last {

@@ -5,14 +5,14 @@ ghost use Rattle.std.specs.List.{filter_map, flat_map};
 ghost use Rattle.fx_kinds.specs.declared.facts.StyleFacts.{StyleFacts as StyleFactsValue};
 ghost use Rattle.fx_css_types.specs.declared.sheets.SheetAt.{SheetAt as SheetValue};
 ghost use Rattle.fx_select.specs.Chains.{ParentsStandBefore, chain};
-ghost use Rattle.fx_select.specs.Hits.{hit_of, hits_of};
+ghost use Rattle.fx_select.specs.Hits.{IsRight, hit_of, hits_of};
 ghost use Rattle.fx_select.specs.Keys.{ByClass, Key, InRest, key_of, key_of_compound};
 ghost use Rattle.fx_css_types.specs.Limits.{AreShort};
 ghost use Rattle.fx_select.specs.Strongest.{matched_of};
 ghost use Rattle.fx_select.specs.AllMatching.{matching_of};
 ghost use Rattle.fx_select.specs.Listing.{IsBare, IsListing, Listing, listed, selector_entries, sheet_entries, under_key, with_added};
 
-use crate::hits::{push_hits, push_own_hits};
+use crate::hits::{Seen, push_hits, push_own_hits};
 use crate::lists::{NamedLists, SelectorAt};
 use crate::matching::node_at;
 use crate::strongest::merge_hits;
@@ -113,17 +113,14 @@ impl RuleIndex {
         ensures { OnOk result (hits.new.items ≡ hits_of self.now sheets.now (chain facts.now at)) }
     {
         let node = node_at(facts, at);
+        let mut last = None;
         hits.clear();
-        push_hits(hits, self.ids.under(node.id.as_str()), sheets, facts, at)?;
-        self.push_class_hits(hits, node.classes.as_slice(), sheets, facts, at)?;
-        push_hits(
-            hits,
-            self.kinds.under(name_of(node.class)),
-            sheets,
-            facts,
-            at,
-        )?;
-        push_hits(hits, self.rest.as_slice(), sheets, facts, at)?;
+        let by_id = self.ids.under(node.id.as_str());
+        push_hits(hits, by_id, sheets, facts, at, &mut last)?;
+        self.push_class_hits(hits, node.classes.as_slice(), sheets, facts, at, &mut last)?;
+        let by_kind = self.kinds.under(name_of(node.class));
+        push_hits(hits, by_kind, sheets, facts, at, &mut last)?;
+        push_hits(hits, self.rest.as_slice(), sheets, facts, at, &mut last)?;
         push_own_hits(hits, node.inline, sheets)?;
         Ok(())
     }
@@ -135,16 +132,20 @@ impl RuleIndex {
         sheets: &[SheetAt],
         facts: &[StyleFacts],
         at: usize,
+        last: &mut Option<Seen>,
     ) -> Result<(), AllocError>
         requires before { ParentsStandBefore facts.now }
         requires there { at < length facts.now }
         requires short { AreShort sheets.now }
-        ensures { OnOk result (hits.new.items ≡ hits.old.items
+        requires last { IsRight (chain facts.now at) last.old }
+        ensures hits { OnOk result (hits.new.items ≡ hits.old.items
             ++ filter_map (hit_of sheets.now (chain facts.now at))
             (flat_map (listed self.now) (map ByClass classes.now))) }
+        ensures last { IsRight (chain facts.now at) last.new }
     {
         for class in classes {
-            push_hits(hits, self.classes.under(class.as_str()), sheets, facts, at)?;
+            let by_class = self.classes.under(class.as_str());
+            push_hits(hits, by_class, sheets, facts, at, last)?;
         }
         Ok(())
     }

@@ -26,16 +26,16 @@ returns c =
     ∙ ap (λ (l : List Candidate). l ++ own_hits node.inline c.args.sheets.now)
     (joined-hits (hit_of c.args.sheets.now (chain facts c.args.at)) (listed listing) node.id (name_of node.class) node.classes
     c.clear.new.self.items c.push_hits.new.hits.items c.push_class_hits.new.hits.items c.push_hits-2.new.hits.items c.push_hits-3.new.hits.items
-    c.under.result.now c.under-2.result.now c.as_slice-2.result.now
+    c.under-by_id.result.now c.under-by_kind.result.now c.as_slice-2.result.now
     c.clear.ensures.items
-    c.in_ok-push_hits.ensures
-    (c.in_ok-push_class_hits.ensures
+    c.in_ok-push_hits.ensures.hits
+    (c.in_ok-push_class_hits.ensures.hits
     ∙ ap (λ (cs : List (List ℕ)). c.push_hits.new.hits.items
     ++ filter_map (hit_of c.args.sheets.now (chain facts c.args.at)) (flat_map (listed listing) (map ByClass cs))) c.as_slice.ensures)
-    c.in_ok-push_hits-2.ensures
-    c.in_ok-push_hits-3.ensures
-    (c.under.ensures ∙ ap (under inside.ids) c.as_str.ensures.text ∙ ap (λ (l : Listing). listed l (ById node.id)) c.self.view_is)
-    (c.under-2.ensures ∙ ap (under inside.kinds) c.name_of.ensures ∙ ap (λ (l : Listing). listed l (ByKind (name_of node.class))) c.self.view_is)
+    c.in_ok-push_hits-2.ensures.hits
+    c.in_ok-push_hits-3.ensures.hits
+    (c.under-by_id.ensures ∙ ap (under inside.ids) c.as_str.ensures.text ∙ ap (λ (l : Listing). listed l (ById node.id)) c.self.view_is)
+    (c.under-by_kind.ensures ∙ ap (under inside.kinds) c.name_of.ensures ∙ ap (λ (l : Listing). listed l (ByKind (name_of node.class))) c.self.view_is)
     (c.as_slice-2.ensures.value ∙ ap (λ (l : Listing). l.rest) c.self.view_is))
     ∙ ap (λ (l : List Candidate). filter_map h named ++ l) (sym (own-hits c.args.sheets.now (chain facts c.args.at) node (upward facts node.parent) step))
     ∙ sym (hits_of-step listing c.args.sheets.now (chain facts c.args.at) node (upward facts node.parent) step)

@@ -17,7 +17,7 @@ and-true : (a b : Bool) → (a && b) ≡ true → (a ≡ true) × (b ≡ true)
 and-true true b e = (refl, e)
 and-true false b e = absurd (false≢true e)
 
-turned : (one other : List ℕ) → bytes_eq one other ≡ true → bytes_eq other one ≡ true
+pub turned : (one other : List ℕ) → bytes_eq one other ≡ true → bytes_eq other one ≡ true
 turned one other e = (bytes_eq-Decides other one).1 (sym ((bytes_eq-Decides one other).0 e))
 
 -- the node has a key that is the same as this one

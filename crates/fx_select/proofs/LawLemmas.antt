@@ -35,25 +35,25 @@ and-true : (a b : Bool) → (a && b) ≡ true → (a ≡ true) × (b ≡ true)
 and-true true b e = (refl, e)
 and-true false b e = absurd (false≢true e)
 
-place : ℕ → ℕ → Option ℕ → SelectorAt
+pub place : ℕ → ℕ → Option ℕ → SelectorAt
 place sheet rule selector = record { sheet = sheet; rule = rule; selector = selector }
 
 -- each selector of the sheets is listed under each key that is the same as its own
-listed-in : (sheets : List SheetAt) (listing : Listing) → IsListing sheets listing → (key own : Key) (at : SelectorAt)
+pub listed-in : (sheets : List SheetAt) (listing : Listing) → IsListing sheets listing → (key own : Key) (at : SelectorAt)
     → In (key, at) (entries sheets) → is_same_key own key ≡ true → In at (listed listing own)
 unfolding under_key
 listed-in sheets listing is key own at among same =
     subst (In at) (sym (is own))
     (in-map (λ (e : Key × SelectorAt). e.1) (key, at) _ (in-filter (λ (e : Key × SelectorAt). is_same_key own e.0) (key, at) (entries sheets) among same))
 
-selector-entry : (sheet rule : ℕ) (selectors : List Selector) (i : ℕ) (selector : Selector) → slice_get selectors i ≡ Some selector
+pub selector-entry : (sheet rule : ℕ) (selectors : List Selector) (i : ℕ) (selector : Selector) → slice_get selectors i ≡ Some selector
     → In (key_of selector, place sheet rule (Some i)) (selector_entries sheet rule selectors)
 unfolding In place
 selector-entry sheet rule selectors i selector is =
     in-each (λ (n : ℕ) (s : Selector). (key_of s, place sheet rule (Some n)) ∷ []) selectors i selector is
     (key_of selector, place sheet rule (Some i)) (inl refl)
 
-entry-in : (sheets : List SheetAt) (i j : ℕ) (s : SheetAt) (r : Rule) → slice_get sheets i ≡ Some s → slice_get s.sheet.rules j ≡ Some r
+pub entry-in : (sheets : List SheetAt) (i j : ℕ) (s : SheetAt) (r : Rule) → slice_get sheets i ≡ Some s → slice_get s.sheet.rules j ≡ Some r
     → (e : Key × SelectorAt) → In e (selector_entries i j r.selectors) → In e (entries sheets)
 entry-in sheets i j s r is there e among =
     in-each (λ (n : ℕ) (one : SheetAt). sheet_entries n one.sheet.rules) sheets i s is e

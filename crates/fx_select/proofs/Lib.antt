@@ -17,3 +17,4 @@ pub mod StrongestLemmas
 pub mod TextLemmas
 pub mod WeightLemmas
 pub mod RisingLemmas
+pub mod AlikeLemmas

@@ -1,3 +1,4 @@
+pub mod Alike
 pub mod AllMatching
 pub mod Chains
 pub mod Hits

@@ -1,9 +1,10 @@
 //! The rules of a list of sheets by what a node must have to be matched (an id, a class, a type).
 //! Styling asks it for the rules that match a node.
-ghost use Rattle.std.specs.Prelude.{◌≡◌, ◌++◌, ◌∷◌, ◌<◌, ℕ, List, length, map, OnOk, IfOk, []};
+ghost use Rattle.std.specs.Prelude.{◌≡◌, ◌++◌, ◌∷◌, ◌<◌, ℕ, List, length, map, OnOk, IfOk, [], false};
 ghost use Rattle.std.specs.List.{filter_map, flat_map};
 ghost use Rattle.fx_kinds.specs.declared.facts.StyleFacts.{StyleFacts as StyleFactsValue};
 ghost use Rattle.fx_css_types.specs.declared.sheets.SheetAt.{SheetAt as SheetValue};
+ghost use Rattle.fx_select.specs.Alike.{IsUnasked};
 ghost use Rattle.fx_select.specs.Chains.{ParentsStandBefore, chain};
 ghost use Rattle.fx_select.specs.Hits.{IsRight, hit_of, hits_of};
 ghost use Rattle.fx_select.specs.Keys.{ByClass, Key, InRest, key_of, key_of_compound};
@@ -98,6 +99,14 @@ impl RuleIndex {
         self.find_hits(sheets, facts, at, found)?;
         merge_hits(alloc, found)?;
         Ok(())
+    }
+
+    /// Does a selector ask for the id of this node, where it ends?
+    pub fn asks_for_id(&self, node: &StyleFacts) -> bool
+        ensures unasked { result ≡ false → IsUnasked self.now node.now }
+        ensures only { IsUnasked self.now node.now → result ≡ false }
+    {
+        !self.ids.under(node.id.as_str()).is_empty()
     }
 
     fn find_hits(

@@ -2,6 +2,7 @@
 //! index that finds the rules of a list of sheets that match a node. The cascade goes over what is found here.
 #![tactic(auto)]
 
+mod alike;
 mod hits;
 mod index;
 mod lists;
@@ -9,6 +10,7 @@ mod matching;
 mod strongest;
 mod weights;
 
+pub use alike::ids_that_nobody_asks_for;
 pub use index::{RuleIndex, all_matched, inline_styles_change_no_index};
 pub use lists::SelectorAt;
 pub use matching::matches;

@@ -31,7 +31,8 @@ pub struct Fresh {
     pub entry: Entry,
 }
 
-pub(crate) fn is_key(one: NodeKey, other: NodeKey) -> bool
+/// Are the keys those of one node?
+pub fn is_key(one: NodeKey, other: NodeKey) -> bool
     ensures { result ≡ is_key one other }
 {
     one.slot == other.slot && one.birth == other.birth

@@ -3,7 +3,6 @@
 #![tactic(auto)]
 
 mod above;
-mod checking;
 mod entries;
 mod kept;
 mod laws;
@@ -17,8 +16,7 @@ mod rewriting;
 mod siblings;
 mod styles;
 
-pub use checking::can_be_styled;
-pub use kept::{Entry, Fresh, Rest};
+pub use kept::{Entry, Fresh, Rest, is_key};
 pub use laws::{
     few_are_worked, matches_name_each_rule_once, one_winner, same_ancestors_same_style,
     same_ancestors_same_winners, updates_agree,

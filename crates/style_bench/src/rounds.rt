@@ -10,15 +10,17 @@ use fx_base::{Ledgers, Work};
 use fx_css_types::{SheetAt, sheets_within_limits_are_short};
 use fx_kinds::StyleFacts;
 use fx_select::RuleIndex;
-use fx_style::{Scene, Styles, can_be_styled};
+use fx_style::{Scene, Styles};
+use fx_style_checks::can_be_styled;
 use std::alloc::{AllocError, Global};
 
-/// What is done with each node: its rules are searched, it is styled anew, its look is kept, or it is a label whose
-/// width changes.
+/// What is done with each node: its rules are searched, it is styled anew, among nodes that are like each other or not,
+/// its look is kept, or it is a label whose width changes.
 #[derive(Clone, Copy)]
 pub enum Task {
     Search,
     Style,
+    Mixed,
     Keep,
     Labels,
 }
@@ -48,7 +50,7 @@ pub fn play<'a, L: Ledgers>(
     let scene = scene_of(&index, sheets, facts);
     match rounds.task {
         Task::Search => Ok(search(alloc, scene, rounds.count)?),
-        Task::Style => Ok(style(alloc, scene, rounds.count, work)?),
+        Task::Style | Task::Mixed => Ok(style(alloc, scene, rounds.count, work)?),
         _ => Ok(keep(alloc, scene, rounds.count, work)?),
     }
 }

@@ -8,7 +8,7 @@ use fx_css_parts::read_selectors;
 use fx_css_types::{Candidate, Selector, SheetAt, sheets_within_limits_are_short};
 use fx_kinds::StyleFacts;
 use fx_select::{RuleIndex, matches};
-use fx_style::can_be_styled;
+use fx_style_checks::can_be_styled;
 use std::alloc::{AllocError, Global};
 
 /// For each selector of the text a line that says of each node whether it matches.

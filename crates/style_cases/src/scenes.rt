@@ -14,7 +14,8 @@ use fx_css::{agent_sheet, read_inline, read_sheet};
 use fx_css_types::{SheetAt, SheetOrigin};
 use fx_kinds::StyleFacts;
 use fx_select::RuleIndex;
-use fx_style::{Scene, Styles, can_be_styled};
+use fx_style::{Scene, Styles};
+use fx_style_checks::can_be_styled;
 use std::alloc::Global;
 use std::marker::Model;
 

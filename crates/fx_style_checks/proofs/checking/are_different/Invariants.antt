@@ -3,7 +3,7 @@ use Rattle.std.proofs.Common.{◌≡◌, ◌<◌, ℕ, Some, true}
 use Rattle.std.specs.Prelude.{slice_get}
 use Rattle.fx_kinds.specs.declared.facts.StyleFacts.{StyleFacts}
 use Rattle.fx_style.specs.Kept.{is_key}
-use Rattle.fx_style.proofs.checking.are_different.Given as goal
+use Rattle.fx_style_checks.proofs.checking.are_different.Given as goal
 
 abbrev pub invariant-loop-at : goal.invariant-loop-at
 invariant-loop-at l =

@@ -6,9 +6,9 @@ ghost use Rattle.fx_cascade.specs.Tables.{AreRows};
 ghost use Rattle.fx_style.specs.Kept.{AreDifferent, is_key};
 ghost use Rattle.fx_style.specs.Rules.{HaveRows};
 
-use crate::kept::is_key;
 use fx_kinds::StyleFacts;
 use fx_look::{CodeValue, STYLE_COUNT};
+use fx_style::is_key;
 
 /// Do parents stand before their children, have no two nodes one key, and are all code values of rows that the style
 /// table has? Compares each key with each other.

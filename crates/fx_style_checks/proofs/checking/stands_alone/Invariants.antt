@@ -3,7 +3,7 @@ use Rattle.std.proofs.Common.{◌≡◌, ◌<◌, ℕ, Some, true}
 use Rattle.std.specs.Prelude.{slice_get}
 use Rattle.fx_kinds.specs.declared.facts.StyleFacts.{StyleFacts}
 use Rattle.fx_style.specs.Kept.{is_key}
-use Rattle.fx_style.proofs.checking.stands_alone.Given as goal
+use Rattle.fx_style_checks.proofs.checking.stands_alone.Given as goal
 
 abbrev pub invariant-loop-other : goal.invariant-loop-other
 invariant-loop-other l =

@@ -10,7 +10,7 @@ mod matching;
 mod strongest;
 mod weights;
 
-pub use alike::ids_that_nobody_asks_for;
+pub use alike::{are_alike, ids_that_nobody_asks_for};
 pub use index::{RuleIndex, all_matched, inline_styles_change_no_index};
 pub use lists::SelectorAt;
 pub use matching::matches;

@@ -4,9 +4,9 @@ use Rattle.std.specs.Prelude.{slice_get}
 use Rattle.std.specs.List.{enumerate_from}
 use Rattle.std.specs.Option.{option_map}
 use Rattle.std.proofs.lemmas.Option.{slice_get_within}
-use Rattle.fx_base.specs.declared.keys.NodeKey.{NodeKey}
 use Rattle.fx_look.specs.declared.looks.Look.{Look}
 use Rattle.fx_look.specs.declared.styles.CodeValue.{CodeValue}
+use Rattle.fx_kinds.specs.declared.classes.Class.{Class}
 use Rattle.fx_kinds.specs.declared.facts.StyleFacts.{StyleFacts}
 use Rattle.fx_kinds.specs.Properties.{initial_alignment}
 use Rattle.fx_css_types.specs.declared.sheets.Candidate.{Candidate}
@@ -17,8 +17,9 @@ use Rattle.fx_css_types.specs.declared.selectors.Selector.{Selector}
 use Rattle.fx_select.specs.AllMatching.{matching_in, matching_rule, rule_weights}
 use Rattle.fx_select.specs.Chains.{ParentsStandBefore, upward}
 use Rattle.fx_select.specs.Hits.{selector_weight}
-use Rattle.fx_select.specs.Listing.{each}
+use Rattle.fx_select.specs.Listing.{IsListing, Listing, each}
 use Rattle.fx_select.specs.Matching.{fits, matches_up}
+use Rattle.fx_select.proofs.AlikeLemmas.{match-alike}
 use Rattle.fx_select.proofs.ChainLemmas.{upward-none, upward-some}
 use Rattle.fx_node_style.specs.declared.node_styles.NodeStyle.{NodeStyle}
 use Rattle.fx_node_style.specs.Styling.{look_above, paints_above, style_under}
@@ -35,21 +36,21 @@ use Rattle.fx_style.proofs.ChainLaws.{style_chain}
 use Rattle.fx_style.proofs.PlaceLemmas.{parent_before}
 use Rattle.fx_style.proofs.UpdateLemmas.{from_nothing, now_of, same_up, style_entry, styled-some, styles_below}
 
--- ---- keys and code values are nothing to rules
+-- ---- code values are nothing to rules
 
-matches_same : (old : StyleFacts) (key : NodeKey) (codes : List CodeValue) (up : List StyleFacts)
+matches_same : (old : StyleFacts) (codes : List CodeValue) (up : List StyleFacts)
     (compounds : List Compound)
-    → matches_up compounds (record old { key = key; codes = codes } ∷ up) ≡ matches_up compounds (old ∷ up)
+    → matches_up compounds (record old { codes = codes } ∷ up) ≡ matches_up compounds (old ∷ up)
 unfolding matches_up fits
-matches_same old key codes up [] = refl
-matches_same old key codes up (last ∷ before) = refl
+matches_same old codes up [] = refl
+matches_same old codes up (last ∷ before) = refl
 
-weight_same : (old : StyleFacts) (key : NodeKey) (codes : List CodeValue) (up : List StyleFacts) (sheet : ℕ)
-    (selector : Selector) → selector_weight (record old { key = key; codes = codes } ∷ up) sheet selector
+weight_same : (old : StyleFacts) (codes : List CodeValue) (up : List StyleFacts) (sheet : ℕ)
+    (selector : Selector) → selector_weight (record old { codes = codes } ∷ up) sheet selector
     ≡ selector_weight (old ∷ up) sheet selector
 unfolding selector_weight
-weight_same old key codes up sheet selector =
-    rw (matches_same old key codes up (reverse selector.compounds)) refl
+weight_same old codes up sheet selector =
+    rw (matches_same old codes up (reverse selector.compounds)) refl
 
 filter_same : {A B : Type 0} (f g : A → Option B) → ((x : A) → f x ≡ g x) → (xs : List A)
     → filter_map f xs ≡ filter_map g xs
@@ -67,54 +68,59 @@ unfolding each
 each_same {X} f g same xs = flat_same (λ (e : ℕ × X). f e.0 e.1) (λ (e : ℕ × X). g e.0 e.1)
     (λ e. same e.0 e.1) (enumerate_from 0 xs)
 
-rule_same : (old : StyleFacts) (key : NodeKey) (codes : List CodeValue) (up : List StyleFacts) (sheet : ℕ)
+rule_same : (old : StyleFacts) (codes : List CodeValue) (up : List StyleFacts) (sheet : ℕ)
     (s : SheetAt) (place : ℕ) (r : Rule)
-    → matching_rule (record old { key = key; codes = codes } ∷ up) sheet s place r
+    → matching_rule (record old { codes = codes } ∷ up) sheet s place r
     ≡ matching_rule (old ∷ up) sheet s place r
-rule_same old key codes up sheet s place r = rw (weights r.selectors) refl
+rule_same old codes up sheet s place r = rw (weights r.selectors) refl
   where
     weights : (selectors : List Selector)
-        → rule_weights (record old { key = key; codes = codes } ∷ up) sheet selectors
+        → rule_weights (record old { codes = codes } ∷ up) sheet selectors
         ≡ rule_weights (old ∷ up) sheet selectors
     weights [] = refl
     weights (first ∷ more) =
-        filter_same (selector_weight (record old { key = key; codes = codes } ∷ up) sheet)
-        (selector_weight (old ∷ up) sheet) (weight_same old key codes up sheet) (first ∷ more)
+        filter_same (selector_weight (record old { codes = codes } ∷ up) sheet)
+        (selector_weight (old ∷ up) sheet) (weight_same old codes up sheet) (first ∷ more)
 
-matching_same : (sheets : List SheetAt) (old : StyleFacts) (key : NodeKey) (codes : List CodeValue)
-    (up : List StyleFacts) → matching_nodes sheets (record old { key = key; codes = codes } ∷ up)
+matching_same : (sheets : List SheetAt) (old : StyleFacts) (codes : List CodeValue)
+    (up : List StyleFacts) → matching_nodes sheets (record old { codes = codes } ∷ up)
     ≡ matching_nodes sheets (old ∷ up)
-matching_same sheets old key codes up =
-    each_same (matching_in (record old { key = key; codes = codes } ∷ up)) (matching_in (old ∷ up))
-    (λ sheet s. each_same (matching_rule (record old { key = key; codes = codes } ∷ up) sheet s)
-    (matching_rule (old ∷ up) sheet s) (rule_same old key codes up sheet s) s.sheet.rules) sheets
+matching_same sheets old codes up =
+    each_same (matching_in (record old { codes = codes } ∷ up)) (matching_in (old ∷ up))
+    (λ sheet s. each_same (matching_rule (record old { codes = codes } ∷ up) sheet s)
+    (matching_rule (old ∷ up) sheet s) (rule_same old codes up sheet s) s.sheet.rules) sheets
 
-pub chain_like : (sheets : List SheetAt) (old node : StyleFacts) (up : List StyleFacts) (above : List NodeStyle)
-    → IsLike old node
+-- a node that is another up to its code values
+chain_recoded : (sheets : List SheetAt) (old node : StyleFacts) (up : List StyleFacts) (above : List NodeStyle)
+    → DiffersInLengths old node
     → chain_style sheets (node ∷ up) above ≡ rewritten node.codes (chain_style sheets (old ∷ up) above)
 unfolding chain_style
-chain_like sheets old node up above like =
+chain_recoded sheets old node up above differs =
     let codes = node.codes in
     let look = look_above above in
     let paints = paints_above above in
     let alignment = initial_alignment old.class in
     ap (λ (n : StyleFacts). style_under sheets (matching_nodes sheets (n ∷ up)) n.codes (initial_alignment n.class) look
-    paints) like.alike
+    paints) differs.alike
     ∙ (ap (λ (matched : List Candidate). style_under sheets matched codes alignment look paints)
-    (matching_same sheets old node.key codes up)
-    ∙ style_recoded sheets (matching_nodes sheets (old ∷ up)) old.codes codes like.codes alignment look paints)
+    (matching_same sheets old codes up)
+    ∙ style_recoded sheets (matching_nodes sheets (old ∷ up)) old.codes codes differs.codes alignment look paints)
 
--- a node that keeps its key is like what it was
-chain_recoded : (sheets : List SheetAt) (old node : StyleFacts) (up : List StyleFacts) (above : List NodeStyle)
-    → DiffersInLengths old node
+-- a node that is like a sibling
+pub chain_like : (sheets : List SheetAt) (listing : Listing) → IsListing sheets listing → (old node : StyleFacts)
+    (up : List StyleFacts) (above : List NodeStyle) → IsLike listing old node
     → chain_style sheets (node ∷ up) above ≡ rewritten node.codes (chain_style sheets (old ∷ up) above)
-chain_recoded sheets old node up above differs =
-    let key : old.key ≡ node.key = sym (ap (λ (n : StyleFacts). n.key) differs.alike) in
-    chain_like sheets old node up above (record {
-      alike = differs.alike
-          ∙ ap (λ (k : NodeKey). record old { key = k; codes = node.codes }) key;
-      codes = differs.codes;
-    })
+unfolding chain_style
+chain_like sheets listing is old node up above like =
+    let codes = node.codes in
+    let look = look_above above in
+    let paints = paints_above above in
+    let alignment = initial_alignment old.class in
+    ap (λ (class : Class). style_under sheets (matching_nodes sheets (node ∷ up)) codes (initial_alignment class) look
+    paints) (sym like.alike.class)
+    ∙ (ap (λ (matched : List Candidate). style_under sheets matched codes alignment look paints)
+    (sym (match-alike sheets listing is old node up like.alike like.old_id like.node_id))
+    ∙ style_recoded sheets (matching_nodes sheets (old ∷ up)) old.codes codes like.codes alignment look paints)
 
 -- ---- a style from nothing
 first_up : (sheets : List SheetAt) (facts : List StyleFacts) → ParentsStandBefore facts → (at : ℕ) (node : StyleFacts)

@@ -6,6 +6,7 @@ use Rattle.fx_look.specs.declared.looks.Look.{Look}
 use Rattle.fx_kinds.specs.declared.facts.StyleFacts.{StyleFacts}
 use Rattle.fx_css_types.specs.declared.sheets.SheetAt.{SheetAt}
 use Rattle.fx_select.specs.Chains.{ParentsStandBefore, upward}
+use Rattle.fx_select.specs.Listing.{IsListing, Listing}
 use Rattle.fx_select.proofs.ChainLemmas.{upward-some}
 use Rattle.fx_node_style.specs.declared.node_styles.NodeStyle.{NodeStyle}
 use Rattle.fx_style.specs.declared.kept.Entry.{Entry}
@@ -26,13 +27,13 @@ use Rattle.fx_style.proofs.UpdateLemmas.{Rule, now_of, same_up, styled-some, sty
 the_style : (a b : NodeStyle) → Some a ≡ Some b → a ≡ b
 the_style a b e = cc
 
-pub sibling_is : (sheets : List SheetAt) (facts : List StyleFacts) (restyle : List ℕ) (looks : List Look)
+pub sibling_is : (sheets : List SheetAt) (listing : Listing) → IsListing sheets listing → (facts : List StyleFacts) (restyle : List ℕ) (looks : List Look)
     (rest : List Rest) (fresh : List Fresh) → ParentsStandBefore facts → (place at : ℕ) (made : Entry)
-    → (of : IsMadeLike facts fresh place at made) → place < at → is_among restyle place ≡ true
+    → (of : IsMadeLike listing facts fresh place at made) → place < at → is_among restyle place ≡ true
     → AreRightBelow sheets facts restyle (kept_at looks rest facts) looks rest fresh at
     → rewritten of.node.codes made.style
     ≡ anew sheets facts at (filter_map (now_of looks rest fresh) (places_up facts (parent_at facts at)))
-sibling_is sheets facts restyle looks rest fresh before place at made of less listed right =
+sibling_is sheets listing is facts restyle looks rest fresh before place at made of less listed right =
     let kept = kept_at looks rest facts in
     let old = of.old in
     let node = of.node in
@@ -41,7 +42,7 @@ sibling_is sheets facts restyle looks rest fresh before place at made of less li
     let inside : place < length facts = slice_get_within facts place old of.was in
     let parent = parent_at facts at in
     let above = filter_map (now_of looks rest fresh) (places_up facts parent) in
-    let same : old.parent ≡ node.parent = sym (ap (λ (n : StyleFacts). n.parent) of.like.alike) in
+    let same : old.parent ≡ node.parent = of.like.parent in
     let shared : parent_at facts place ≡ parent =
     parent_is facts place old of.was ∙ (same ∙ sym (parent_is facts at node of.is)) in
     let up : above ≡ styled rule (places_up facts parent) =
@@ -59,6 +60,6 @@ sibling_is sheets facts restyle looks rest fresh before place at made of less li
     ∙ (ap (λ (nodes : List StyleFacts). rewritten node.codes (chain_style sheets nodes above))
     (upward-some facts before place old of.was)
     ∙ (ap (λ (o : Option ℕ). rewritten node.codes (chain_style sheets (old ∷ upward facts o) above)) same
-    ∙ (sym (chain_like sheets old node (upward facts node.parent) above of.like)
+    ∙ (sym (chain_like sheets listing is old node (upward facts node.parent) above of.like)
     ∙ sym (ap (λ (nodes : List StyleFacts). chain_style sheets nodes above)
     (upward-some facts before at node of.is)))))

@@ -5,7 +5,9 @@ use Rattle.fx_look.specs.declared.looks.Look.{Look}
 use Rattle.fx_look.specs.declared.styles.CodeValue.{CodeValue}
 use Rattle.fx_css_types.specs.declared.sheets.SheetAt.{SheetAt}
 use Rattle.fx_kinds.specs.declared.facts.StyleFacts.{StyleFacts}
+use Rattle.fx_select.specs.Alike.{AreAlike, IsUnasked}
 use Rattle.fx_select.specs.Chains.{ParentsStandBefore, chain}
+use Rattle.fx_select.specs.Listing.{Listing}
 use Rattle.fx_node_style.specs.declared.node_styles.NodeStyle.{NodeStyle}
 use Rattle.fx_node_style.specs.Recoding.{AreRecoded, with_bound}
 use Rattle.fx_style.specs.declared.kept.Rest.{Rest}
@@ -28,9 +30,13 @@ pub record DiffersInLengths (old node : StyleFacts) : Type 0 where
   pub alike : node ≡ record old { codes = node.codes }
   pub codes : AreRecoded old.codes node.codes
 
--- a node that is another up to its key and lengths that bindings give
-pub record IsLike (old node : StyleFacts) : Type 0 where
-  pub alike : node ≡ record old { key = node.key; codes = node.codes }
+-- a node that hangs on the parent of another one, and is it up to its key, an id for which no selector asks, and lengths
+-- that bindings give
+pub record IsLike (listing : Listing) (old node : StyleFacts) : Type 0 where
+  pub parent : old.parent ≡ node.parent
+  pub alike : AreAlike old node
+  pub old_id : IsUnasked listing old
+  pub node_id : IsUnasked listing node
   pub codes : AreRecoded old.codes node.codes
 
 -- the node of a place is the one that stood there up to these

@@ -162,7 +162,8 @@ fn style_anew<L: Ledgers>(
             return Ok(());
         }
     }
-    let copied = copy_sibling(alloc, scene.facts, plan, turn, &mut memory.draft)?;
+    let draft = &mut memory.draft;
+    let copied = copy_sibling(alloc, scene.index, scene.facts, plan, turn, draft)?;
     if copied {
         work.styled.tick();
         return Ok(());

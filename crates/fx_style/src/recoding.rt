@@ -12,6 +12,7 @@ use fx_base::Same;
 use fx_kinds::StyleFacts;
 use fx_look::{CodeValue, Look};
 use fx_node_style::{NodeStyle, are_recoded, write_bound};
+use fx_select::{RuleIndex, are_alike};
 use std::alloc::{AllocError, Global};
 
 /// Is the node of a place the one that stood there, up to lengths that bindings give?
@@ -62,20 +63,16 @@ fn has_same_sheets(old: &StyleFacts, node: &StyleFacts) -> bool
     node.inline == old.inline && node.sheets.as_slice() == old.sheets.as_slice()
 }
 
-/// Is a node like another one of its parent, up to its key and lengths that bindings give?
-pub(crate) fn is_like(old: &StyleFacts, node: &StyleFacts) -> bool
-    ensures { IsTrue result → IsLike old.now node.now }
+/// Is a node like another one of its parent, up to its key, an id for which no selector asks, and lengths that bindings
+/// give?
+pub(crate) fn is_like(index: &RuleIndex, old: &StyleFacts, node: &StyleFacts) -> bool
+    ensures { IsTrue result → IsLike index.now old.now node.now }
 {
-    has_same_parent(old, node)
-        && has_same_names(old, node)
-        && has_same_sheets(old, node)
+    node.parent == old.parent
+        && are_alike(old, node)
+        && !index.asks_for_id(old)
+        && !index.asks_for_id(node)
         && are_recoded(old.codes.as_slice(), node.codes.as_slice())
-}
-
-fn has_same_parent(old: &StyleFacts, node: &StyleFacts) -> bool
-    ensures { IsTrue result → (node.now.parent ≡ old.now.parent) × (node.now.class ≡ old.now.class) }
-{
-    node.parent == old.parent && node.class == old.class
 }
 
 /// Is the parent of a node, if it has one, not marked?

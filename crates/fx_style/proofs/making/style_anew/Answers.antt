@@ -46,7 +46,7 @@ returns-then-copied-clause-style g c =
     let of = own.sibling in
     let marked = c.requires.before_it of.place of.named in
     own.style
-    ∙ sibling_is c.args.scene.sheets.now facts c.args.plan.listed.now c.args.plan.looks.now c.args.plan.rest.now
+    ∙ sibling_is c.args.scene.sheets.now c.args.scene.index.now c.requires.sheets.listed facts c.args.plan.listed.now c.args.plan.looks.now c.args.plan.rest.now
     c.args.plan.fresh.now c.requires.before of.place at own.made of.made_like marked.0 marked.1 c.requires.right
 
 pub copy_sibling-requires-clause-before_it : goal.copy_sibling-requires-clause-before_it

@@ -23,7 +23,7 @@ fn main(rt: HostRuntime) -> anyhow::Result<()> {
     let mut words = env::args(&rt)?;
     let _program = words.next();
     let (Some(task), Some(count), Some(rounds)) = (words.next(), words.next(), words.next()) else {
-        bail!("usage: style_bench search|style|keep|labels NODES ROUNDS");
+        bail!("usage: style_bench search|style|mixed|keep|labels NODES ROUNDS");
     };
     let rounds = Rounds {
         task: task_of(task.as_str()),
@@ -46,8 +46,16 @@ fn task_of(word: &str) -> Task {
     match word {
         "search" => Task::Search,
         "style" => Task::Style,
+        "mixed" => Task::Mixed,
         "labels" => Task::Labels,
         _ => Task::Keep,
+    }
+}
+
+fn is_mixed(task: Task) -> bool {
+    match task {
+        Task::Search | Task::Mixed => true,
+        _ => false,
     }
 }
 
@@ -79,6 +87,6 @@ fn start<L: Ledgers>(
             &mut work,
         );
     }
-    let facts = buttons(alloc, rounds.nodes)?;
+    let facts = buttons(alloc, rounds.nodes, is_mixed(rounds.task))?;
     play(alloc, sheets, facts.as_slice(), rounds, &mut work)
 }

@@ -1,24 +1,35 @@
 //! A VBox of HBoxes, each with nine Buttons or ten Labels.
+ghost use Rattle.std.specs.Prelude.{◌≤◌};
+
 use fx_base::{List, NodeKey, Text, Value};
 use fx_kinds::{Class, StyleFacts};
 use fx_look::{CodeValue, StyleKey, StyleName};
 use std::alloc::Global;
 
-/// The facts of so many nodes, each of four classes that rules name. The VBox lists the sheet.
-pub fn buttons(alloc: Global, count: u32) -> anyhow::Result<Vec<StyleFacts>> {
-    let names = ["a", "b", "c", "d"];
+/// The facts of so many nodes, each of four classes that rules name. Every second one is of a further class, if they are
+/// to be unlike, so that none is like the one before it. The VBox lists the sheet.
+pub fn buttons(alloc: Global, count: u32, unlike: bool) -> anyhow::Result<Vec<StyleFacts>> {
+    let all = ["a", "b", "c", "d", "even"];
     let mut facts = Vec::new(alloc);
-    facts.push(root(alloc, &names)?)?;
+    facts.push(root(alloc, &all)?)?;
     let mut row = 0;
     for birth in 1..count {
+        let names = &all[..named(birth, unlike)];
         if birth % 10 == 1 {
             row = facts.len();
-            facts.push(node(alloc, birth, Some(0), Class::HBox, &names)?)?;
+            facts.push(node(alloc, birth, Some(0), Class::HBox, names)?)?;
         } else {
-            facts.push(node(alloc, birth, Some(row), Class::Button, &names)?)?;
+            facts.push(node(alloc, birth, Some(row), Class::Button, names)?)?;
         }
     }
     Ok(facts)
+}
+
+/// Of how many of the five classes a button is.
+fn named(birth: u32, unlike: bool) -> usize
+    ensures { result ≤ 5 }
+{
+    if unlike && birth % 2 == 0 { 5 } else { 4 }
 }
 
 /// The facts of so many nodes, of which each Label is of a class that a rule names, and of this width by code. The VBox

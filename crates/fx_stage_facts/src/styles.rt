@@ -116,7 +116,8 @@ fn stands_at(
     }
 }
 
-/// Puts a value by code behind the others, unless the old one that stands there is the same.
+/// Puts a value by code behind the others, unless the old one that stands there is the same. A number takes no memory,
+/// so it is put there at once.
 #[tactic(auto, using(crate::proofs::RefillLemmas::one_more))]
 fn push_value(
     alloc: Global,
@@ -128,6 +129,14 @@ fn push_value(
     ensures { OnOk result (codes.new
         ≡ codes.old ++ record { style = style; value = value.now; bound = bound } ∷ []) }
 {
+    if let Value::Int(number) = value {
+        let value = Value::Int(*number);
+        return codes.push(CodeValue {
+            style,
+            value,
+            bound,
+        });
+    }
     if stands_at(codes.items.as_slice(), codes.count, style, value, bound) {
         codes.count += 1;
         return Ok(());

@@ -1,25 +1,33 @@
 -- The lists of a frame's facts, made node by node.
-use Rattle.std.proofs.Common.{◌≡◌, ◌∙◌, ◌<◌, ◌≤◌, ◌+◌, ℕ, List, [], ◌∷◌, ◌++◌, Bool, add-one, append_assoc, arith, drop, get_or, length, map, take, sym, ap}
+use Rattle.std.proofs.Common.{◌≡◌, ◌∙◌, ◌<◌, ◌≤◌, ◌+◌, ℕ, List, [], ◌∷◌, ◌++◌, All, Bool, Contains, false, true, add-one, append_assoc, arith, cond, drop, filter, get_or, length, map, take, Option, None, Some, refl, subst, sym, ap}
 use Rattle.std.specs.List.{flat_map}
 use Rattle.std.proofs.Math.Seq.{take-suc}
 use Rattle.std.proofs.lemmas.Grind.{flat_map-append}
 use Rattle.std.proofs.lemmas.List.{append-nil, drop_all, length-append, map-append, take_all}
+use Rattle.std.proofs.lemmas.List.Elements.{All-append, All-cons, All-head, All-nil, All-tail, All-take}
+use Rattle.fx_graph_model.specs.Unread.{marked}
+use Rattle.fx_graph_model.proofs.Members.{contains_first, contains_later}
 use Rattle.fx_base.specs.declared.keys.NodeKey.{NodeKey}
 use Rattle.fx_css_types.specs.declared.sheets.SheetAt.{SheetAt}
 use Rattle.fx_kinds.specs.declared.facts.BoxFacts.{BoxFacts}
 use Rattle.fx_kinds.specs.declared.facts.StyleFacts.{StyleFacts}
+use Rattle.fx_stage_types.specs.declared.node_data.NodeData.{NodeData}
+use Rattle.fx_stage_types.specs.Tables.{NodeTable, data_of}
+use Rattle.fx_store_model.specs.Stored.{Stored}
 use Rattle.fx_stage_model.specs.World.{World}
 use Rattle.fx_stage_facts.specs.declared.drafts.Draft.{Draft}
 use Rattle.fx_stage_facts.specs.declared.drafts.Standing.{Standing}
 use Rattle.fx_stage_facts.specs.declared.facts.Facts.{Facts}
 use Rattle.fx_stage_facts.specs.declared.stands.Stand.{Stand}
-use Rattle.fx_stage_facts.specs.Attached.{attached_keys}
+use Rattle.fx_stage_facts.specs.Attached.{attached_keys, displayed_in, looked}
 use Rattle.fx_stage_facts.specs.Boxes.{box_at}
-use Rattle.fx_stage_facts.specs.Drafts.{IsDraft}
+use Rattle.fx_stage_facts.specs.Drafts.{IsDraft, IsPut, ReachTo}
+use Rattle.fx_stage_facts.specs.Reads.{AreRead, IsRead, IsReadAt}
 use Rattle.fx_stage_facts.specs.Scenes.{facts_of}
 use Rattle.fx_stage_facts.specs.Sheets.{common_sheets, sheets_at, sheets_of}
 use Rattle.fx_stage_facts.specs.Stands.{keys_of, stand_of, stands_from, stands_of}
 use Rattle.fx_stage_facts.specs.Styles.{style_at, style_facts, styles_from}
+use Rattle.fx_stage_facts.specs.Unread.{unread_in, unread_of}
 use Rattle.fx_stage_facts.specs.Values.{is_set_disabled}
 use Rattle.fx_stage_facts.proofs.LoopLemmas.{next_left}
 
@@ -118,12 +126,121 @@ marks_next world marks now keys place d within made so_far =
     ∙ sym (map-append (is_set_disabled world) (take place keys) (get_or keys place d ∷ []))
     ∙ ap (map (is_set_disabled world)) (sym next)
 
+-- all that is made so far
+
+pub reach_none : (world : World) (keys : List NodeKey) (standing : Standing) (draft : Draft) → standing.stands.items ≡ []
+    → standing.marks.items ≡ [] → draft.sheets ≡ common_sheets world.graph → draft.styles ≡ [] → draft.boxes ≡ []
+    → ReachTo world keys 0 standing draft
+reach_none world keys standing draft none unmarked sheets styles boxes = record {
+  within = omega arith;
+  left = ap (λ (ss : List Stand). stands_from world ss keys) none;
+  whole = ap (λ (ss : List Stand). keys_of ss ++ keys) none;
+  marks = unmarked;
+  facts = draft_none world standing.stands.items draft none sheets styles boxes;
+  read = All-nil (IsReadAt world);
+}
+
+reach_more : (world : World) (keys : List NodeKey) (place : ℕ) (d : NodeKey) (before now : Standing) (old new : Draft)
+    → place < length keys → ReachTo world keys place before old → IsPut true world (get_or keys place d) before now old new
+    → ReachTo world keys (place + 1) now new
+reach_more world keys place d before now old new within so_far put =
+    let next : take (place + 1) keys ≡ take place keys ++ get_or keys place d ∷ [] =
+    ap (λ (n : ℕ). take n keys) (add-one place) ∙ take-suc keys place d within in
+    record {
+      within = omega (arith, within);
+      left = stands_next world before.stands.items now.stands.items keys place d within put.0.stands ∙ so_far.left;
+      whole = keys_next world before.stands.items now.stands.items keys place d within put.0.stands ∙ so_far.whole;
+      marks = marks_next world before.marks.items now.marks.items keys place d within put.0.marks so_far.marks;
+      facts = draft_next world before.stands.items now.stands.items
+          (stand_of world before.stands.items (get_or keys place d)) old new put.0.stands put.0.sheets put.0.styles
+          put.0.boxes so_far.facts;
+      read = subst (λ (ks : List NodeKey). All (IsReadAt world) ks) (sym next)
+          (All-append (IsReadAt world) (take place keys) (get_or keys place d ∷ []) so_far.read
+          (All-cons (IsReadAt world) (get_or keys place d) [] put.1 (All-nil (IsReadAt world))));
+    }
+
+pub reach_next : (world : World) (keys : List NodeKey) (place : ℕ) (d : NodeKey) (before now : Standing) (old new : Draft)
+    (put : Bool) → place < length keys → put ≡ true → ReachTo world keys place before old
+    → IsPut put world (get_or keys place d) before now old new → ReachTo world keys (place + 1) now new
+reach_next world keys place d before now old new put within done so_far node =
+    reach_more world keys place d before now old new within so_far
+    (subst (λ (b : Bool). IsPut b world (get_or keys place d) before now old new) done node)
+
+-- a node that isn't put changes nothing
+pub reach_same : (world : World) (keys : List NodeKey) (place : ℕ) (d : NodeKey) (before now : Standing) (old new : Draft)
+    (put : Bool) → put ≡ false → ReachTo world keys place before old
+    → IsPut put world (get_or keys place d) before now old new → ReachTo world keys place now new
+reach_same world keys place d before now old new put none so_far node =
+    let same = subst (λ (b : Bool). IsPut b world (get_or keys place d) before now old new) none node in
+    subst (λ (s : Standing). ReachTo world keys place s new) (sym same.0)
+    (subst (λ (draft : Draft). ReachTo world keys place before draft) (sym same.1) so_far)
+
+-- what is made stays so where more is read
+pub reach_looked : (world now : World) (keys : List NodeKey) (place : ℕ) (standing : Standing) (draft : Draft)
+    → now ≡ looked world → AreRead now keys → ReachTo world keys place standing draft → ReachTo now keys place standing draft
+reach_looked world now keys place standing draft is read so_far =
+    subst (λ (w : World). ReachTo w keys place standing draft) (sym is)
+    (record {
+      within = so_far.within;
+      left = so_far.left;
+      whole = so_far.whole;
+      marks = so_far.marks;
+      facts = record { sheets = so_far.facts.sheets; styles = so_far.facts.styles; boxes = so_far.facts.boxes };
+      read = All-take (IsReadAt (looked world)) place keys (subst (λ (w : World). AreRead w keys) is read);
+    })
+
+-- of nodes that were read nothing is unread
+
+no_names : (test : ℕ → Bool) (names : List ℕ) → ((name : ℕ) → Contains names name → test name ≡ false)
+    → filter test names ≡ []
+no_names test [] off = refl
+no_names test (name ∷ names) off =
+    ap (λ (b : Bool). cond b (name ∷ filter test names) (filter test names)) (off name (contains_first name names))
+    ∙ no_names test names (λ other later. off other (contains_later name names other later))
+
+none_in : (store : Stored) (o : Option NodeData) → ((node : NodeData) → o ≡ Some node → IsRead store node)
+    → unread_in store.unread o ≡ []
+none_in store None read = refl
+none_in store (Some node) read = no_names (marked store.unread) (displayed_in (Some node)) (read node refl).read
+
+pub none_unread_of : (world : World) (keys : List NodeKey) → AreRead world keys
+    → unread_of world.store.unread world.graph.table keys ≡ []
+none_unread_of world [] read = refl
+none_unread_of world (key ∷ keys) read =
+    ap (λ (ns : List ℕ). ns ++ unread_of world.store.unread world.graph.table keys)
+    (none_in world.store (data_of world.graph.table key) (All-head (IsReadAt world) key keys read))
+    ∙ none_unread_of world keys (All-tail (IsReadAt world) key keys read)
+
+pub none_found : (world : World) (key : NodeKey) → data_of world.graph.table key ≡ None → IsReadAt world key
+none_found world key none node found =
+    let neither : ◌≡◌ {A = Option NodeData} None (Some node) = sym none ∙ found in absurd (cc)
+
+pub found_read : (world : World) (key : NodeKey) (node : NodeData) → data_of world.graph.table key ≡ Some node
+    → IsRead world.store node → IsReadAt world key
+found_read world key node here read other found =
+    let both : Some node ≡ Some other = sym here ∙ found in
+    let same : node ≡ other = cc in
+    subst (IsRead world.store) same read
+
+pub names_next : (unread : List Bool) (table : NodeTable) (keys : List NodeKey) (place : ℕ) (d : NodeKey)
+    (before now : List ℕ) → place < length keys
+    → now ≡ before ++ unread_in unread (data_of table (get_or keys place d))
+    → before ≡ unread_of unread table (take place keys) → now ≡ unread_of unread table (take (place + 1) keys)
+names_next unread table keys place d before now within made so_far =
+    let key = get_or keys place d in
+    let own = λ (k : NodeKey). unread_in unread (data_of table k) in
+    let next : take (place + 1) keys ≡ take place keys ++ key ∷ [] =
+    ap (λ (n : ℕ). take n keys) (add-one place) ∙ take-suc keys place d within in
+    made
+    ∙ ap (λ (ns : List ℕ). ns ++ own key) so_far
+    ∙ ap (λ (ns : List ℕ). unread_of unread table (take place keys) ++ ns) (sym (append-nil (own key)))
+    ∙ sym (flat_map-append own (take place keys) (key ∷ []))
+    ∙ ap (unread_of unread table) (sym next)
+
 -- all nodes
 
-pub facts_drafted : (world : World) (keys : List NodeKey) (place : ℕ) (standing : Standing) (draft : Draft)
-    → keys ≡ attached_keys world → length keys ≤ place
-    → stands_from world standing.stands.items (drop place keys) ≡ stands_from world [] keys
-    → standing.marks.items ≡ map (is_set_disabled world) (take place keys) → IsDraft world standing.stands.items draft
+pub facts_reached : (world : World) (keys : List NodeKey) (place : ℕ) (standing : Standing) (draft : Draft)
+    → keys ≡ attached_keys world → place ≡ length keys → ReachTo world keys place standing draft
     → ◌≡◌ {A = Facts}
     (record {
       sheets = draft.sheets;
@@ -134,15 +251,18 @@ pub facts_drafted : (world : World) (keys : List NodeKey) (place : ℕ) (standin
     })
     (facts_of world)
 unfolding facts_of
-facts_drafted world keys place standing draft attached past stands marks drafted =
+facts_reached world keys place standing draft attached end made =
+    let past : length keys ≤ place = omega (arith, end) in
     let nodes : standing.stands.items ≡ stands_of world =
-    sym (ap (stands_from world standing.stands.items) (drop_all place keys past)) ∙ stands ∙ ap (stands_from world []) attached in
+    sym (ap (stands_from world standing.stands.items) (drop_all place keys past))
+    ∙ made.left
+    ∙ ap (stands_from world []) attached in
     let one : draft.sheets ≡ sheets_of world =
-    drafted.sheets
+    made.facts.sheets
     ∙ ap (λ (ss : List Stand). common_sheets world.graph ++ flat_map (sheets_at world.graph) ss) nodes in
     let two : draft.styles ≡ style_facts world =
-    drafted.styles ∙ ap (styles_from world (length (common_sheets world.graph))) nodes in
-    let three = drafted.boxes ∙ ap (map (box_at world)) nodes in
+    made.facts.styles ∙ ap (styles_from world (length (common_sheets world.graph))) nodes in
+    let three = made.facts.boxes ∙ ap (map (box_at world)) nodes in
     let four =
-    marks ∙ ap (map (is_set_disabled world)) (take_all place keys past) ∙ ap (map (is_set_disabled world)) attached in
+    made.marks ∙ ap (map (is_set_disabled world)) (take_all place keys past) ∙ ap (map (is_set_disabled world)) attached in
     λ i. record { sheets = one i; styles = two i; boxes = three i; disabled = four i; window = world.window }

@@ -1,3 +1,4 @@
+pub mod AroundLemmas
 pub mod CodeLemmas
 pub mod DepthLemmas
 pub mod DraftLemmas

@@ -49,7 +49,7 @@ row_left class list place d are within =
     next_left (properties_of class) place (listed_property d) (omega (arith, within, long))
     ∙ ap (λ (p : ListedProperty). p ∷ drop (place + 1) (properties_of class)) (row_at class list place d are)
 
-displayed_next : (first : ℕ) (ps : List ListedProperty) (place : ℕ) (row : ListedProperty)
+pub displayed_next : (first : ℕ) (ps : List ListedProperty) (place : ℕ) (row : ListedProperty)
     → drop place ps ≡ row ∷ drop (place + 1) ps
     → displayed_from (first + place) (drop place ps)
     ≡ one_if (is_displayed row.name) (first + place) ++ displayed_from (first + (place + 1)) (drop (place + 1) ps)

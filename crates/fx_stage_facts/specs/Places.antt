@@ -1,7 +1,9 @@
 -- The properties that a frame asks for by name, whose places are kept for a class.
-use Rattle.std.specs.Prelude.{ℕ, ◌+◌, List, [], ◌∷◌, ◌++◌, codes, Option, None, Some}
+use Rattle.std.specs.Prelude.{ℕ, ◌≡◌, ◌+◌, List, [], ◌∷◌, ◌++◌, codes, length, Option, None, Some}
 use Rattle.fx_kinds.specs.declared.classes.Class.{Class}
 use Rattle.fx_kinds.specs.Properties.{ListedProperty, properties_of}
+use Rattle.fx_stage_model.specs.Looking.{place_of}
+use Rattle.fx_stage_facts.specs.declared.places.Around.{Around}
 use Rattle.fx_stage_facts.specs.declared.places.Asked.{Asked}
 use Rattle.fx_stage_facts.specs.declared.places.Asked.TheVariants as asked
 use Rattle.fx_stage_facts.specs.declared.places.Styled.{Styled}
@@ -28,3 +30,9 @@ styled_from place (property ∷ rest) = styled_at place property.styled ++ style
 
 abbrev pub styled_of : Class → List Styled
 styled_of class = styled_from 0 (properties_of class)
+
+-- the properties around the width and the height of a class, which stand side by side
+pub record IsAround (class : Class) (around : Around) : Type 0 where
+  pub width : place_of class (codes "width") ≡ Some around.front
+  pub height : place_of class (codes "height") ≡ Some (around.front + 1)
+  pub long : around.front + 2 + around.behind ≡ length (properties_of class)

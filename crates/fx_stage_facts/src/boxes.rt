@@ -1,10 +1,10 @@
 //! What the layout of each node in a scene hangs on.
-ghost use Rattle.std.specs.Prelude.{◌≡◌, IsTrue, OnOk, Some};
+ghost use Rattle.std.specs.Prelude.{◌≡◌, OnOk, Some};
 ghost use Rattle.fx_stage_facts.specs.Reads.{IsRead};
 ghost use Rattle.fx_stage_facts.specs.Boxes as spec;
 
 use crate::places::{Asked, Places};
-use crate::refills::refill_list;
+use crate::refills::{are_empty, refill_list};
 use crate::stands::Stand;
 use crate::values::{number_in, refill_text, truth_in};
 use fx_base::{List, Text, Track};
@@ -31,14 +31,6 @@ pub(crate) fn bare_box(alloc: Global, stand: Stand) -> BoxFacts
         layout_y: 0,
         focus_traversable: false,
     }
-}
-
-#[tactic(auto, using(crate::proofs::RefillLemmas::both_empty))]
-#[inline]
-fn are_empty(tracks: &[Track], others: &[Track]) -> bool
-    ensures { IsTrue result → tracks.now ≡ others.now }
-{
-    tracks.is_empty() && others.is_empty()
 }
 
 /// Makes the tracks the same as the others. Most nodes have none.

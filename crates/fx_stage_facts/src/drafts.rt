@@ -1,13 +1,15 @@
 //! The lists of a frame's facts while they are made, one node after another, so that each node is looked up once.
-ghost use Rattle.std.specs.Prelude.{◌≡◌, ◌≤◌, ◌+◌, ◌++◌, ◌∷◌, [], IfOk, OnOk, Some, length};
+ghost use Rattle.std.specs.Prelude.{◌≡◌, ◌≤◌, ◌+◌, ◌++◌, ◌∷◌, [], IfOk, IsTrue, None, OnOk, Some, length, true};
 ghost use Rattle.fx_stage_types.specs.Tables.{data_of};
-ghost use Rattle.fx_stage_facts.specs.Boxes.{bare_box as spec_box, box_at, box_in};
+ghost use Rattle.fx_stage_facts.specs.Boxes.{box_at, box_in};
+ghost use Rattle.fx_stage_facts.specs.Drafts.{IsPut};
 ghost use Rattle.fx_stage_facts.specs.Reads.{IsRead, IsReadAt};
 ghost use Rattle.fx_stage_facts.specs.Sheets.{common_sheets as common_of, sheets_at};
 ghost use Rattle.fx_stage_facts.specs.Stands.{AreOnce, stand_of as next_stand};
-ghost use Rattle.fx_stage_facts.specs.Styles.{bare_style as spec_style, style_at, style_in};
+ghost use Rattle.fx_stage_facts.specs.Styles.{style_at, style_in};
 ghost use Rattle.fx_stage_facts.specs.Values.{is_set_disabled};
 
+use crate::attached::is_read;
 use crate::boxes::{bare_box, refill_box};
 use crate::places::{Asked, Places};
 use crate::refills::Refill;
@@ -79,27 +81,6 @@ impl Standing {
         marks.clear();
         Ok(Standing { stands, marks })
     }
-
-    /// A node more, which is disabled itself or isn't.
-    fn push(&mut self, stand: Stand, own: bool) -> Result<(), AllocError>
-        ensures stands { OnOk result (self.new.stands.items ≡ self.old.stands.items ++ stand ∷ []) }
-        ensures marks { OnOk result (self.new.marks.items ≡ self.old.marks.items ++ own ∷ []) }
-    {
-        self.stands.push(stand)?;
-        self.marks.push(own)?;
-        Ok(())
-    }
-}
-
-/// Puts the facts of a node that has nothing behind the others.
-fn push_bare(alloc: Global, draft: &mut Draft, stand: Stand) -> Result<(), AllocError>
-    ensures sheets { OnOk result (draft.new.sheets ≡ draft.old.sheets) }
-    ensures styles { OnOk result (draft.new.styles ≡ draft.old.styles ++ spec_style stand ∷ []) }
-    ensures boxes { OnOk result (draft.new.boxes ≡ draft.old.boxes ++ spec_box stand ∷ []) }
-{
-    draft.styles.push(bare_style(alloc, stand))?;
-    draft.boxes.push(bare_box(alloc, stand))?;
-    Ok(())
 }
 
 /// Puts the style's facts of a node that has something behind the others.
@@ -155,6 +136,37 @@ fn put_box(
     Ok(())
 }
 
+/// Puts a node that has nothing behind the others.
+fn push_bare(
+    alloc: Global,
+    stage: &Stage,
+    standing: &mut Standing,
+    draft: &mut Draft,
+    key: NodeKey,
+) -> Result<(), AllocError>
+    requires here { data_of stage.now.graph.table key ≡ None }
+    requires once { AreOnce standing.old.stands.items }
+    ensures stands { OnOk result (standing.new.stands.items
+        ≡ standing.old.stands.items ++ next_stand stage.now standing.old.stands.items key ∷ []) }
+    ensures marks { OnOk result (standing.new.marks.items
+        ≡ standing.old.marks.items ++ is_set_disabled stage.now key ∷ []) }
+    ensures sheets { OnOk result (draft.new.sheets ≡ draft.old.sheets
+        ++ sheets_at stage.now.graph (next_stand stage.now standing.old.stands.items key)) }
+    ensures styles { OnOk result (draft.new.styles ≡ draft.old.styles
+        ++ style_at stage.now (length draft.old.sheets)
+        (next_stand stage.now standing.old.stands.items key) ∷ []) }
+    ensures boxes { OnOk result (draft.new.boxes ≡ draft.old.boxes
+        ++ box_at stage.now (next_stand stage.now standing.old.stands.items key) ∷ []) }
+    ensures read { OnOk result (IsReadAt stage.now key) }
+{
+    let stand = stand_of(stage, standing.stands.as_slice(), key, false);
+    standing.stands.push(stand)?;
+    standing.marks.push(false)?;
+    draft.styles.push(bare_style(alloc, stand))?;
+    draft.boxes.push(bare_box(alloc, stand))?;
+    Ok(())
+}
+
 /// Puts the facts of a node that has something behind the others. So many sheets count for every node.
 fn push_facts(
     alloc: Global,
@@ -189,17 +201,20 @@ fn push_facts(
     Ok(())
 }
 
-/// Puts a node behind the others.
-pub(crate) fn push_node(
+/// Puts a node that has something behind the others.
+fn push_present(
     alloc: Global,
     stage: &Stage,
-    places: &mut Places,
+    places: &Places,
     common: usize,
     standing: &mut Standing,
     draft: &mut Draft,
     key: NodeKey,
+    node: &NodeData,
 ) -> Result<(), AllocError>
-    requires read { IsReadAt stage.now key }
+    requires class { places.now ≡ node.now.class }
+    requires read { IsRead stage.now.store node.now }
+    requires here { data_of stage.now.graph.table key ≡ Some node.now }
     requires once { AreOnce standing.old.stands.items }
     requires common { common ≡ length (common_of stage.now.graph) }
     ensures stands { OnOk result (standing.new.stands.items
@@ -213,19 +228,61 @@ pub(crate) fn push_node(
         (next_stand stage.now standing.old.stands.items key) ∷ []) }
     ensures boxes { OnOk result (draft.new.boxes ≡ draft.old.boxes
         ++ box_at stage.now (next_stand stage.now standing.old.stands.items key) ∷ []) }
+    ensures read { OnOk result (IsReadAt stage.now key) }
+{
+    let own = truth_in(stage, places, node, Asked::Disable);
+    let stand = stand_of(stage, standing.stands.as_slice(), key, own);
+    standing.stands.push(stand)?;
+    standing.marks.push(own)?;
+    push_facts(alloc, stage, places, common, draft, stand, node)
+}
+
+/// Is nothing of the node unread that a frame reads? If that is sure, it isn't looked at.
+#[inline]
+fn is_ready(stage: &Stage, places: &Places, key: NodeKey, node: &NodeData, sure: bool) -> bool
+    requires class { places.now ≡ node.now.class }
+    requires here { data_of stage.now.graph.table key ≡ Some node.now }
+    requires sure { sure ≡ true → IsReadAt stage.now key }
+    ensures read { IsTrue result → IsRead stage.now.store node.now }
+    ensures sure { sure ≡ true → result ≡ true }
+{
+    stage.laws();
+    if sure {
+        return true;
+    }
+    is_read(stage.store(), places, node)
+}
+
+/// Puts a node behind the others, unless something of it is unread that a frame reads, and answers whether it is put.
+/// If it is sure that nothing is, that isn't looked at.
+pub(crate) fn push_node(
+    alloc: Global,
+    stage: &Stage,
+    places: &mut Places,
+    common: usize,
+    standing: &mut Standing,
+    draft: &mut Draft,
+    key: NodeKey,
+    sure: bool,
+) -> Result<bool, AllocError>
+    requires sure { sure ≡ true → IsReadAt stage.now key }
+    requires once { AreOnce standing.old.stands.items }
+    requires common { common ≡ length (common_of stage.now.graph) }
+    ensures put { IfOk result (λ put. IsPut put stage.now key standing.old standing.new draft.old draft.new) }
+    ensures sure { sure ≡ true → IfOk result (λ put. put ≡ true) }
 {
     match stage.graph().node(key) {
         None => {
-            let stand = stand_of(stage, standing.stands.as_slice(), key, false);
-            standing.push(stand, false)?;
-            push_bare(alloc, draft, stand)
+            push_bare(alloc, stage, standing, draft, key)?;
+            Ok(true)
         }
         Some(node) => {
             places.turn_to(alloc, node.class)?;
-            let own = truth_in(stage, places, node, Asked::Disable);
-            let stand = stand_of(stage, standing.stands.as_slice(), key, own);
-            standing.push(stand, own)?;
-            push_facts(alloc, stage, places, common, draft, stand, node)
+            if !is_ready(stage, places, key, node, sure) {
+                return Ok(false);
+            }
+            push_present(alloc, stage, places, common, standing, draft, key, node)?;
+            Ok(true)
         }
     }
 }

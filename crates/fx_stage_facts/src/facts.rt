@@ -1,9 +1,11 @@
 //! All that a frame takes from a stage.
-ghost use Rattle.std.specs.Prelude.{◌≡◌, ◌≤◌, ◌+◌, [], IfOk, None, OnErr, OnOk, true};
+ghost use Rattle.std.specs.Prelude.{◌≡◌, ◌≤◌, ◌+◌, [], IfOk, None, OnErr, OnOk, length, take, true};
 ghost use Rattle.fx_stage_model.specs.Taking.{IsReadSome};
 ghost use Rattle.fx_tree.specs.Scene.{is_once};
 ghost use Rattle.fx_stage_facts.specs.Attached.{attached_keys, look_cost, looked};
+ghost use Rattle.fx_stage_facts.specs.Drafts.{ReachTo};
 ghost use Rattle.fx_stage_facts.specs.Reads.{AreRead};
+ghost use Rattle.fx_stage_facts.specs.Sheets.{common_sheets};
 ghost use Rattle.fx_stage_facts.specs.Scenes as spec;
 
 use crate::attached::{attached, unread_names};
@@ -67,12 +69,85 @@ fn finished(stage: &Stage, standing: Standing, draft: Draft) -> Facts
     }
 }
 
-/// The facts of the nodes of these keys, whose properties were read, in the memory of old facts.
-fn facts_at(alloc: Global, stage: &Stage, keys: &[NodeKey], old: Facts) -> Result<Facts, AllocError>
-    requires read { AreRead stage.now keys.now }
-    requires keys { keys.now ≡ attached_keys stage.now }
+/// Puts the nodes from this place on behind the others, up to one of which something is unread that a frame reads, and
+/// answers where that one stands. If it is sure that nothing is, that isn't looked at.
+fn fill(
+    alloc: Global,
+    stage: &Stage,
+    keys: &[NodeKey],
+    from: usize,
+    places: &mut Places,
+    common: usize,
+    standing: &mut Standing,
+    draft: &mut Draft,
+    sure: bool,
+) -> Result<usize, AllocError>
+    requires reach { ReachTo stage.now keys.now from standing.old draft.old }
+    requires sure { sure ≡ true → AreRead stage.now keys.now }
     requires once { is_once keys.now ≡ true }
-    ensures { IfOk result (λ facts. facts ≡ spec.facts_of stage.now) }
+    requires common { common ≡ length (common_sheets stage.now.graph) }
+    ensures reach { IfOk result (λ place. ReachTo stage.now keys.now place standing.new draft.new) }
+    ensures sure { sure ≡ true → IfOk result (λ place. place ≡ length keys.now) }
+{
+    for place in from..keys.len() {
+        let put = push_node(
+            alloc,
+            stage,
+            places,
+            common,
+            standing,
+            draft,
+            keys[place],
+            sure,
+        )?;
+        if !put {
+            return Ok(place);
+        }
+    }
+    Ok(keys.len())
+}
+
+/// Reads what a frame reads of the nodes in the scene, whose keys these are, where nothing is unread of a node before
+/// this place.
+fn look<L: Ledgers>(
+    alloc: Global,
+    stage: &mut Stage,
+    places: &mut Places,
+    keys: &[NodeKey],
+    from: usize,
+    work: &mut Work<L>,
+) -> Result<(), AllocError>
+    requires keys { keys.now ≡ attached_keys stage.old }
+    requires within { from ≤ length keys.now }
+    requires read { AreRead stage.old (take from keys.now) }
+    ensures ok { OnOk result (stage.new ≡ looked stage.old) }
+    ensures read { OnOk result (AreRead stage.new keys.now) }
+    ensures part { IsReadSome stage.old stage.new }
+    ensures cost { work.new.evaluated ≤ work.old.evaluated + look_cost stage.old }
+    ensures others { work.new ≡ record work.old { evaluated = work.new.evaluated } }
+{
+    stage.laws();
+    stage.store().laws();
+    let names = unread_names(alloc, stage.graph(), stage.store(), places, keys, from)?;
+    stage.read_all(alloc, names.as_slice(), work)
+}
+
+/// Reads what a frame reads of the nodes in the scene, whose keys these are, and lists their facts in the memory of old
+/// ones. Nodes in front of the first of which something is unread are looked at once.
+fn facts_at<L: Ledgers>(
+    alloc: Global,
+    stage: &mut Stage,
+    keys: &[NodeKey],
+    old: Facts,
+    work: &mut Work<L>,
+) -> Result<Facts, AllocError>
+    requires keys { keys.now ≡ attached_keys stage.old }
+    requires once { is_once keys.now ≡ true }
+    ensures facts { IfOk result (λ facts. facts ≡ spec.facts_of stage.old) }
+    ensures ok { OnOk result (stage.new ≡ looked stage.old) }
+    ensures part { IsReadSome stage.old stage.new }
+    ensures cost { work.new.evaluated ≤ work.old.evaluated + look_cost stage.old }
+    ensures others { work.new ≡ record work.old { evaluated = work.new.evaluated } }
 {
     let Facts {
         sheets,
@@ -85,38 +160,30 @@ fn facts_at(alloc: Global, stage: &Stage, keys: &[NodeKey], old: Facts) -> Resul
     let mut draft = Draft::over(alloc, stage.graph(), sheets, styles, boxes, keys.len())?;
     let common = draft.sheets.len();
     let mut places = Places::of(alloc, Class::Region)?;
-    for key in keys {
-        push_node(
-            alloc,
-            stage,
-            &mut places,
-            common,
-            &mut standing,
-            &mut draft,
-            *key,
-        )?;
-    }
+    let place = fill(
+        alloc,
+        stage,
+        keys,
+        0,
+        &mut places,
+        common,
+        &mut standing,
+        &mut draft,
+        false,
+    )?;
+    look(alloc, stage, &mut places, keys, place, work)?;
+    fill(
+        alloc,
+        stage,
+        keys,
+        place,
+        &mut places,
+        common,
+        &mut standing,
+        &mut draft,
+        true,
+    )?;
     Ok(finished(stage, standing, draft))
-}
-
-/// Reads what a frame reads of the nodes in the scene, whose keys these are.
-fn look<L: Ledgers>(
-    alloc: Global,
-    stage: &mut Stage,
-    keys: &[NodeKey],
-    work: &mut Work<L>,
-) -> Result<(), AllocError>
-    requires { keys.now ≡ attached_keys stage.old }
-    ensures ok { OnOk result (stage.new ≡ looked stage.old) }
-    ensures read { OnOk result (AreRead stage.new keys.now) }
-    ensures part { IsReadSome stage.old stage.new }
-    ensures cost { work.new.evaluated ≤ work.old.evaluated + look_cost stage.old }
-    ensures others { work.new ≡ record work.old { evaluated = work.new.evaluated } }
-{
-    stage.laws();
-    stage.store().laws();
-    let names = unread_names(alloc, stage.graph(), stage.store(), keys)?;
-    stage.read_all(alloc, names.as_slice(), work)
 }
 
 /// Reads the properties of all nodes in the scene, but their sizes, and makes these facts the ones that a frame is made
@@ -135,9 +202,8 @@ pub fn refresh_facts<L: Ledgers>(
     ensures others { work.new ≡ record work.old { evaluated = work.new.evaluated } }
 {
     let keys = attached(alloc, stage.graph().tree())?;
-    look(alloc, stage, keys.as_slice(), work)?;
     let old = replace(facts, Facts::new(alloc));
-    *facts = facts_at(alloc, stage, keys.as_slice(), old)?;
+    *facts = facts_at(alloc, stage, keys.as_slice(), old, work)?;
     Ok(())
 }
 

@@ -1,5 +1,5 @@
 //! Where the properties that a frame asks for by name stand among those of a class.
-ghost use Rattle.std.specs.Prelude.{◌≡◌, ◌++◌, IfOk, OnOk, true};
+ghost use Rattle.std.specs.Prelude.{◌≡◌, ◌++◌, IfOk, IfSome, OnOk, true};
 ghost use Rattle.std.specs.Option.{option_map};
 ghost use Rattle.fx_stage_model.specs.Looking.{place_of};
 ghost use Rattle.fx_stage_facts.specs.Places as spec;
@@ -31,11 +31,20 @@ pub struct Styled {
     pub style: StyleName,
 }
 
+/// The properties of a class around its width and its height, which stand side by side: so many stand in front of the
+/// two, and so many behind them.
+#[derive(Clone, Copy)]
+pub struct Around {
+    pub front: usize,
+    pub behind: usize,
+}
+
 /// The places of these properties in the list of one class, and those of it that declarations style. Contracts see the
 /// class.
 #[derive(Drop)]
 struct ClassPlaces {
     class: Class,
+    around: Option<Around>,
     styled: Vec<Styled>,
     id: Option<usize>,
     disable: Option<usize>,
@@ -48,10 +57,10 @@ struct ClassPlaces {
 }
 
 impl Model for ClassPlaces {
-    ghost use Rattle.std.specs.Prelude.{◌≡◌, codes};
+    ghost use Rattle.std.specs.Prelude.{◌≡◌, IfSome, codes};
     ghost use Rattle.fx_kinds.specs.declared.classes.Class.{Class as ClassName};
     ghost use Rattle.fx_stage_model.specs.Looking.{place_of};
-    ghost use Rattle.fx_stage_facts.specs.Places.{styled_of};
+    ghost use Rattle.fx_stage_facts.specs.Places.{IsAround, styled_of};
 
     ghost Value = { ClassName };
 
@@ -65,6 +74,7 @@ impl Model for ClassPlaces {
         × (p.focus_traversable ≡ place_of p.class (codes "focusTraversable"))
         × (p.width ≡ place_of p.class (codes "width"))
         × (p.height ≡ place_of p.class (codes "height"))
+        × IfSome p.around (IsAround p.class)
         × (p.styled.items ≡ styled_of p.class) };
 }
 
@@ -73,6 +83,25 @@ fn place_named(class: Class, name: &str) -> Option<usize>
     ensures { result ≡ place_of class name.now }
 {
     property_named(class, name)
+}
+
+/// The properties around the width and the height of the class, if it has the two side by side.
+fn around_of(class: Class) -> Option<Around>
+    ensures { IfSome result (spec.IsAround class) }
+{
+    let Some(front) = place_named(class, "width") else {
+        return None;
+    };
+    let Some(next) = place_named(class, "height") else {
+        return None;
+    };
+    let second = front + 1;
+    if next != second {
+        return None;
+    }
+    let rows = properties(class);
+    let behind = rows.len() - second - 1;
+    Some(Around { front, behind })
 }
 
 /// Puts a property behind the others, if a declaration styles it.
@@ -109,6 +138,7 @@ impl ClassPlaces {
         let styled = styled_of(alloc, class)?;
         Ok(ClassPlaces {
             class,
+            around: around_of(class),
             styled,
             id: place_named(class, "id"),
             disable: place_named(class, "disable"),
@@ -193,6 +223,14 @@ impl Places {
         ensures { result ≡ place_of self.now (name_of asked) }
     {
         self.last.at(asked)
+    }
+
+    /// The properties around the width and the height, if the class has the two side by side.
+    #[inline]
+    pub(crate) fn around(&self) -> Option<Around>
+        ensures { IfSome result (spec.IsAround self.now) }
+    {
+        self.last.around
     }
 
     /// The properties that declarations style, in their order.

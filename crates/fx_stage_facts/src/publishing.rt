@@ -27,13 +27,6 @@ fn is_number(kind: Option<Kind>) -> bool
     }
 }
 
-/// Is it a number that only the player writes?
-fn is_size(store: &Store, name: Name) -> bool
-    ensures { result ≡ spec.is_size store.now.entries name.0 }
-{
-    store.is_read_only(name) && is_number(store.kind(name))
-}
-
 /// The node's property, if it is such a number.
 fn size_named(store: &Store, places: &Places, node: &NodeData, asked: Asked) -> Option<Name>
     requires class { places.now ≡ node.now.class }
@@ -46,14 +39,17 @@ fn size_named(store: &Store, places: &Places, node: &NodeData, asked: Asked) -> 
     }
 }
 
+/// The property, if it is a number that only the player writes.
 fn if_size(store: &Store, name: Name) -> Option<Name>
     ensures { result ≡ spec.size_if store.now.entries name.0 }
 {
-    if is_size(store, name) {
-        Some(name)
-    } else {
-        None
+    if !store.is_read_only(name) {
+        return None;
     }
+    if !is_number(store.kind(name)) {
+        return None;
+    }
+    Some(name)
 }
 
 /// Is the property known to have this length already?

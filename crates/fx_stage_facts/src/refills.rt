@@ -107,6 +107,15 @@ fn stands_at<T: Same>(items: &[T], place: usize, item: &T) -> bool
     }
 }
 
+/// Is there nothing here and nothing there?
+#[tactic(auto, using(crate::proofs::RefillLemmas::both_empty))]
+#[inline]
+pub(crate) fn are_empty<T>(items: &[T], others: &[T]) -> bool
+    ensures { IsTrue result → items.now ≡ others.now }
+{
+    items.is_empty() && others.is_empty()
+}
+
 /// Puts copies of the items behind the new ones.
 pub(crate) fn push_all<T: Duplicate + Same>(
     alloc: Global,

@@ -24,13 +24,6 @@ pub(crate) fn is_same(one: NodeKey, other: NodeKey) -> bool
     one.slot == other.slot && one.birth == other.birth
 }
 
-/// The place of the first of the nodes that has this key.
-fn place_from_start(stands: &[Stand], key: NodeKey) -> Option<usize>
-    ensures { result ≡ position (λ stand. is_same stand.key key) stands.now }
-{
-    stands.iter().position(|stand| is_same(stand.key, key))
-}
-
 /// The place of the node of this key, if it is the last of the nodes or stands above the last one, as the parent of the
 /// next node in pre-order does.
 #[tactic(auto, using(crate::proofs::PlaceLemmas::only_place))]
@@ -60,7 +53,7 @@ fn place_in(stands: &[Stand], key: NodeKey) -> Option<usize>
 {
     match place_above_last(stands, key) {
         Some(place) => Some(place),
-        None => place_from_start(stands, key),
+        None => stands.iter().position(|stand| is_same(stand.key, key)),
     }
 }
 

@@ -1,5 +1,5 @@
 //! What the style of each node in a scene hangs on.
-ghost use Rattle.std.specs.Prelude.{◌≡◌, ◌≤◌, ◌+◌, ◌++◌, ◌∷◌, [], ℕ, IsTrue, None, OnOk, Some, false, length, option_to_list, slice_get, true};
+ghost use Rattle.std.specs.Prelude.{◌≡◌, ◌≤◌, ◌+◌, ◌++◌, ◌∷◌, [], IsTrue, OnOk, Some, false, length, option_to_list, slice_get};
 ghost use Rattle.fx_graph_model.specs.Uses.{unknown_in};
 ghost use Rattle.fx_graph_model.specs.Unread.{marked};
 ghost use Rattle.fx_kinds.specs.Properties.{properties_of};
@@ -9,7 +9,7 @@ ghost use Rattle.fx_stage_facts.specs.Sheets.{common_sheets as common_of, inline
 ghost use Rattle.fx_stage_facts.specs.Styles as spec;
 
 use crate::places::{Asked, Places, Styled};
-use crate::refills::{Refill, push_all, refill_list};
+use crate::refills::{Refill, are_empty, push_all, refill_list};
 use crate::sheets::refill_places;
 use crate::stands::{Stand, is_same};
 use crate::values::refill_text;
@@ -63,15 +63,6 @@ fn is_calm(graph: &Graph, stand: Stand) -> bool
         || is_focus(graph.focus(), key)
         || is_among(graph.hover(), key)
         || is_among(graph.pressed(), key))
-}
-
-/// Is there no name here and none there?
-#[tactic(auto, using(crate::proofs::RefillLemmas::both_empty))]
-#[inline]
-fn are_empty(names: &[Text], others: &[Text]) -> bool
-    ensures { IsTrue result → names.now ≡ others.now }
-{
-    names.is_empty() && others.is_empty()
 }
 
 /// Makes these names the pseudo-classes of a node. Most nodes have none.
@@ -149,8 +140,9 @@ fn push_value(
     })
 }
 
-/// Puts the value by code of a property that a declaration styles behind the others, if it has one.
-fn push_styled(
+/// Puts the value by code of a property that a declaration styles behind the others. Most properties have none.
+#[inline]
+fn push_code(
     alloc: Global,
     store: &Store,
     codes: &mut Refill<CodeValue>,
@@ -172,38 +164,6 @@ fn push_styled(
         None => Ok(()),
         Some(value) => push_value(alloc, codes, style, value, bound),
     }
-}
-
-/// Did nothing but its declaration give the property its value?
-#[inline]
-fn is_first(store: &Store, name: Name) -> bool
-    requires { unknown_in store.now.entries name.0 ≡ false }
-    ensures { result ≡ true → (style : ℕ) → spec.code_of store.now.entries name.0 (Some style) ≡ None }
-{
-    match store.origin(name) {
-        Some(Origin::Initial) => true,
-        _ => false,
-    }
-}
-
-/// Puts the value by code of a property that a declaration styles behind the others. Most properties have none.
-#[inline]
-fn push_code(
-    alloc: Global,
-    store: &Store,
-    codes: &mut Refill<CodeValue>,
-    name: Name,
-    style: StyleName,
-) -> Result<(), AllocError>
-    requires known { unknown_in store.now.entries name.0 ≡ false }
-    requires read { marked store.now.unread name.0 ≡ false }
-    ensures { OnOk result (codes.new
-        ≡ codes.old ++ option_to_list (spec.code_of store.now.entries name.0 (Some style.0))) }
-{
-    if is_first(store, name) {
-        return Ok(());
-    }
-    push_styled(alloc, store, codes, name, style)
 }
 
 /// Puts the values by code of these properties behind the others, where the first property of all has this number.

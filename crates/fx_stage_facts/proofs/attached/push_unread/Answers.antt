@@ -27,11 +27,11 @@ loop-place-preserved c =
     let unread = c.args.store.now.unread in
     let place = c.loop-place.place in
     let more = filter (marked unread) (displayed_from (first + (place + 1)) (drop (place + 1) (properties_of class))) in
-    piece_done (numbers c.loop-place.names.items) (numbers c.push_if.new.names.items) _
-    (filter (marked unread) (displayed_from (first + place) (drop place (properties_of class)))) more _ c.in_ok-push_if.ensures
+    piece_done (numbers c.loop-place.names.items) (numbers c.push_left.new.names.items) _
+    (filter (marked unread) (displayed_from (first + place) (drop place (properties_of class)))) more _
+    c.in_ok-push_left.ensures
     (unread_next unread first (properties_of class) place _
     (row_left class c.properties-row-items.result.now place _ c.properties-row-items.ensures c.loop-place-test.true)
     ∙ ap (λ (b : Bool). one_if (marked unread (first + place) && b) (first + place) ++ more)
-    (sym (row_told class c.properties-row-items.result.now place _ c.properties-row-items.ensures c.loop-place-test.true))
-    ∙ ap (λ (b : Bool). one_if b (first + place) ++ more) (sym c.is_left.ensures))
+    (sym (row_told class c.properties-row-items.result.now place _ c.properties-row-items.ensures c.loop-place-test.true)))
     c.loop-place.invariant

@@ -4,5 +4,5 @@ use Rattle.fx_stage_facts.specs.Unread.{unread_of}
 use Rattle.fx_stage_facts.proofs.attached.unread_names.Given as goal
 
 -- those of the nodes so far
-abbrev pub invariant-loop-key : goal.invariant-loop-key
-invariant-loop-key l = numbers l.names.items ≡ unread_of l.store.unread l.graph.table (take l.key-index l.keys)
+abbrev pub invariant-loop-place : goal.invariant-loop-place
+invariant-loop-place l = numbers l.names.items ≡ unread_of l.store.unread l.graph.table (take l.place l.keys)

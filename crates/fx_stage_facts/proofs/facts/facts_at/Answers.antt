@@ -1,55 +1,45 @@
-use Rattle.std.proofs.Common.{◌∙◌, List, ap, arith, refl}
-use Rattle.std.specs.Prelude.{◌++◌, drop}
-use Rattle.fx_base.specs.declared.keys.NodeKey.{NodeKey}
+use Rattle.std.proofs.Common.{◌∙◌, ap, length, refl, sym}
 use Rattle.fx_stage_model.specs.Graphs.{Graph}
-use Rattle.fx_stage_facts.specs.declared.stands.Stand.{Stand}
+use Rattle.fx_stage_model.specs.World.{World}
+use Rattle.fx_stage_facts.specs.Attached.{attached_keys}
+use Rattle.fx_stage_facts.specs.Scenes.{facts_of}
 use Rattle.fx_stage_facts.specs.Sheets.{common_sheets}
-use Rattle.fx_stage_facts.specs.Stands.{keys_of, stands_from}
-use Rattle.fx_stage_facts.proofs.DraftLemmas.{draft_next, draft_none, facts_drafted, keys_next, marks_next, stands_next}
-use Rattle.fx_stage_facts.proofs.PlaceLemmas.{once_so_far}
+use Rattle.fx_stage_facts.proofs.DraftLemmas.{facts_reached, reach_looked, reach_none}
+use Rattle.fx_stage_facts.proofs.FactsLemmas.{facts_looked}
 use Rattle.fx_stage_facts.proofs.facts.facts_at.Goals as goal
 
-no_key : NodeKey
-no_key = record { slot = 0; birth = 0 }
+pub fill-requires-clause-reach : goal.fill-requires-clause-reach
+fill-requires-clause-reach g c =
+    reach_none c.args.stage.now c.args.keys.now c.in_ok-standing.standing c.in_ok-draft.draft
+    c.in_ok-standing.ensures.stands c.in_ok-standing.ensures.marks
+    (c.in_ok-draft.ensures.sheets ∙ ap (λ (graph : Graph). common_sheets graph) c.graph.ensures)
+    c.in_ok-draft.ensures.styles c.in_ok-draft.ensures.boxes
 
-pub loop-key-init : goal.loop-key-init
-loop-key-init c = (
-  ap (λ (ss : List Stand). stands_from c.args.stage.now ss c.args.keys.now) c.in_ok-standing.ensures.stands,
-  ap (λ (ss : List Stand). keys_of ss ++ c.args.keys.now) c.in_ok-standing.ensures.stands,
-  c.in_ok-standing.ensures.marks,
-  draft_none c.args.stage.now c.in_ok-standing.standing.stands.items c.in_ok-draft.draft c.in_ok-standing.ensures.stands
-      (c.in_ok-draft.ensures.sheets ∙ ap (λ (g : Graph). common_sheets g) c.graph.ensures)
-      c.in_ok-draft.ensures.styles c.in_ok-draft.ensures.boxes,
-)
+pub look-requires-clause-within : goal.look-requires-clause-within
+look-requires-clause-within g c = c.in_ok-place.ensures.reach.within
 
-pub push_node-requires-clause-read : goal.push_node-requires-clause-read
-unfolding no_key
-push_node-requires-clause-read c = c.requires.read c.loop-key.key-index no_key c.loop-key-test.true
+pub look-requires-clause-read : goal.look-requires-clause-read
+look-requires-clause-read g c = c.in_ok-place.ensures.reach.read
 
-pub push_node-requires-clause-once : goal.push_node-requires-clause-once
-push_node-requires-clause-once c =
-    once_so_far c.loop-key.standing.stands.items c.loop-key.standing.stands.items c.args.keys.now
-    (drop c.loop-key.key-index c.args.keys.now) refl c.loop-key.invariant.1 c.requires.once
+pub fill-requires-2-clause-reach : goal.fill-requires-2-clause-reach
+fill-requires-2-clause-reach g c =
+    reach_looked c.args.stage.now c.look.new.stage c.args.keys.now c.in_ok-place.place c.fill.new.standing
+    c.fill.new.draft c.in_ok-look.ensures.ok c.in_ok-look.ensures.read c.in_ok-place.ensures.reach
 
-pub loop-key-preserved : goal.loop-key-preserved
-unfolding no_key
-loop-key-preserved c =
-    let world = c.args.stage.now in
-    let keys = c.args.keys.now in
-    let place = c.loop-key.key-index in
-    let stands = c.loop-key.standing.stands.items in
-    let now = c.push_node.new.standing in
-    let put = c.in_ok-push_node.ensures in
-    let within = c.loop-key-test.true in (
-      stands_next world stands now.stands.items keys place no_key within put.stands ∙ c.loop-key.invariant.0,
-      keys_next world stands now.stands.items keys place no_key within put.stands ∙ c.loop-key.invariant.1,
-      marks_next world c.loop-key.standing.marks.items now.marks.items keys place no_key within put.marks c.loop-key.invariant.2,
-      draft_next world stands now.stands.items _ c.loop-key.draft c.push_node.new.draft put.stands put.sheets put.styles put.boxes
-          c.loop-key.invariant.3,
-    )
+pub fill-requires-2-clause-sure : goal.fill-requires-2-clause-sure
+fill-requires-2-clause-sure g c = λ s. c.in_ok-look.ensures.read
 
-pub returns : goal.returns
-returns c =
+pub fill-requires-2-clause-common : goal.fill-requires-2-clause-common
+fill-requires-2-clause-common g c =
+    c.len-common.ensures
+    ∙ ap length (c.in_ok-draft.ensures.sheets ∙ ap (λ (graph : Graph). common_sheets graph) c.graph.ensures)
+    ∙ ap (λ (world : World). length (common_sheets world.graph)) (sym c.in_ok-look.ensures.ok)
+
+pub returns-clause-facts : goal.returns-clause-facts
+returns-clause-facts g c =
     c.finished.ensures
-    ∙ facts_drafted c.args.stage.now c.args.keys.now c.loop-key.key-index c.loop-key.standing c.loop-key.draft c.requires.keys
-    (omega (arith, c.loop-key-test.false)) c.loop-key.invariant.0 c.loop-key.invariant.2 c.loop-key.invariant.3
+    ∙ facts_reached c.look.new.stage c.args.keys.now c.in_ok-fill.field-0 c.fill-2.new.standing c.fill-2.new.draft
+    (c.requires.keys ∙ sym (ap attached_keys c.in_ok-look.ensures.ok)) (c.in_ok-fill.ensures.sure refl)
+    c.in_ok-fill.ensures.reach
+    ∙ ap facts_of c.in_ok-look.ensures.ok
+    ∙ facts_looked c.args.stage.now

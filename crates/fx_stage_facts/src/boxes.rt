@@ -58,12 +58,12 @@ pub(crate) fn refill_box(
     facts: &mut BoxFacts,
     stage: &Stage,
     places: &Places,
-    stand: Stand,
+    stand: &Stand,
     node: &NodeData,
 ) -> Result<(), AllocError>
     requires class { places.now ≡ node.now.class }
     requires read { IsRead stage.now.store node.now }
-    ensures { OnOk result (facts.new ≡ spec.box_in stage.now.store.entries stand (Some node.now)) }
+    ensures { OnOk result (facts.new ≡ spec.box_in stage.now.store.entries stand.now (Some node.now)) }
 {
     facts.key = stand.key;
     facts.parent = stand.parent;

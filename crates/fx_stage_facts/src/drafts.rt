@@ -90,17 +90,17 @@ fn put_style(
     stage: &Stage,
     places: &Places,
     spot: Spot,
-    stand: Stand,
+    stand: &Stand,
     node: &NodeData,
 ) -> Result<(), AllocError>
     requires class { places.now ≡ node.now.class }
     requires read { IsRead stage.now.store node.now }
     requires room { spot.start + length node.now.sheets ≤ spot.end }
     requires common { spot.common ≡ length (common_of stage.now.graph) }
-    ensures { OnOk result (styles.new ≡ styles.old ++ style_in stage.now spot.start stand (Some node.now) ∷ []) }
+    ensures { OnOk result (styles.new ≡ styles.old ++ style_in stage.now spot.start stand.now (Some node.now) ∷ []) }
 {
     if styles.count == styles.items.len() {
-        let mut facts = bare_style(alloc, stand);
+        let mut facts = bare_style(alloc, *stand);
         refill_style(alloc, &mut facts, stage, places, spot, stand, node)?;
         return styles.push(facts);
     }
@@ -117,15 +117,15 @@ fn put_box(
     boxes: &mut Refill<BoxFacts>,
     stage: &Stage,
     places: &Places,
-    stand: Stand,
+    stand: &Stand,
     node: &NodeData,
 ) -> Result<(), AllocError>
     requires class { places.now ≡ node.now.class }
     requires read { IsRead stage.now.store node.now }
-    ensures { OnOk result (boxes.new ≡ boxes.old ++ box_in stage.now.store.entries stand (Some node.now) ∷ []) }
+    ensures { OnOk result (boxes.new ≡ boxes.old ++ box_in stage.now.store.entries stand.now (Some node.now) ∷ []) }
 {
     if boxes.count == boxes.items.len() {
-        let mut facts = bare_box(alloc, stand);
+        let mut facts = bare_box(alloc, *stand);
         refill_box(alloc, &mut facts, stage, places, stand, node)?;
         return boxes.push(facts);
     }
@@ -174,17 +174,17 @@ fn push_facts(
     places: &Places,
     common: usize,
     draft: &mut Draft,
-    stand: Stand,
+    stand: &Stand,
     node: &NodeData,
 ) -> Result<(), AllocError>
     requires class { places.now ≡ node.now.class }
     requires read { IsRead stage.now.store node.now }
-    requires here { data_of stage.now.graph.table stand.key ≡ Some node.now }
+    requires here { data_of stage.now.graph.table stand.now.key ≡ Some node.now }
     requires common { common ≡ length (common_of stage.now.graph) }
-    ensures sheets { OnOk result (draft.new.sheets ≡ draft.old.sheets ++ sheets_at stage.now.graph stand) }
+    ensures sheets { OnOk result (draft.new.sheets ≡ draft.old.sheets ++ sheets_at stage.now.graph stand.now) }
     ensures styles { OnOk result (draft.new.styles
-        ≡ draft.old.styles ++ style_at stage.now (length draft.old.sheets) stand ∷ []) }
-    ensures boxes { OnOk result (draft.new.boxes ≡ draft.old.boxes ++ box_at stage.now stand ∷ []) }
+        ≡ draft.old.styles ++ style_at stage.now (length draft.old.sheets) stand.now ∷ []) }
+    ensures boxes { OnOk result (draft.new.boxes ≡ draft.old.boxes ++ box_at stage.now stand.now ∷ []) }
 {
     let start = draft.sheets.len();
     push_own(
@@ -234,7 +234,7 @@ fn push_present(
     let stand = stand_of(stage, standing.stands.as_slice(), key, own);
     standing.stands.push(stand)?;
     standing.marks.push(own)?;
-    push_facts(alloc, stage, places, common, draft, stand, node)
+    push_facts(alloc, stage, places, common, draft, &stand, node)
 }
 
 /// Is nothing of the node unread that a frame reads? If that is sure, it isn't looked at.

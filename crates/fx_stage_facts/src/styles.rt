@@ -55,8 +55,8 @@ fn push_if(alloc: Global, names: &mut Refill<Text>, so: bool, name: &str) -> Res
 
 /// Is the node under no pointer, without the focus, not pressed and not disabled?
 #[inline]
-fn is_calm(graph: &Graph, stand: Stand) -> bool
-    ensures { IsTrue result → (node : Data) → spec.pseudos_of graph.now stand node ≡ node.pseudos }
+fn is_calm(graph: &Graph, stand: &Stand) -> bool
+    ensures { IsTrue result → (node : Data) → spec.pseudos_of graph.now stand.now node ≡ node.pseudos }
 {
     let key = stand.key;
     !(stand.disabled
@@ -70,10 +70,10 @@ fn refill_pseudos(
     alloc: Global,
     kept: &mut List<Text>,
     graph: &Graph,
-    stand: Stand,
+    stand: &Stand,
     node: &NodeData,
 ) -> Result<(), AllocError>
-    ensures { OnOk result (kept.new ≡ spec.pseudos_of graph.now stand node.now) }
+    ensures { OnOk result (kept.new ≡ spec.pseudos_of graph.now stand.now node.now) }
 {
     if are_empty(kept.as_slice(), node.pseudos.as_slice()) && is_calm(graph, stand) {
         return Ok(());
@@ -244,14 +244,14 @@ pub(crate) fn refill_style(
     stage: &Stage,
     places: &Places,
     spot: Spot,
-    stand: Stand,
+    stand: &Stand,
     node: &NodeData,
 ) -> Result<(), AllocError>
     requires class { places.now ≡ node.now.class }
     requires read { IsRead stage.now.store node.now }
     requires room { spot.start + length node.now.sheets ≤ spot.end }
     requires common { spot.common ≡ length (common_of stage.now.graph) }
-    ensures { OnOk result (facts.new ≡ spec.style_in stage.now spot.start stand (Some node.now)) }
+    ensures { OnOk result (facts.new ≡ spec.style_in stage.now spot.start stand.now (Some node.now)) }
 {
     let end = spot.start + node.sheets.as_slice().len();
     facts.key = stand.key;

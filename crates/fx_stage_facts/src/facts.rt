@@ -13,7 +13,7 @@ use crate::drafts::{Draft, Standing, push_node};
 use crate::places::Places;
 use fx_base::{Ledgers, List, NodeKey, Work};
 use fx_css_types::SheetAt;
-use fx_kinds::{BoxFacts, Class, StyleFacts};
+use fx_kinds::{BoxFacts, StyleFacts};
 use fx_stage::Stage;
 use std::alloc::{AllocError, Global};
 use std::mem::replace;
@@ -159,7 +159,7 @@ fn facts_at<L: Ledgers>(
     let mut standing = Standing::over(alloc, disabled, keys.len())?;
     let mut draft = Draft::over(alloc, stage.graph(), sheets, styles, boxes, keys.len())?;
     let common = draft.sheets.len();
-    let mut places = Places::of(alloc, Class::Region)?;
+    let mut places = Places::new(alloc)?;
     let place = fill(
         alloc,
         stage,

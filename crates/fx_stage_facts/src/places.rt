@@ -1,6 +1,7 @@
 //! Where the properties that a frame asks for by name stand among those of a class.
 ghost use Rattle.std.specs.Prelude.{◌≡◌, ◌++◌, IfOk, IfSome, OnOk, true};
 ghost use Rattle.std.specs.Option.{option_map};
+ghost use Rattle.fx_kinds.specs.declared.classes.Class.TheVariants as class_named;
 ghost use Rattle.fx_stage_model.specs.Looking.{place_of};
 ghost use Rattle.fx_stage_facts.specs.Places as spec;
 ghost use Rattle.fx_stage_facts.specs.Places.{name_of};
@@ -192,12 +193,12 @@ impl Model for Places {
 }
 
 impl Places {
-    /// The places for the class.
-    pub(crate) fn of(alloc: Global, class: Class) -> Result<Places, AllocError>
-        ensures { IfOk result (λ places. places ≡ class) }
+    /// The places for a class that has no properties, before the first of those that are asked for.
+    pub(crate) fn new(alloc: Global) -> Result<Places, AllocError>
+        ensures { IfOk result (λ places. places ≡ class_named.String) }
     {
-        let last = ClassPlaces::of(alloc, class)?;
-        let other = ClassPlaces::of(alloc, class)?;
+        let last = ClassPlaces::of(alloc, Class::String)?;
+        let other = ClassPlaces::of(alloc, Class::String)?;
         Ok(Places { last, other })
     }
 

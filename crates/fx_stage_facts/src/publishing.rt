@@ -11,7 +11,6 @@ ghost use Rattle.fx_stage_facts.specs.Publishing as spec;
 use crate::places::{Asked, Places};
 use crate::values::name_in;
 use fx_base::{Kind, Ledgers, List, Name, NodeKey, Value, Work};
-use fx_kinds::Class;
 use fx_stage::Stage;
 use fx_stage_types::{NodeData, Outcome};
 use fx_store::Store;
@@ -151,7 +150,7 @@ fn pairs_of(
     ensures { IfOk result (λ pairs. pairs.items
         ≡ spec.differing stage.now.store (spec.pairs_of stage.now sizes.now)) }
 {
-    let mut places = Places::of(alloc, Class::Region)?;
+    let mut places = Places::new(alloc)?;
     let mut pairs = Vec::with_capacity(alloc, sizes.len().saturating_mul(2))?;
     for size in sizes {
         push_size(alloc, &mut pairs, stage, &mut places, size)?;

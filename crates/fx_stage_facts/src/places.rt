@@ -158,22 +158,25 @@ impl ClassPlaces {
     {
         self.class == class
     }
+}
 
-    #[inline]
-    fn at(&self, asked: Asked) -> Option<usize>
-        ensures { result ≡ place_of self.now (name_of asked) }
-    {
-        match asked {
-            Asked::Id => self.id,
-            Asked::Disable => self.disable,
-            Asked::Text => self.text,
-            Asked::LayoutX => self.layout_x,
-            Asked::LayoutY => self.layout_y,
-            Asked::FocusTraversable => self.focus_traversable,
-            Asked::Width => self.width,
-            Asked::Height => self.height,
-        }
+/// Makes the first the places for this class, and the second what the first ones were. They are looked for only if the
+/// second ones weren't of this class.
+#[inline(never)]
+fn exchange(
+    alloc: Global,
+    last: &mut ClassPlaces,
+    other: &mut ClassPlaces,
+    class: Class,
+) -> Result<(), AllocError>
+    ensures { OnOk result (last.new ≡ class) }
+{
+    swap(last, other);
+    if last.is_of(class) {
+        return Ok(());
     }
+    *last = ClassPlaces::of(alloc, class)?;
+    Ok(())
 }
 
 /// The places of the two classes that were asked for last, since a pane's children mostly are of one class. Contracts
@@ -210,12 +213,7 @@ impl Places {
         if self.last.is_of(class) {
             return Ok(());
         }
-        swap(&mut self.last, &mut self.other);
-        if self.last.is_of(class) {
-            return Ok(());
-        }
-        self.last = ClassPlaces::of(alloc, class)?;
-        Ok(())
+        exchange(alloc, &mut self.last, &mut self.other, class)
     }
 
     /// The place of the property.
@@ -223,7 +221,16 @@ impl Places {
     pub(crate) fn at(&self, asked: Asked) -> Option<usize>
         ensures { result ≡ place_of self.now (name_of asked) }
     {
-        self.last.at(asked)
+        match asked {
+            Asked::Id => self.last.id,
+            Asked::Disable => self.last.disable,
+            Asked::Text => self.last.text,
+            Asked::LayoutX => self.last.layout_x,
+            Asked::LayoutY => self.last.layout_y,
+            Asked::FocusTraversable => self.last.focus_traversable,
+            Asked::Width => self.last.width,
+            Asked::Height => self.last.height,
+        }
     }
 
     /// The properties around the width and the height, if the class has the two side by side.

@@ -95,7 +95,7 @@ above_weaker ups test other k weaker above =
     above
 
 -- ---- marks
-flag_past : (marks : List Bool) (k : ℕ) → flag_in marks k ≡ true → k < length marks
+pub flag_past : (marks : List Bool) (k : ℕ) → flag_in marks k ≡ true → k < length marks
 flag_past marks k is = elim (cases_lt k (length marks)) [
   | inl within ↦ within
   | inr past ↦ absurd (true≢false (sym is ∙ get_or_past marks k false past))

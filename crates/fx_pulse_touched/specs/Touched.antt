@@ -12,6 +12,11 @@ pub record HaveOneShape (old new : Scene) : Type 0 where
   pub keys : keys old.boxes ≡ keys new.boxes
   pub parents : parents old.boxes ≡ parents new.boxes
 
+-- there was a scene of this shape
+abbrev pub IsOfShape : Option Scene → Scene → Type 0
+IsOfShape None scene = ⊥
+IsOfShape (Some last) scene = HaveOneShape last scene
+
 -- there was a scene of this shape, and the facts for the style of a node are as they were
 abbrev pub IsStyledAsBefore : Option Scene → Scene → ℕ → Type 0
 IsStyledAsBefore None scene k = ⊥

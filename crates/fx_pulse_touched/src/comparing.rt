@@ -1,15 +1,18 @@
 //! Two scenes compared, place by place.
-ghost use Rattle.std.specs.Prelude.{◌≡◌, ◌↔◌, ◌<◌, ℕ, IfOk, IfSome, IsTrue, false, length, slice_get, Some, None};
+ghost use Rattle.std.specs.Prelude.{◌≡◌, ◌↔◌, ◌<◌, ℕ, IfOk, IfSome, IsTrue, false, length, map, slice_get, Some, None};
+ghost use Rattle.std.specs.List.{list_any};
 ghost use Rattle.std.specs.Option.{option_map};
 ghost use Rattle.fx_layout_sweeps.specs.Marks.{flag_in};
 ghost use Rattle.fx_layout_sweeps.specs.Nodes.{keys, parents};
 ghost use Rattle.fx_pulse_model.specs.Scenes.{IsScene};
 ghost use Rattle.fx_pulse_touched.specs.Sights.{seen};
-ghost use Rattle.fx_pulse_touched.specs.Touched.{AreTouched, HaveOneShape};
+ghost use Rattle.fx_pulse_touched.specs.Touched.{AreTouched, HaveOneShape, IsOfShape};
 
+use crate::facts::{has_same_box, has_same_style};
+use crate::marks::is_any;
 use crate::scenes::Scene;
 use fx_base::Same;
-use fx_kinds::BoxFacts;
+use fx_kinds::{BoxFacts, StyleFacts};
 use std::alloc::{AllocError, Global};
 
 /// Marks of the touched nodes, by their facts for style and by those for layout.
@@ -17,6 +20,16 @@ use std::alloc::{AllocError, Global};
 pub struct Touched {
     pub styles: Vec<bool>,
     pub boxes: Vec<bool>,
+}
+
+/// A scene as it is compared with the last one.
+#[derive(Drop)]
+pub struct Compared {
+    pub touched: Touched,
+    /// There was a last scene, of the same sheets, whose nodes were these and hung as they do.
+    pub has_shape: bool,
+    /// It is the last scene again.
+    pub is_last: bool,
 }
 
 /// Which nodes are touched since the last scene: all where there was none, where other nodes stood or hung elsewhere,
@@ -31,9 +44,41 @@ pub fn touched_since(
     ensures { IfOk result (λ touched. AreTouched (option_map seen last.entry) (seen scene.entry) touched.styles.items
         touched.boxes.items) }
 {
+    let compared = compared_since(alloc, last, scene)?;
+    Ok(compared.touched)
+}
+
+/// Compares a scene with the last one, all facts place by place, and the sheets.
+pub fn compared_since(
+    alloc: Global,
+    last: Option<Scene<'_>>,
+    scene: Scene<'_>,
+) -> Result<Compared, AllocError>
+    requires scene { IsScene (seen scene) }
+    requires last { IfSome last (λ old. IsScene (seen old)) }
+    ensures touched { IfOk result (λ compared. AreTouched (option_map seen last.entry) (seen scene.entry)
+        compared.touched.styles.items compared.touched.boxes.items) }
+    ensures shape { IfOk result (λ compared. IsTrue compared.has_shape
+        → IsOfShape (option_map seen last.entry) (seen scene.entry)) }
+    ensures last { IfOk result (λ compared. IsTrue compared.is_last
+        → option_map seen last.entry ≡ Some (seen scene.entry)) }
+{
     match last {
-        None => all_touched(alloc, scene),
-        Some(old) => touched_by(alloc, old, scene),
+        None => Ok(unlike(all_touched(alloc, scene)?)),
+        Some(old) => compared_with(alloc, old, scene),
+    }
+}
+
+/// A scene that isn't of the shape of the last one.
+fn unlike(touched: Touched) -> Compared
+    ensures touched { result.touched ≡ touched }
+    ensures shape { result.has_shape ≡ false }
+    ensures last { result.is_last ≡ false }
+{
+    Compared {
+        touched,
+        has_shape: false,
+        is_last: false,
     }
 }
 
@@ -47,19 +92,49 @@ fn all_touched(alloc: Global, scene: Scene<'_>) -> Result<Touched, AllocError>
     })
 }
 
-fn touched_by(alloc: Global, last: Scene<'_>, scene: Scene<'_>) -> Result<Touched, AllocError>
+fn compared_with(alloc: Global, last: Scene<'_>, scene: Scene<'_>) -> Result<Compared, AllocError>
     requires scene { IsScene (seen scene) }
     requires last { IsScene (seen last) }
-    ensures { IfOk result (λ touched. AreTouched (Some (seen last.entry)) (seen scene.entry) touched.styles.items
-        touched.boxes.items) }
+    ensures touched { IfOk result (λ compared. AreTouched (Some (seen last.entry)) (seen scene.entry)
+        compared.touched.styles.items compared.touched.boxes.items) }
+    ensures shape { IfOk result (λ compared. IsTrue compared.has_shape
+        → HaveOneShape (seen last.entry) (seen scene.entry)) }
+    ensures last { IfOk result (λ compared. IsTrue compared.is_last → seen last.entry ≡ seen scene.entry) }
 {
     if !have_one_shape(last, scene) {
-        return all_touched(alloc, scene);
+        return Ok(unlike(all_touched(alloc, scene)?));
     }
-    Ok(Touched {
-        styles: differing(alloc, last.styles, scene.styles)?,
-        boxes: differing(alloc, last.boxes, scene.boxes)?,
+    let touched = Touched {
+        styles: differing_styles(alloc, last.styles, scene.styles)?,
+        boxes: differing_boxes(alloc, last.boxes, scene.boxes)?,
+    };
+    let is_last = is_untouched(last, scene, &touched);
+    Ok(Compared {
+        touched,
+        has_shape: true,
+        is_last,
     })
+}
+
+/// Is this the last scene again, of which the touched nodes are marked?
+fn is_untouched(last: Scene<'_>, scene: Scene<'_>, touched: &Touched) -> bool
+    requires scene { IsScene (seen scene) }
+    requires last { IsScene (seen last) }
+    requires shape { HaveOneShape (seen last) (seen scene) }
+    requires touched { AreTouched (Some (seen last)) (seen scene) touched.now.styles.items touched.now.boxes.items }
+    ensures { IsTrue result → seen last.entry ≡ seen scene.entry }
+{
+    if !are_same_flags(last.disabled, scene.disabled) {
+        return false;
+    }
+    is_none_marked(touched)
+}
+
+fn is_none_marked(touched: &Touched) -> bool
+    ensures styles { IsTrue result → list_any (λ mark. mark) touched.now.styles.items ≡ false }
+    ensures boxes { IsTrue result → list_any (λ mark. mark) touched.now.boxes.items ≡ false }
+{
+    !is_any(touched.styles.as_slice()) && !is_any(touched.boxes.as_slice())
 }
 
 /// Does the last scene tell the same as this one? Compares place by place, up to the first that differs.
@@ -131,16 +206,46 @@ fn pairs_are_same<T: Same>(items: &[T], others: &[T]) -> bool
     true
 }
 
-/// Marks of the places at which other items stand.
-fn differing<T: Same>(alloc: Global, olds: &[T], items: &[T]) -> Result<Vec<bool>, AllocError>
-    requires { length olds.now ≡ length items.now }
-    ensures each { IfOk result (λ marks. length marks.items ≡ length items.now) }
-    ensures marks { IfOk result (λ marks. (k : ℕ) → k < length items.now
-        → (flag_in marks.items k ≡ false) ↔ (slice_get olds.now k ≡ slice_get items.now k)) }
+/// Marks of the nodes whose facts for style are others.
+fn differing_styles(
+    alloc: Global,
+    olds: &[StyleFacts],
+    nodes: &[StyleFacts],
+) -> Result<Vec<bool>, AllocError>
+    requires each { length olds.now ≡ length nodes.now }
+    requires keys { map (λ node. node.key) olds.now ≡ map (λ node. node.key) nodes.now }
+    requires parents { map (λ node. node.parent) olds.now ≡ map (λ node. node.parent) nodes.now }
+    ensures each { IfOk result (λ marks. length marks.items ≡ length nodes.now) }
+    ensures marks { IfOk result (λ marks. (k : ℕ) → k < length nodes.now
+        → (flag_in marks.items k ≡ false) ↔ (slice_get olds.now k ≡ slice_get nodes.now k)) }
 {
-    let mut marks = Vec::with_capacity(alloc, items.len())?;
-    for place in 0..items.len() {
-        marks.push(!items[place].is_same(&olds[place]))?;
+    let mut marks = Vec::with_capacity(alloc, nodes.len())?;
+    for place in 0..nodes.len() {
+        let old = &olds[place];
+        let node = &nodes[place];
+        marks.push(!has_same_style(old, node))?;
+    }
+    Ok(marks)
+}
+
+/// Marks of the nodes whose facts for layout are others.
+fn differing_boxes(
+    alloc: Global,
+    olds: &[BoxFacts],
+    nodes: &[BoxFacts],
+) -> Result<Vec<bool>, AllocError>
+    requires each { length olds.now ≡ length nodes.now }
+    requires keys { keys olds.now ≡ keys nodes.now }
+    requires parents { parents olds.now ≡ parents nodes.now }
+    ensures each { IfOk result (λ marks. length marks.items ≡ length nodes.now) }
+    ensures marks { IfOk result (λ marks. (k : ℕ) → k < length nodes.now
+        → (flag_in marks.items k ≡ false) ↔ (slice_get olds.now k ≡ slice_get nodes.now k)) }
+{
+    let mut marks = Vec::with_capacity(alloc, nodes.len())?;
+    for place in 0..nodes.len() {
+        let old = &olds[place];
+        let node = &nodes[place];
+        marks.push(!has_same_box(old, node))?;
     }
     Ok(marks)
 }

@@ -3,9 +3,12 @@
 #![tactic(auto)]
 
 mod comparing;
+mod facts;
 mod marks;
 mod scenes;
 
-pub use comparing::{Touched, have_same_heads, is_same_scene, touched_since};
-pub use marks::{mark_again, marked_above, marked_below, marked_places};
+pub use comparing::{
+    Compared, Touched, compared_since, have_same_heads, is_same_scene, touched_since,
+};
+pub use marks::{is_any, mark_again, marked_above, marked_below, marked_places};
 pub use scenes::{Scene, SceneLists};

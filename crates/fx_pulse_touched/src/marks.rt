@@ -1,5 +1,6 @@
 //! Marks of the nodes of a tree, handed down to those below, or up to those above.
-ghost use Rattle.std.specs.Prelude.{◌≡◌, ◌≤◌, ◌<◌, ◌||◌, ◌&&◌, ◌==◌, ℕ, true, false, IfOk, length, slice_set, Some, None};
+ghost use Rattle.std.specs.Prelude.{◌≡◌, ◌≤◌, ◌<◌, ◌||◌, ◌&&◌, ◌==◌, ℕ, true, false, IfOk, length, replicate, slice_set, Some, None};
+ghost use Rattle.std.specs.List.{list_any};
 ghost use Rattle.fx_layout_sweeps.specs.Marks.{flag_in};
 ghost use Rattle.fx_layout_sweeps.specs.Nodes.{IsTree, node_at, parent_at as up_at, parents};
 ghost use Rattle.fx_pulse_touched.specs.Marks.{IsClosed, is_above, is_below, marked_up, places_of, told, told_above};
@@ -8,12 +9,40 @@ ghost use Rattle.fx_style.specs.Kept.{is_among};
 use fx_kinds::BoxFacts;
 use std::alloc::{AllocError, Global};
 
+/// Is a mark set? All are looked at, since the compiler then takes many at a time.
+pub fn is_any(marks: &[bool]) -> bool
+    ensures { result ≡ list_any (λ mark. mark) marks.now }
+{
+    let mut any = false;
+    for mark in marks {
+        any |= *mark;
+    }
+    any
+}
+
 /// Marks each node that has a mark here, or an ancestor that has one.
 pub fn marked_below(
     alloc: Global,
     boxes: &[BoxFacts],
     marks: &[bool],
 ) -> Result<Vec<bool>, AllocError>
+    requires { IsTree (parents boxes.now) }
+    ensures { IfOk result (λ below. below.items ≡ told (is_below (parents boxes.now) marks.now) (length boxes.now)) }
+{
+    if !is_any(marks) {
+        let below = unmarked(alloc, boxes.len())?;
+        return Ok(below);
+    }
+    handed_down(alloc, boxes, marks)
+}
+
+fn unmarked(alloc: Global, count: usize) -> Result<Vec<bool>, AllocError>
+    ensures { IfOk result (λ marks. marks.items ≡ replicate count false) }
+{
+    vec![in alloc; false; count]
+}
+
+fn handed_down(alloc: Global, boxes: &[BoxFacts], marks: &[bool]) -> Result<Vec<bool>, AllocError>
     requires { IsTree (parents boxes.now) }
     ensures { IfOk result (λ below. below.items ≡ told (is_below (parents boxes.now) marks.now) (length boxes.now)) }
 {
@@ -27,7 +56,10 @@ pub fn marked_below(
 fn is_below(below: &[bool], boxes: &[BoxFacts], marks: &[bool], place: usize) -> bool
     ensures { result ≡ (told_above below.now (node_at boxes.now place).parent false || flag_in marks.now place) }
 {
-    is_marked_above(below, boxes, place) || flag_at(marks, place)
+    if flag_at(marks, place) {
+        return true;
+    }
+    is_marked_above(below, boxes, place)
 }
 
 fn is_marked_above(below: &[bool], boxes: &[BoxFacts], place: usize) -> bool
@@ -121,6 +153,15 @@ fn mark_if(marks: &mut Vec<bool>, place: usize, test: bool)
 
 /// The marked places, rising.
 pub fn marked_places(alloc: Global, marks: &[bool]) -> Result<Vec<usize>, AllocError>
+    ensures { IfOk result (λ places. places.items ≡ places_of marks.now) }
+{
+    if !is_any(marks) {
+        return Ok(Vec::new(alloc));
+    }
+    listed_places(alloc, marks)
+}
+
+fn listed_places(alloc: Global, marks: &[bool]) -> Result<Vec<usize>, AllocError>
     ensures { IfOk result (λ places. places.items ≡ places_of marks.now) }
 {
     let mut places = Vec::new(alloc);

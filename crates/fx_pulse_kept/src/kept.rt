@@ -12,7 +12,7 @@ ghost use Rattle.fx_pulse_kept.specs.Measuring.{AreOthersMarked};
 ghost use Rattle.fx_pulse_model.specs.Scenes.{IsScene, Scene as SceneValue, looks_of};
 ghost use Rattle.fx_pulse_touched.specs.Marks.{places_of, told};
 ghost use Rattle.fx_pulse_touched.specs.Sights.{scene_of, seen};
-ghost use Rattle.fx_pulse_touched.specs.Touched.{AreTouched, IsStyledAsBefore, IsUntouched, is_restyled};
+ghost use Rattle.fx_pulse_touched.specs.Touched.{AreTouched, IsOfShape, IsStyledAsBefore, IsUntouched, is_restyled};
 ghost use Rattle.fx_style.specs.Rules.{IsUpdate, KeepsOthers, kept_of, needs, worked};
 
 use crate::measuring::measured_marks;
@@ -21,7 +21,8 @@ use fx_kinds::{BoxFacts, StyleFacts};
 use fx_layout::Layouts;
 use fx_look::Look;
 use fx_pulse_touched::{
-    Scene, SceneLists, Touched, is_same_scene, marked_below, marked_places, touched_since,
+    Compared, Scene, SceneLists, Touched, compared_since, is_same_scene, marked_below,
+    marked_places, touched_since,
 };
 use fx_select::RuleIndex;
 use fx_style::{Scene as Styled, Styles};
@@ -88,6 +89,19 @@ impl KeptScene {
         }
     }
 
+    /// Compares a scene with the last one, all facts place by place, and the sheets.
+    pub fn compared(&self, alloc: Global, scene: Scene<'_>) -> Result<Compared, AllocError>
+        requires { IsScene (seen scene) }
+        ensures touched { IfOk result (λ compared. AreTouched self.now.last (seen scene.entry)
+            compared.touched.styles.items compared.touched.boxes.items) }
+        ensures shape { IfOk result (λ compared. IsTrue compared.has_shape
+            → IsOfShape self.now.last (seen scene.entry)) }
+        ensures last { IfOk result (λ compared. IsTrue compared.is_last
+            → self.now.last ≡ Some (seen scene.entry)) }
+    {
+        compared_since(alloc, lent(&self.last), scene)
+    }
+
     /// The look of each node of the last scene.
     pub fn looks(&self) -> &[Look]
         ensures { result.now ≡ self.now.styles.looks }
@@ -141,12 +155,48 @@ impl KeptScene {
         ensures few { OnOk result (AreFew self.old.last (seen scene.entry) self.old.layout self.new.layout
             work.old.styled work.new.styled work.old.laid work.new.laid) }
     {
+        let touched = touched_since(alloc, lent(&self.last), scene);
+        match touched {
+            Ok(touched) => self.update_touched(alloc, scene, touched, window, work),
+            Err(error) => {
+                self.last = None;
+                Err(error)
+            }
+        }
+    }
+
+    /// Brings what is kept up to this scene as `update` does, by marks of the nodes that are touched since the last one,
+    /// so that nothing is compared again.
+    pub fn update_touched<L: Ledgers>(
+        &mut self,
+        alloc: Global,
+        scene: Scene<'_>,
+        touched: Touched,
+        window: Option<(u32, u32)>,
+        work: &mut Work<L>,
+    ) -> Result<Brought, AllocError>
+        requires scene { IsScene (seen scene) }
+        requires touched { AreTouched self.old.last (seen scene) touched.styles.items touched.boxes.items }
+        ensures looks { OnOk result (self.new.styles.looks ≡ looks_of (seen scene.entry)) }
+        ensures layout { OnOk result
+            (IsLayout scene.entry.boxes.now (looks_of (seen scene.entry)) window self.new.layout) }
+        ensures size { IfOk result (λ told. told.size ≡ root_size self.new.layout) }
+        ensures marks { IfOk result (λ told. AreOthersMarked self.old.last (seen scene.entry) told.marks.items) }
+        ensures kept { OnOk result (AreOf (seen scene.entry) self.new.styles self.new.layout) }
+        ensures last { self.new.last ≡ None }
+        ensures evaluated { OnOk result (work.new.evaluated ≡ work.old.evaluated) }
+        ensures painted { OnOk result (work.new.painted ≡ work.old.painted) }
+        ensures still { OnOk result (IsUntouched self.old.last (seen scene.entry)
+            → root_size self.old.layout ≡ root_size self.new.layout
+            → (work.new.styled ≤ work.old.styled) × (work.new.laid ≤ work.old.laid)) }
+        ensures few { OnOk result (AreFew self.old.last (seen scene.entry) self.old.layout self.new.layout
+            work.old.styled work.new.styled work.old.laid work.new.laid) }
+    {
         let last = self.last.take();
         let following = Following {
             last: lent(&last),
             scene,
         };
-        let touched = touched_since(alloc, following.last, scene)?;
         let told = bring_up(
             alloc,
             &mut self.styles,

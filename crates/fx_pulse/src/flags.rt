@@ -1,5 +1,5 @@
 //! What holds of a node by its ancestors: it shows, and it is disabled.
-ghost use Rattle.std.specs.Prelude.{◌≡◌, ◌&&◌, ◌||◌, true, false, IfOk, length, slice_index_or};
+ghost use Rattle.std.specs.Prelude.{◌≡◌, ◌<◌, ◌&&◌, ◌||◌, ℕ, true, false, IfOk, IsTrue, length, replicate, slice_index_or};
 ghost use Rattle.fx_layout_sweeps.specs.Nodes.{IsTree, look_at, node_at, parents};
 ghost use Rattle.fx_pulse_model.specs.Pictures.{is_disabled, shows};
 ghost use Rattle.fx_pulse.specs.Drawing.{drawn};
@@ -13,6 +13,35 @@ use std::alloc::{AllocError, Global};
 
 /// Whether each node shows.
 pub(crate) fn shown_flags(alloc: Global, laid: Laid<'_>) -> Result<Vec<bool>, AllocError>
+    requires { IsTree (parents laid.boxes.now) }
+    ensures { IfOk result (λ flags. flags.items ≡ told (shows (drawn laid.entry)) (length laid.entry.boxes.now)) }
+{
+    if are_visible(laid.looks) {
+        let flags = all_set(alloc, laid.boxes.len())?;
+        return Ok(flags);
+    }
+    flags_below(alloc, laid)
+}
+
+/// Is each look visible?
+fn are_visible(looks: &[Look]) -> bool
+    ensures { IsTrue result → (k : ℕ) → k < length looks.now → (look_at looks.now k).visibility ≡ true }
+{
+    for place in 0..looks.len() {
+        if !is_visible(looks, place) {
+            return false;
+        }
+    }
+    true
+}
+
+fn all_set(alloc: Global, count: usize) -> Result<Vec<bool>, AllocError>
+    ensures { IfOk result (λ flags. flags.items ≡ replicate count true) }
+{
+    vec![in alloc; true; count]
+}
+
+fn flags_below(alloc: Global, laid: Laid<'_>) -> Result<Vec<bool>, AllocError>
     requires { IsTree (parents laid.boxes.now) }
     ensures { IfOk result (λ flags. flags.items ≡ told (shows (drawn laid.entry)) (length laid.entry.boxes.now)) }
 {

@@ -5,7 +5,7 @@ use Rattle.fx_pulse.specs.Drawing.{drawn}
 use Rattle.fx_pulse_touched.specs.Marks.{told, told_above}
 use Rattle.fx_pulse_touched.proofs.ToldLemmas.{told_more}
 use Rattle.fx_pulse.proofs.FlagLemmas.{shows_next}
-use Rattle.fx_pulse.proofs.flags.shown_flags.Goals as goal
+use Rattle.fx_pulse.proofs.flags.flags_below.Goals as goal
 
 pub loop-place-preserved : goal.loop-place-preserved
 loop-place-preserved c =

@@ -16,6 +16,7 @@ ghost use Rattle.fx_pulse.specs.Drawing.{drawn};
 ghost use Rattle.fx_pulse.specs.Editing.{AreLast, IsEditable, IsOfSize, IsOver, IsShownScene, IsSince, IsWhole, entries_after};
 ghost use Rattle.fx_shapes.specs.Rects.{IsNear};
 
+use crate::copies::copied;
 use crate::edits::{Last, edits_of};
 use crate::entries::{Laid, Notes, picture_of};
 use crate::flags::{disabled_flags, shown_flags};
@@ -162,7 +163,7 @@ fn made_by(
     };
     let edits = can_be_edited(past.frame, width, height, notes.shown);
     let next = next_picture(alloc, laid, notes, last, edits, gone)?;
-    let rects = Vec::from_slice(alloc, kept.rects())?;
+    let rects = copied(alloc, kept.rects())?;
     Ok(Made {
         width,
         height,

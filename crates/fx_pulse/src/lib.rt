@@ -3,6 +3,7 @@
 #![tactic(auto)]
 
 mod checking;
+mod copies;
 mod edits;
 mod entries;
 mod flags;

@@ -1,17 +1,16 @@
 -- The last picture is of nodes that hang and show as those of the scene, where it can be edited.
 use Rattle.std.proofs.Common.{refl, sym, ap, subst, ◌∙◌, ◌≡◌, ℕ, zero, suc, ◌+◌, ◌<◌, Bool, true, false, cond, List, ◌∷◌, filter, get_or, length, Option, Some, None, arith}
-use Rattle.std.specs.Prelude.{IfSome}
+use Rattle.std.specs.Prelude.{IfSome, IsTrue}
 use Rattle.std.specs.List.{range_with_len}
 use Rattle.fx_base.specs.declared.geometry.Rect.{Rect}
-use Rattle.fx_kinds.specs.declared.facts.BoxFacts.{BoxFacts}
 use Rattle.fx_look.specs.declared.looks.Look.{Look}
-use Rattle.fx_layout_sweeps.specs.Nodes.{no_node, parents}
+use Rattle.fx_layout_sweeps.specs.Nodes.{no_node}
 use Rattle.fx_picture.specs.declared.entries.Entry.{Entry}
 use Rattle.fx_pulse_model.specs.Frames.{drawn_in}
 use Rattle.fx_pulse_model.specs.Pictures.{Drawn, shown_places, shows}
-use Rattle.fx_pulse_model.specs.Scenes.{IsScene, Scene, looks_of}
+use Rattle.fx_pulse_model.specs.Scenes.{Scene, looks_of}
+use Rattle.fx_pulse_touched.specs.Touched.{IsOfShape}
 use Rattle.fx_pulse_touched.proofs.ToldLemmas.{long, told_at}
-use Rattle.fx_pulse_kept.specs.Keeping.{boxes_in}
 use Rattle.fx_pulse_kept.specs.Measuring.{AreOthersMarked}
 use Rattle.fx_pulse_kept.proofs.StepLemmas.{same_there}
 use Rattle.fx_pulse.specs.Editing.{AreLast, HangsAs, IsEditable, IsOfSize, IsShownScene, shown_in}
@@ -45,37 +44,35 @@ same_places one other many same =
     ∙ ap (λ n. filter (shows other) (range_with_len 0 n)) many
 
 -- ---- the last picture
--- nodes that hang as those of a scene that has nodes are those of some scene
-pub hangs : (kept : Option Scene) (scene : Scene) → IsScene scene → parents (boxes_in kept) ≡ parents scene.boxes
-    → HangsAs kept scene
-hangs None scene is hung = absurd (omega (arith, is.some, long scene.boxes, ap length hung))
-hangs (Some last) scene is hung = hung
+-- the nodes of a scene of this shape hang as these do
+pub hangs : (kept : Option Scene) (scene : Scene) → IsOfShape kept scene → HangsAs kept scene
+hangs None scene shape = shape
+hangs (Some last) scene shape = shape.parents
 
--- the frame before, if there is one, is of the same nodes, which hung as these do
-abbrev pub IsOfSame : (past before : Option Before) (olds nodes : List BoxFacts) → Type 0
-IsOfSame past before olds nodes = IfSome before (λ (b : Before). (past ≡ Some b) × (parents olds ≡ parents nodes))
+-- the frame before, if there is one, is of a scene of this shape
+abbrev pub IsOfSame : (past before : Option Before) (has_shape : Bool) → Type 0
+IsOfSame past before has_shape = IfSome before (λ (b : Before). (past ≡ Some b) × IsTrue has_shape)
 
-pub hung_since : (past before : Option Before) (kept : Option Scene) (scene : Scene) → IsScene scene
-    → (olds nodes : List BoxFacts) → IsOfSame past before olds nodes → olds ≡ boxes_in kept → nodes ≡ scene.boxes
+pub hung_since : (past before : Option Before) (has_shape : Bool) (kept : Option Scene) (scene : Scene)
+    → IsOfSame past before has_shape → (IsTrue has_shape → IsOfShape kept scene)
     → IfSome before (λ (b : Before). HangsAs kept scene)
-hung_since past None kept scene is olds nodes same was are = tt
-hung_since past (Some b) kept scene is olds nodes same was are =
-    hangs kept scene is (sym (ap parents was) ∙ (same.1 ∙ ap parents are))
+hung_since past None has_shape kept scene same shape = tt
+hung_since past (Some b) has_shape kept scene same shape = hangs kept scene (shape same.1)
 
-pub shown_since : (past before : Option Before) (kept : Option Scene) (entries : List Entry)
-    (olds nodes : List BoxFacts) → IsOfSame past before olds nodes
+pub shown_since : (past before : Option Before) (has_shape : Bool) (kept : Option Scene) (entries : List Entry)
+    → IsOfSame past before has_shape
     → IfSome past (λ (b : Before). (last : Scene) → kept ≡ Some last → IsShownScene last entries b.shown.now)
     → IfSome before (λ (b : Before). (last : Scene) → kept ≡ Some last → IsShownScene last entries b.shown.now)
-shown_since past None kept entries olds nodes same was = tt
-shown_since past (Some b) kept entries olds nodes same was =
+shown_since past None has_shape kept entries same was = tt
+shown_since past (Some b) has_shape kept entries same was =
     subst (λ o. IfSome o (λ (b : Before). (last : Scene) → kept ≡ Some last → IsShownScene last entries b.shown.now))
     same.0 was
 
-pub size_since : (past before : Option Before) (w h : ℕ) (made : Next) (olds nodes : List BoxFacts)
-    → IsOfSame past before olds nodes → IsOfSize before w h made → IsOfSize past w h made
-size_since past before w h (next.Whole picture) olds nodes same size = tt
-size_since past None w h (next.Edited edits) olds nodes same size = absurd size
-size_since past (Some b) w h (next.Edited edits) olds nodes same size =
+pub size_since : (past before : Option Before) (has_shape : Bool) (w h : ℕ) (made : Next)
+    → IsOfSame past before has_shape → IsOfSize before w h made → IsOfSize past w h made
+size_since past before has_shape w h (next.Whole picture) same size = tt
+size_since past None has_shape w h (next.Edited edits) same size = absurd size
+size_since past (Some b) has_shape w h (next.Edited edits) same size =
     subst (λ o. IsOfSize o w h (next.Edited edits)) (sym same.0) size
 
 pub last_is : (before : Option Before) (kept : Option Scene) (scene : Scene) (w h : ℕ) (rects : List Rect)

@@ -11,7 +11,7 @@ ghost use Rattle.fx_pulse_model.specs.Pictures.{IsPicture, is_disabled, shows};
 ghost use Rattle.fx_pulse_model.specs.Scenes.{IsScene, Scene as SceneValue, looks_of};
 ghost use Rattle.fx_pulse_touched.specs.Marks.{told};
 ghost use Rattle.fx_pulse_touched.specs.Sights.{scene_of, seen};
-ghost use Rattle.fx_pulse_touched.specs.Touched.{IsUntouched};
+ghost use Rattle.fx_pulse_touched.specs.Touched.{AreTouched, IsOfShape, IsUntouched};
 ghost use Rattle.fx_pulse.specs.Drawing.{drawn};
 ghost use Rattle.fx_pulse.specs.Editing.{AreLast, IsEditable, IsOfSize, IsOver, IsShownScene, IsSince, IsWhole, entries_after};
 ghost use Rattle.fx_shapes.specs.Rects.{IsNear};
@@ -22,10 +22,9 @@ use crate::entries::{Laid, Notes, picture_of};
 use crate::flags::{disabled_flags, shown_flags};
 use fx_base::{Ledgers, Rect, Work};
 use fx_damage::Edit;
-use fx_kinds::BoxFacts;
 use fx_picture::{Entry, Picture};
 use fx_pulse_kept::{Brought, KeptScene};
-use fx_pulse_touched::{Scene, SceneLists, have_same_heads};
+use fx_pulse_touched::{Compared, Scene, SceneLists};
 use std::alloc::{AllocError, Global};
 
 /// The next picture.
@@ -51,6 +50,13 @@ pub(crate) struct Past<'a> {
     pub picture: &'a Picture,
 }
 
+/// A scene that was compared with the last one.
+#[derive(Drop)]
+pub(crate) struct Following {
+    pub scene: SceneLists,
+    pub compared: Compared,
+}
+
 /// What is made of a scene: the size of its window in pixels, the rectangle of each node, whether each shows, and the
 /// picture.
 #[derive(Drop)]
@@ -68,54 +74,55 @@ pub(crate) struct Made {
 /// disabled where they weren't or the other way round.
 pub(crate) fn made_of<L: Ledgers>(
     alloc: Global,
-    scene: SceneLists,
+    following: Following,
     window: Option<(u32, u32)>,
     kept: &mut KeptScene,
     past: Past<'_>,
     gone: &mut Vec<Entry>,
     work: &mut Work<L>,
 ) -> Result<Made, AllocError>
-    requires scene { IsScene (scene_of scene) }
+    requires scene { IsScene (scene_of following.scene) }
+    requires touched { AreTouched kept.old.last (scene_of following.scene) following.compared.touched.styles.items
+        following.compared.touched.boxes.items }
+    requires shape { IsTrue following.compared.has_shape → IsOfShape kept.old.last (scene_of following.scene) }
     requires before { IfSome past.frame (λ b. (last : SceneValue) → kept.old.last ≡ Some last
         → IsShownScene last past.picture.now.entries b.shown.now) }
-    ensures frame { IfOk result (λ made. IsFrame (scene_of scene) window made.width made.height made.rects.items
-        (entries_after made.next past.entry.picture.now.entries)) }
+    ensures frame { IfOk result (λ made. IsFrame (scene_of following.scene) window made.width made.height
+        made.rects.items (entries_after made.next past.entry.picture.now.entries)) }
     ensures over { IfOk result (λ made. IsOver past.entry.picture.now.entries made.next) }
     ensures same_size { IfOk result (λ made. IsOfSize past.entry.frame made.width made.height made.next) }
-    ensures shown { IfOk result (λ made. IsShownScene (scene_of scene)
+    ensures shown { IfOk result (λ made. IsShownScene (scene_of following.scene)
         (entries_after made.next past.entry.picture.now.entries) made.shown.items) }
     ensures size { IfOk result (λ made. root_size kept.new.layout ≡ (made.width, made.height)) }
-    ensures last { OnOk result (kept.new.last ≡ Some (scene_of scene)) }
-    ensures placed { OnOk result (IsLayout scene.boxes (looks_of (scene_of scene)) window kept.new.layout) }
+    ensures last { OnOk result (kept.new.last ≡ Some (scene_of following.scene)) }
+    ensures placed { OnOk result (IsLayout following.scene.boxes (looks_of (scene_of following.scene)) window
+        kept.new.layout) }
     ensures evaluated { OnOk result (work.new.evaluated ≡ work.old.evaluated) }
     ensures painted { OnOk result (work.new.painted ≡ work.old.painted) }
-    ensures few { OnOk result (AreFew kept.old.last (scene_of scene) kept.old.layout kept.new.layout
+    ensures few { OnOk result (AreFew kept.old.last (scene_of following.scene) kept.old.layout kept.new.layout
         work.old.styled work.new.styled work.old.laid work.new.laid) }
-    ensures still { OnOk result (IsUntouched kept.old.last (scene_of scene)
+    ensures still { OnOk result (IsUntouched kept.old.last (scene_of following.scene)
         → root_size kept.old.layout ≡ root_size kept.new.layout
         → (work.new.styled ≤ work.old.styled) × (work.new.laid ≤ work.old.laid)) }
-    ensures styled { OnOk result (work.new.styled ≤ work.old.styled + length scene.styles) }
-    ensures laid { OnOk result (work.new.laid ≤ work.old.laid + 7 * length scene.boxes) }
+    ensures styled { OnOk result (work.new.styled ≤ work.old.styled + length following.scene.styles) }
+    ensures laid { OnOk result (work.new.laid ≤ work.old.laid + 7 * length following.scene.boxes) }
 {
+    let Following { scene, compared } = following;
     let past = Past {
-        frame: frame_since(past.frame, kept.boxes(), scene.boxes.as_slice()),
+        frame: frame_since(past.frame, compared.has_shape),
         picture: past.picture,
     };
-    let brought = kept.update(alloc, scene.scene(), window, work)?;
+    let brought = kept.update_touched(alloc, scene.scene(), compared.touched, window, work)?;
     let made = made_by(alloc, scene.scene(), brought, kept, past, gone)?;
     kept.keep(scene);
     Ok(made)
 }
 
-/// The frame before, if these nodes are those that it showed and hang as they did.
-fn frame_since<'a>(
-    frame: Option<Before<'a>>,
-    olds: &[BoxFacts],
-    nodes: &[BoxFacts],
-) -> Option<Before<'a>>
-    ensures { IfSome result (λ before. (frame.entry ≡ Some before) × (parents olds.now ≡ parents nodes.now)) }
+/// The frame before, if the nodes of this one are those that it showed and hang as they did.
+fn frame_since(frame: Option<Before<'_>>, has_shape: bool) -> Option<Before<'_>>
+    ensures { IfSome result (λ before. (frame.entry ≡ Some before) × IsTrue has_shape) }
 {
-    if have_same_heads(olds, nodes) {
+    if has_shape {
         return frame;
     }
     None

@@ -12,22 +12,22 @@ ghost use Rattle.fx_layout.specs.Updates.{root_size};
 ghost use Rattle.fx_pulse_kept.specs.Costs.{AreFew};
 ghost use Rattle.fx_pulse_kept.specs.Keeping.{no_layout};
 ghost use Rattle.fx_pulse_model.specs.Frames.{IsFrame, frame_damage, has_size};
-ghost use Rattle.fx_pulse_model.specs.Scenes.{IsScene, looks_of};
-ghost use Rattle.fx_pulse_touched.specs.Sights.{scene_of, seen};
+ghost use Rattle.fx_pulse_model.specs.Scenes.{IsScene, Scene as SceneValue, looks_of};
+ghost use Rattle.fx_pulse_touched.specs.Sights.{scene_of};
 ghost use Rattle.fx_pulse_touched.specs.Touched.{IsUntouched};
 ghost use Rattle.fx_pulse.specs.Editing.{IsOver, IsShownScene, IsWhole, entries_after};
 ghost use Rattle.fx_pulse.specs.Rendering.{IsDrawn, IsDrawnBefore, IsShown, last_frame, surface_of};
 ghost use Rattle.fx_pulse.specs.Showing.{IsShowing};
 ghost use Rattle.fx_row_text.specs.Rows.{row_text};
 
-use crate::frames::{Before, Made, Past, made_of};
+use crate::frames::{Before, Following, Made, Past, made_of};
 use crate::pictures::{damage_by, follow, whole};
 use fx_base::{Ledgers, Rect, Work};
 use fx_canvas::Canvas;
 use fx_damage::damage;
 use fx_picture::{Entry, Picture};
 use fx_pulse_kept::KeptScene;
-use fx_pulse_touched::{Scene, SceneLists};
+use fx_pulse_touched::SceneLists;
 use std::alloc::{AllocError, Global};
 use std::marker::Model;
 
@@ -140,7 +140,8 @@ impl Renderer {
         ensures painted { IfOk result (λ frame. work.new.painted
             ≤ work.old.painted + sum_by (most_writes self.new.picture) frame.damage.items) }
     {
-        if self.is_drawn(scene.scene(), window) {
+        let compared = self.kept.compared(alloc, scene.scene())?;
+        if self.stands_still(compared.is_last, window) {
             self.kept.spare(scene);
             return Ok(self.still_frame(alloc));
         }
@@ -151,7 +152,7 @@ impl Renderer {
         };
         let made = made_of(
             alloc,
-            scene,
+            Following { scene, compared },
             window,
             &mut self.kept,
             past,
@@ -165,14 +166,23 @@ impl Renderer {
         }
     }
 
-    /// Is this the last scene again, in the window in which it was drawn?
-    fn is_drawn(&self, scene: Scene<'_>, window: Option<(u32, u32)>) -> bool
-        ensures last { IsTrue result → self.now.kept.last ≡ Some (seen scene.entry) }
-        ensures drawn { IsTrue result → IsDrawn self.now (seen scene.entry) window }
+    /// Does the frame stay as it is: is this the last scene again, in the window in which it was drawn?
+    fn stands_still(&self, is_last: bool, window: Option<(u32, u32)>) -> bool
+        ensures last { IsTrue result → IsTrue is_last }
+        ensures drawn { IsTrue result → (scene : SceneValue) → self.now.kept.last ≡ Some scene
+            → IsDrawn self.now scene window }
+    {
+        is_last && self.is_drawn_in(window)
+    }
+
+    /// Was the last scene drawn in this window?
+    fn is_drawn_in(&self, window: Option<(u32, u32)>) -> bool
+        ensures { IsTrue result → (scene : SceneValue) → self.now.kept.last ≡ Some scene
+            → IsDrawn self.now scene window }
     {
         match &self.drawn {
             None => false,
-            Some(last) => is_same_window(last.window, window) && self.kept.is_last(scene),
+            Some(last) => is_same_window(last.window, window),
         }
     }
 

@@ -165,8 +165,8 @@ impl KeptScene {
         }
     }
 
-    /// Brings what is kept up to this scene as `update` does, by marks of the nodes that are touched since the last one,
-    /// so that nothing is compared again.
+    /// Brings what is kept up to this scene as `update` does, by marks of the nodes that are touched since the last
+    /// one, so that nothing is compared again.
     pub fn update_touched<L: Ledgers>(
         &mut self,
         alloc: Global,

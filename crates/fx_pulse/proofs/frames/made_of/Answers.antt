@@ -1,9 +1,10 @@
-use Rattle.std.proofs.Common.{ap, subst, sym, ◌∙◌}
+use Rattle.std.proofs.Common.{subst, sym, ◌∙◌}
 use Rattle.fx_layout.specs.Layouts.{IsLayout}
 use Rattle.fx_pulse_kept.specs.Costs.{AreFew}
 use Rattle.fx_pulse_model.specs.Frames.{IsFrame}
-use Rattle.fx_pulse_model.specs.Scenes.{IsScene, Scene, looks_of}
+use Rattle.fx_pulse_model.specs.Scenes.{Scene, looks_of}
 use Rattle.fx_pulse_touched.specs.Sights.{scene_of, seen}
+use Rattle.fx_pulse_touched.specs.Touched.{IsOfShape}
 use Rattle.fx_pulse.specs.Editing.{IsSince, entries_after}
 use Rattle.fx_pulse.proofs.LastLemmas.{hung_since, shown_since, size_since}
 use Rattle.fx_pulse.proofs.WorkLemmas.{laid_most, styled_most}
@@ -18,19 +19,18 @@ made_by-requires-clause-since g c =
     (record {
       last = kept;
       marked = c.in_ok-brought.ensures.marks;
-      hung = hung_since c.args.past.frame c.frame_since.result kept (seen c.scene.result)
-          (subst IsScene (sym c.scene.ensures) c.requires.scene) c.boxes.result.now c.as_slice.result.now
-          c.frame_since.ensures c.boxes.ensures
-          (c.as_slice.ensures ∙ ap (λ (s : Scene). s.boxes) (sym c.scene.ensures));
-      shown = shown_since c.args.past.frame c.frame_since.result kept olds c.boxes.result.now c.as_slice.result.now
+      hung = hung_since c.args.past.frame c.frame_since.result c.args.following.compared.has_shape kept
+          (seen c.scene.result) c.frame_since.ensures
+          (λ has. subst (IsOfShape kept) (sym c.scene.ensures) (c.requires.shape has));
+      shown = shown_since c.args.past.frame c.frame_since.result c.args.following.compared.has_shape kept olds
           c.frame_since.ensures c.requires.before;
     })
 
 pub returns-clause-same_size : goal.returns-clause-same_size
 returns-clause-same_size g c =
     let made = c.in_ok-made.made in
-    size_since c.args.past.frame c.frame_since.result made.width made.height made.next c.boxes.result.now
-    c.as_slice.result.now c.frame_since.ensures c.in_ok-made.ensures.same_size
+    size_since c.args.past.frame c.frame_since.result c.args.following.compared.has_shape made.width made.height
+    made.next c.frame_since.ensures c.in_ok-made.ensures.same_size
 
 pub returns-clause-frame : goal.returns-clause-frame
 returns-clause-frame g c =
@@ -38,21 +38,28 @@ returns-clause-frame g c =
     subst (λ (s : Scene). IsFrame s c.args.window made.width made.height made.rects.items
     (entries_after made.next c.args.past.picture.now.entries)) c.scene-2.ensures
     (c.in_ok-made.ensures.frame c.args.window
-    (subst (λ (s : Scene). IsLayout s.boxes (looks_of s) c.args.window c.update.new.self.layout)
+    (subst (λ (s : Scene). IsLayout s.boxes (looks_of s) c.args.window c.update_touched.new.self.layout)
     (c.scene.ensures ∙ sym c.scene-2.ensures) c.in_ok-brought.ensures.layout))
 
 pub returns-clause-styled : goal.returns-clause-styled
 returns-clause-styled g c =
-    styled_most c.args.kept.now.last (scene_of c.args.scene) c.args.kept.now.layout c.update.new.self.layout
-    c.args.work.now.styled c.update.new.work.styled c.args.work.now.laid c.update.new.work.laid c.requires.scene
-    (subst (λ (s : Scene). AreFew c.args.kept.now.last s c.args.kept.now.layout c.update.new.self.layout
-    c.args.work.now.styled c.update.new.work.styled c.args.work.now.laid c.update.new.work.laid) c.scene.ensures
+    let last = c.args.kept.now.last in
+    let before = c.args.kept.now.layout in
+    let layout = c.update_touched.new.self.layout in
+    let old = c.args.work.now in
+    let new = c.update_touched.new.work in
+    styled_most last (scene_of c.args.following.scene) before layout old.styled new.styled old.laid new.laid
+    c.requires.scene
+    (subst (λ (s : Scene). AreFew last s before layout old.styled new.styled old.laid new.laid) c.scene.ensures
     c.in_ok-brought.ensures.few)
 
 pub returns-clause-laid : goal.returns-clause-laid
 returns-clause-laid g c =
-    laid_most c.args.kept.now.last (scene_of c.args.scene) c.args.kept.now.layout c.update.new.self.layout
-    c.args.work.now.styled c.update.new.work.styled c.args.work.now.laid c.update.new.work.laid
-    (subst (λ (s : Scene). AreFew c.args.kept.now.last s c.args.kept.now.layout c.update.new.self.layout
-    c.args.work.now.styled c.update.new.work.styled c.args.work.now.laid c.update.new.work.laid) c.scene.ensures
+    let last = c.args.kept.now.last in
+    let before = c.args.kept.now.layout in
+    let layout = c.update_touched.new.self.layout in
+    let old = c.args.work.now in
+    let new = c.update_touched.new.work in
+    laid_most last (scene_of c.args.following.scene) before layout old.styled new.styled old.laid new.laid
+    (subst (λ (s : Scene). AreFew last s before layout old.styled new.styled old.laid new.laid) c.scene.ensures
     c.in_ok-brought.ensures.few)

@@ -1,5 +1,5 @@
--- A text has no more characters than bytes, and zeros behind a text are ASCII.
-use Rattle.std.proofs.Common.{◌≡◌, ℕ, zero, suc, ◌≤◌, ◌↔◌, List, ◌++◌, length, drop, replicate, ap, subst, arith}
+-- A text has no more characters than bytes, zeros behind a text are ASCII, and texts are one where their rooms are.
+use Rattle.std.proofs.Common.{◌≡◌, ◌∙◌, ℕ, zero, suc, ◌≤◌, ◌-◌, ◌↔◌, List, ◌++◌, length, take, drop, replicate, ap, sym, subst, arith, length-take-le, take-append-drop}
 use Rattle.std.specs.Str.{chars, IsUtf8, IsAscii}
 use Rattle.std.proofs.lemmas.Str.{length-le-encodes, encodes-chars, IsAscii-take, IsAscii-drop, IsAscii-append}
 use Rattle.std.proofs.lemmas.Str.Ascii.{IsAscii-nil, IsAscii-cons}
@@ -27,3 +27,12 @@ IsAscii-before_zeros bs n room =
       (λ whole. subst IsAscii (take-append_seam bs zeros) (IsAscii-take (bs ++ zeros) (length bs) whole)),
       (λ front. IsAscii-append bs zeros front (IsAscii-drop (replicate room 0) n (IsAscii-zeros room))),
     )
+
+-- two texts with zeros behind them that fill rooms of one size
+pub same_rooms : (room n m : ℕ) (xs ys : List ℕ) → n ≤ length xs → m ≤ length ys
+    → drop n xs ≡ replicate (room - n) 0 → drop m ys ≡ replicate (room - m) 0
+    → take n xs ≡ take m ys → (n ≡ m) × (xs ≡ ys)
+same_rooms room n m xs ys low high behind after same =
+    let long : n ≡ m = sym (length-take-le n xs low) ∙ ap length same ∙ length-take-le m ys high in
+    let zeros : drop n xs ≡ drop m ys = behind ∙ ap (λ k. replicate (room - k) 0) long ∙ sym after in
+    (long, sym (take-append-drop n xs) ∙ ap (λ bs. bs ++ drop n xs) same ∙ ap (λ bs. take m ys ++ bs) zeros ∙ take-append-drop m ys)

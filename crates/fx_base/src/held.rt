@@ -1,6 +1,6 @@
 //! What holds the characters of a text: the value itself where they are few, and memory of its own where they are many.
 //! Between `ShortText` and `Text`.
-ghost use Rattle.std.specs.Prelude.{◌≡◌, ◌↔◌, [], IfOk, IfSome, IsAscii, IsSome, string_bytes};
+ghost use Rattle.std.specs.Prelude.{◌≡◌, ◌↔◌, [], IfOk, IfSome, IsAscii, IsSome, IsTrue, string_bytes};
 ghost use Rattle.fx_base.specs.Held.{held_bytes};
 
 use crate::short_texts::{ROOM, ShortText};
@@ -76,7 +76,19 @@ impl Held {
         }
     }
 
+    /// Is it this text?
+    #[inline]
+    pub(crate) fn equals(&self, other: &Held) -> bool
+        ensures { IsTrue result ↔ (held_bytes self.now ≡ held_bytes other.now) }
+    {
+        match (self, other) {
+            (Held::Short(text), Held::Short(other)) => text.equals(other),
+            _ => self.as_str() == other.as_str(),
+        }
+    }
+
     /// A text of the same characters.
+    #[inline]
     pub(crate) fn copy(&self, alloc: Global) -> Result<Held, AllocError>
         ensures { IfOk result (λ copy. held_bytes copy ≡ held_bytes self.now) }
     {

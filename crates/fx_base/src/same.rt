@@ -21,8 +21,9 @@ impl Same for u32 {
 }
 
 impl Same for Text {
+    #[inline]
     fn is_same(&self, other: &Self) -> bool {
-        self.equals(other.as_str())
+        self.is_text(other)
     }
 }
 
@@ -45,6 +46,7 @@ impl Same for Sides {
 }
 
 impl Same for Value {
+    #[inline]
     fn is_same(&self, other: &Self) -> bool {
         self.equals(other)
     }

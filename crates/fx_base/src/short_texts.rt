@@ -1,6 +1,6 @@
 //! Texts of at most 30 bytes that stand in the value itself, without memory of their own.
 //! Below `Held`, which holds every text of a `Text`.
-ghost use Rattle.std.specs.Prelude.{◌≡◌, ◌≤◌, ◌↔◌, [], IfSome, IsAscii, IsSome, length, take};
+ghost use Rattle.std.specs.Prelude.{◌≡◌, ◌≤◌, ◌-◌, ◌↔◌, [], IfSome, IsAscii, IsSome, IsTrue, drop, length, replicate, take};
 
 use std::marker::Model;
 use std::str;
@@ -8,7 +8,7 @@ use std::str;
 /// The greatest number of bytes of a text that stands in place.
 pub(crate) const ROOM: usize = 30;
 
-/// A text of at most 30 bytes. Contracts see its bytes.
+/// A text of at most 30 bytes, with zeros behind it, so that two are one where all of both is. Contracts see its bytes.
 #[derive(Drop)]
 pub(crate) struct ShortText {
     len: u8,
@@ -16,13 +16,14 @@ pub(crate) struct ShortText {
 }
 
 impl Model for ShortText {
-    ghost use Rattle.std.specs.Prelude.{ℕ, List, ◌≤◌, take, IsUtf8};
+    ghost use Rattle.std.specs.Prelude.{ℕ, List, ◌≡◌, ◌≤◌, ◌-◌, drop, replicate, take, IsUtf8};
 
     ghost Value = { List ℕ };
 
     ghost view = { λ text. take text.len text.bytes };
 
-    ghost invariant = { λ text. (text.len ≤ 30) × ∥ IsUtf8 (take text.len text.bytes) ∥₁ };
+    ghost invariant = { λ text. (text.len ≤ 30) × ∥ IsUtf8 (take text.len text.bytes) ∥₁
+        × (drop text.len text.bytes ≡ replicate (30 - text.len) 0) };
 }
 
 impl ShortText {
@@ -74,6 +75,17 @@ impl ShortText {
         unsafe { str::from_utf8_unchecked(&self.bytes[..usize::from(self.len)]) }
     }
 
+    /// Is it this text? All the room of both is compared, which is of a length that is known.
+    #[inline]
+    pub(crate) fn equals(&self, other: &ShortText) -> bool
+        ensures { IsTrue result ↔ (self.now ≡ other.now) }
+    {
+        if self.len != other.len {
+            return false;
+        }
+        same_room(&self.bytes, &other.bytes)
+    }
+
     /// A text of the same characters.
     #[inline]
     pub(crate) fn copy(&self) -> ShortText
@@ -86,12 +98,20 @@ impl ShortText {
     }
 }
 
+#[inline]
+fn same_room(bytes: &[u8; ROOM], others: &[u8; ROOM]) -> bool
+    ensures { IsTrue result ↔ (bytes.now ≡ others.now) }
+{
+    bytes == others
+}
+
 /// These bytes and zeros behind them, so that one test of the whole room, of a length that is known, tells whether they
 /// are ASCII.
 #[inline]
 fn in_room(text: &[u8]) -> [u8; ROOM]
     requires { length text.now ≤ 30 }
     ensures text { take (length text.now) result ≡ text.now }
+    ensures behind { drop (length text.now) result ≡ replicate (30 - length text.now) 0 }
     ensures ascii { IsAscii result ↔ IsAscii text.now }
 {
     let mut bytes = [0; ROOM];

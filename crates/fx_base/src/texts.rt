@@ -110,7 +110,7 @@ impl Text {
         self.held.as_str()
     }
 
-    /// Is it this text? `==` answers the same of two `Text`s.
+    /// Is it this text?
     #[inline]
     pub fn equals(&self, text: &str) -> bool
         ensures { IsTrue result ↔ (self.now ≡ text.now) }
@@ -118,7 +118,16 @@ impl Text {
         self.as_str() == text
     }
 
+    /// Is it this text? `==` answers the same.
+    #[inline]
+    pub(crate) fn is_text(&self, text: &Text) -> bool
+        ensures { IsTrue result ↔ (self.now ≡ text.now) }
+    {
+        self.held.equals(&text.held)
+    }
+
     /// A text of the same characters.
+    #[inline]
     pub fn copy(&self, alloc: Global) -> Result<Text, AllocError>
         ensures { IfOk result (λ copy. copy ≡ self.now) }
     {
@@ -142,8 +151,9 @@ impl PartialEq for Text {
 
     ghost laws = { partial_equiv_from_equiv nat_list_eq_equiv };
 
+    #[inline]
     fn eq(&self, other: &Self) -> bool {
-        self.as_str() == other.as_str()
+        self.is_text(other)
     }
 }
 

@@ -39,13 +39,14 @@ impl Value {
     }
 
     /// Are the two one value? `==` answers the same.
+    #[inline]
     pub fn equals(&self, other: &Value) -> bool
         ensures { IsTrue result ↔ (self.now ≡ other.now) }
     {
         match (self, other) {
             (Value::Int(a), Value::Int(b)) => a == b,
             (Value::Bool(a), Value::Bool(b)) => a == b,
-            (Value::Text(a), Value::Text(b)) => a.equals(b.as_str()),
+            (Value::Text(a), Value::Text(b)) => a.is_text(b),
             (Value::Choice(a, i), Value::Choice(b, j)) => a == b && i == j,
             (Value::Color(a), Value::Color(b)) => a == b,
             (Value::Sides(a), Value::Sides(b)) => a.equals(*b),
@@ -54,6 +55,7 @@ impl Value {
     }
 
     /// A value of the same contents. A copy takes memory for a text alone.
+    #[inline]
     pub fn copy(&self, alloc: Global) -> Result<Value, AllocError>
         ensures value { IfOk result (λ copy. copy ≡ self.now) }
         ensures firm { is_plain self.now ≡ true → IsOk result }

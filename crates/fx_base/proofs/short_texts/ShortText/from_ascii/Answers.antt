@@ -8,4 +8,4 @@ pub invariant_of-result : goal.invariant_of-result
 invariant_of-result c =
     let room : IsAscii c.in_room-bytes.result = search rules in
     let text : IsAscii c.args.text.now = c.in_room-bytes.ensures.ascii.0 room in
-    (c.requires, ∣ rw c.in_room-bytes.ensures.text (IsUtf8-from_ascii _ text) ∣₁)
+    (c.requires, ∣ rw c.in_room-bytes.ensures.text (IsUtf8-from_ascii _ text) ∣₁, c.in_room-bytes.ensures.behind)

@@ -43,7 +43,8 @@ use Rattle.fx_stage_types.specs.declared.answers.StageError.{StageError}
 use Rattle.fx_stage_model.specs.Answers.{cost_of}
 use Rattle.fx_stage_model.specs.Properties.{by_store, changed}
 use Rattle.fx_stage_model.specs.Taking.{IsTaken, IsUnfinished}
-use Rattle.fx_stage_facts.specs.Publishing.{AreOnce, Size, differing, differs, is_number, is_size, pair_of, pairs_at, pairs_in, pairs_of, published, size_if, size_named, sized, sized_by}
+use Rattle.fx_stage_facts.specs.Publishing.{AreOnce, Size, is_number, is_size, pair_of, pairs_at, pairs_in, pairs_of, published, size_if, size_named, sized, sized_by}
+use Rattle.fx_stage_facts.specs.Staying.{differing, differs}
 use Rattle.fx_stage_facts.proofs.StayingLemmas.{fewer_fit, same_published}
 use Rattle.fx_stage_facts.proofs.ValueLemmas.{named, same_name, some_property}
 

@@ -7,7 +7,6 @@ use Rattle.std.proofs.lemmas.List.Elements.{All-contains, All-filter}
 use Rattle.std.proofs.lemmas.List.Kept.{AllPairs-filter}
 use Rattle.fx_base.specs.declared.keys.Name.{Name}
 use Rattle.fx_base.specs.declared.values.Value.{Value}
-use Rattle.fx_graph_refusals.specs.Known.{known_value}
 use Rattle.fx_graph_model.specs.declared.entries.Definition.{Definition}
 use Rattle.fx_graph_model.specs.declared.entries.Definition.TheVariants.{Base}
 use Rattle.fx_graph_model.specs.declared.entries.Entry.{Entry}
@@ -16,21 +15,23 @@ use Rattle.fx_graph_model.specs.Eager.{eager}
 use Rattle.fx_graph_model.specs.Equality.{same_value}
 use Rattle.fx_graph_model.specs.Refusals.{read_only_in}
 use Rattle.fx_graph_model.specs.Sound.{AreSound}
-use Rattle.fx_graph_model.specs.Unread.{marked, newly_marked}
-use Rattle.fx_graph_model.specs.Uses.{entry_of, nothing, unknown_in}
+use Rattle.fx_graph_model.specs.Unread.{newly_marked}
+use Rattle.fx_graph_model.specs.Uses.{bound_in, entry_of, nothing, unknown_in}
 use Rattle.fx_graph_model.proofs.Changed.{base_definition, known_within}
 use Rattle.fx_graph_model.proofs.Given.{Distinct, distinct_first, distinct_rest, targets}
 use Rattle.fx_graph_model.proofs.Kept.{eager-own}
 use Rattle.fx_graph_model.proofs.Members.{contains_first, contains_later, contains_map}
 use Rattle.fx_graph_model.proofs.Ranks.{entry-set_other}
 use Rattle.fx_graph_model.proofs.Same.{Decides-value}
+use Rattle.fx_store.specs.Own.{has_own}
 use Rattle.fx_store_model.specs.declared.changes.Change.TheVariants.{Publish}
 use Rattle.fx_store_model.specs.Making.{changed_by, made, with_entries}
 use Rattle.fx_store_model.specs.Step.{IsFit, before_reads, changed_notices, cost, due, invalid_notices, marked_by}
 use Rattle.fx_store_model.specs.Stored.{Stored, after_watching}
 use Rattle.fx_stage_model.specs.Answers.{Taken}
 use Rattle.fx_stage_model.specs.World.{World, with_store}
-use Rattle.fx_stage_facts.specs.Publishing.{differing, differs, is_value, published_by, stays}
+use Rattle.fx_stage_facts.specs.Publishing.{published_by}
+use Rattle.fx_stage_facts.specs.Staying.{differing, differs, stays}
 
 abbrev Pair : Type 0
 Pair = Name × Value
@@ -43,16 +44,14 @@ same_given : (entry : Entry) (value : Value) → entry.definition ≡ Base value
 same_given entry value is = ap (λ (d : Definition). record entry { definition = d }) (sym is)
 
 -- a property that stays is known, and has the value
-stays_so : (entries : List Entry) (unread : List Bool) (pair : Pair)
-    → is_value (known_value entries unread pair.0.0) pair.1 ≡ true
+stays_so : (entries : List Entry) (pair : Pair) → has_own entries pair.0.0 pair.1 ≡ true
     → (unknown_in entries pair.0.0 ≡ false) × (same_value (eager entries pair.0.0) pair.1 ≡ true)
-stays_so entries unread pair is =
-    by_test (eager entries pair.0.0) (unknown_in entries pair.0.0) (marked unread pair.0.0) is
+stays_so entries pair is =
+    by_test (eager entries pair.0.0) (unknown_in entries pair.0.0) (bound_in entries pair.0.0) is
   where
-    by_test : (value : Value) (unknown unread : Bool)
-        → is_value (cond (unknown || unread) None (Some value)) pair.1 ≡ true
+    by_test : (value : Value) (unknown bound : Bool) → cond (unknown || bound) false (same_value value pair.1) ≡ true
         → (unknown ≡ false) × (same_value value pair.1 ≡ true)
-    by_test value true unread so = absurd (true≢false (sym so))
+    by_test value true bound so = absurd (true≢false (sym so))
     by_test value false true so = absurd (true≢false (sym so))
     by_test value false false so = (refl, so)
 
@@ -133,7 +132,7 @@ IsPlayers entries pair = unknown_in entries pair.0.0 ≡ false → read_only_in 
 module _ (store : Stored) (sound : AreSound store.entries) where
   there : (pair : Pair) → IsPlayers store.entries pair → differs store pair ≡ false → IsThere store.entries pair
   there pair players same =
-      let so = stays_so store.entries store.unread pair (not-false (stays store pair) same) in
+      let so = stays_so store.entries pair (not-false (stays store pair) same) in
       let free = sound.free pair.0.0 (players so.0) in
       let base = base_definition (entry_of store.entries pair.0.0).definition free so.0 in
       let value : base.0 ≡ pair.1 =
@@ -145,7 +144,7 @@ module _ (store : Stored) (sound : AreSound store.entries) where
       → not (same_value (eager store.entries pair.0.0) pair.1) ≡ false
   unchanged pair same =
       not_from_true (same_value (eager store.entries pair.0.0) pair.1)
-      (stays_so store.entries store.unread pair (not-false (stays store pair) same)).1
+      (stays_so store.entries pair (not-false (stays store pair) same)).1
 
   same_entries : (pairs : List Pair) → IsFit (Publish pairs) store
       → with_values false (differing store pairs) store.entries ≡ with_values false pairs store.entries

@@ -8,6 +8,7 @@ pub mod Reads
 pub mod Scenes
 pub mod Sheets
 pub mod Stands
+pub mod Staying
 pub mod Styles
 pub mod Unread
 pub mod Values

@@ -1,5 +1,5 @@
 -- The sizes of nodes, which a frame publishes.
-use Rattle.std.specs.Prelude.{◌≡◌, ◌≢◌, ◌&&◌, ℕ, ℤ, AllPairs, Bool, true, false, not, List, [], ◌++◌, codes, filter, Option, Some, None, Result, Ok, Err, if◌then◌else◌, option_and_then, option_to_list}
+use Rattle.std.specs.Prelude.{◌≡◌, ◌≢◌, ◌&&◌, ℕ, ℤ, AllPairs, Bool, true, false, List, [], ◌++◌, codes, Option, Some, None, Result, Ok, Err, if◌then◌else◌, option_and_then, option_to_list}
 use Rattle.std.specs.List.{flat_map}
 use Rattle.std.specs.Option.{option_map}
 use Rattle.fx_base.specs.Names.{name_of}
@@ -9,15 +9,13 @@ use Rattle.fx_base.specs.declared.kinds.Kind.{Kind}
 use Rattle.fx_base.specs.declared.kinds.Kind.TheVariants as kind
 use Rattle.fx_base.specs.declared.values.Value.{Value}
 use Rattle.fx_base.specs.declared.values.Value.TheVariants as value
-use Rattle.fx_graph_refusals.specs.Known.{known_kind, known_value}
+use Rattle.fx_graph_refusals.specs.Known.{known_kind}
 use Rattle.fx_graph_model.specs.declared.entries.Entry.{Entry}
-use Rattle.fx_graph_model.specs.Equality.{same_value}
 use Rattle.fx_graph_model.specs.Refusals.{read_only_in}
 use Rattle.fx_store_model.specs.declared.changes.Change.{Change}
 use Rattle.fx_store_model.specs.declared.changes.Change.TheVariants.{Publish}
 use Rattle.fx_store_model.specs.declared.changes.Notices.{Notices}
 use Rattle.fx_store_model.specs.Step.{after, before_reads, cost}
-use Rattle.fx_store_model.specs.Stored.{Stored}
 use Rattle.fx_stage_types.specs.declared.node_data.NodeData.{NodeData}
 use Rattle.fx_stage_types.specs.Tables.{data_of}
 use Rattle.fx_stage_model.specs.Answers.{Taken}
@@ -62,22 +60,6 @@ pairs_at world size = pairs_in world.store.entries size.1 size.2 (data_of world.
 -- the properties `width` and `height` of these nodes with their values
 abbrev pub pairs_of : World → List Size → List (Name × Value)
 pairs_of world sizes = flat_map (pairs_at world) sizes
-
--- a value is there, and it is this one
-abbrev pub is_value : Option Value → Value → Bool
-is_value None value = false
-is_value (Some one) other = same_value one other
-
--- the property is known to have this value already
-abbrev pub stays : Stored → Name × Value → Bool
-stays store pair = is_value (known_value store.entries store.unread pair.0.0) pair.1
-
-abbrev pub differs : Stored → Name × Value → Bool
-differs store pair = not (stays store pair)
-
--- the pairs but for those that stay
-abbrev pub differing : Stored → List (Name × Value) → List (Name × Value)
-differing store pairs = filter (differs store) pairs
 
 -- each node once
 abbrev pub AreOnce : List Size → Type 0

@@ -7,6 +7,7 @@ ghost use Rattle.fx_stage_types.specs.declared.node_data.NodeData.{NodeData as D
 ghost use Rattle.fx_base.specs.declared.keys.NodeKey.{NodeKey as Key};
 ghost use Rattle.fx_stage_facts.specs.Places.{name_of};
 ghost use Rattle.fx_stage_facts.specs.Publishing as spec;
+ghost use Rattle.fx_stage_facts.specs.Staying.{differing};
 
 use crate::places::{Asked, Places};
 use crate::values::name_in;
@@ -51,18 +52,6 @@ fn if_size(store: &Store, name: Name) -> Option<Name>
     Some(name)
 }
 
-/// Is the property known to have this length already?
-#[inline]
-#[tactic(auto, unfolding(fx_graph_model::specs::Equality::same_value))]
-fn stays(store: &Store, name: Name, length: i64) -> bool
-    ensures { result ≡ spec.stays store.now (spec.sized_by length name) }
-{
-    match store.value(name) {
-        Some(Value::Int(number)) => *number == length,
-        _ => false,
-    }
-}
-
 /// Puts the property behind the others, with this length, unless it has it already.
 fn push_if_new(
     pairs: &mut Vec<(Name, Value)>,
@@ -71,12 +60,13 @@ fn push_if_new(
     length: i64,
 ) -> Result<(), AllocError>
     ensures { OnOk result (pairs.new.items
-        ≡ pairs.old.items ++ spec.differing store.now (spec.sized_by length name ∷ [])) }
+        ≡ pairs.old.items ++ differing store.now (spec.sized_by length name ∷ [])) }
 {
-    if stays(store, name, length) {
+    let value = Value::Int(length);
+    if store.has_own_value(name, &value) {
         return Ok(());
     }
-    pairs.push((name, Value::Int(length)))?;
+    pairs.push((name, value))?;
     Ok(())
 }
 
@@ -92,7 +82,7 @@ fn push_pair(
     requires class { places.now ≡ node.now.class }
     requires low { node.now.first ≤ 4000000 }
     ensures { OnOk result (pairs.new.items ≡ pairs.old.items
-        ++ spec.differing store.now (spec.pair_of store.now.entries node.now (name_of asked) length)) }
+        ++ differing store.now (spec.pair_of store.now.entries node.now (name_of asked) length)) }
 {
     match size_named(store, places, node, asked) {
         None => Ok(()),
@@ -112,7 +102,7 @@ fn push_both(
     requires class { places.now ≡ node.now.class }
     requires low { node.now.first ≤ 4000000 }
     ensures { OnOk result (pairs.new.items ≡ pairs.old.items
-        ++ spec.differing store.now (spec.pairs_in store.now.entries width height (Some node.now))) }
+        ++ differing store.now (spec.pairs_in store.now.entries width height (Some node.now))) }
 {
     push_pair(pairs, store, places, node, Asked::Width, width)?;
     push_pair(pairs, store, places, node, Asked::Height, height)
@@ -128,7 +118,7 @@ fn push_size(
 ) -> Result<(), AllocError>
     requires low { (node : Data) → data_of stage.now.graph.table size.now.0 ≡ Some node → node.first ≤ 4000000 }
     ensures { OnOk result (pairs.new.items
-        ≡ pairs.old.items ++ spec.differing stage.now.store (spec.pairs_at stage.now size.now)) }
+        ≡ pairs.old.items ++ differing stage.now.store (spec.pairs_at stage.now size.now)) }
 {
     let (key, width, height) = *size;
     match stage.graph().node(key) {
@@ -148,7 +138,7 @@ fn pairs_of(
 ) -> Result<Vec<(Name, Value)>, AllocError>
     requires low { (key : Key) (node : Data) → data_of stage.now.graph.table key ≡ Some node → node.first ≤ 4000000 }
     ensures { IfOk result (λ pairs. pairs.items
-        ≡ spec.differing stage.now.store (spec.pairs_of stage.now sizes.now)) }
+        ≡ differing stage.now.store (spec.pairs_of stage.now sizes.now)) }
 {
     let mut places = Places::new(alloc)?;
     let mut pairs = Vec::with_capacity(alloc, sizes.len().saturating_mul(2))?;

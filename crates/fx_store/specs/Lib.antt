@@ -2,5 +2,6 @@ pub mod Groups
 pub mod Hearing
 pub mod Kept
 pub mod Looking
+pub mod Own
 pub mod UnderWay
 pub mod Watching

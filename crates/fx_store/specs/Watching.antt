@@ -55,7 +55,8 @@ notice_to before now to =
     else (to.0, to.1, eager before to.0.0, eager now to.0.0) ∷ []
 
 -- the names to be read begin with those of the listeners, and these are the values of the listeners' properties
-pub record IsWatch (entries : List Entry) (heard : List (Name × ℕ)) (names : List Name) (before : List Value) : Type 0 where
+pub record IsWatch (entries : List Entry) (heard : List (Name × ℕ)) (names : List Name) (before : List Value)
+    : Type 0 where
   pub more : List ℕ
   pub led : numbers names ≡ names_of heard ++ more
   pub values : before ≡ values_of entries heard

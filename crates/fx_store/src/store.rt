@@ -15,6 +15,7 @@ ghost use Rattle.fx_graph_model.specs.Unread.{IsClosed, IsPartRead, after_readin
 ghost use Rattle.fx_graph_model.specs.Sound.{AreSound, IsAcyclic};
 ghost use Rattle.fx_graph_model.specs.Uses.{bound_in};
 ghost use Rattle.fx_graph.specs.Reading.{ArePartRead};
+ghost use Rattle.fx_store.specs.Own.{has_own};
 ghost use Rattle.fx_store_model.specs.Applied.{Applied};
 ghost use Rattle.fx_store_model.specs.Making.{with_owners, after_declared};
 ghost use Rattle.fx_base.specs.Answers.{IsAnswer};
@@ -219,6 +220,19 @@ impl Store {
         ensures { option_copied result ≡ known_value self.now.entries self.now.unread name.0 }
     {
         self.graph.value(name)
+    }
+
+    /// Whether the property is known, isn't bound and has this value. It stays as unread as it is.
+    pub fn has_own_value(&self, name: Name, value: &Value) -> bool
+        ensures { result ≡ has_own self.now.entries name.0 value.now }
+    {
+        if self.graph.is_unknown(name) {
+            return false;
+        }
+        if self.graph.is_bound(name) {
+            return false;
+        }
+        self.graph.has_value(name, value)
     }
 
     /// Whether the property is bound.

@@ -1,5 +1,6 @@
 use Rattle.std.proofs.Common.{◌≡◌, take}
-use Rattle.fx_stage_facts.specs.Publishing.{differing, pairs_of}
+use Rattle.fx_stage_facts.specs.Publishing.{pairs_of}
+use Rattle.fx_stage_facts.specs.Staying.{differing}
 use Rattle.fx_stage_facts.proofs.publishing.pairs_of.Given as goal
 
 -- the sizes so far, but for those that stay

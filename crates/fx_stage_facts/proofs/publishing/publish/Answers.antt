@@ -10,7 +10,8 @@ use Rattle.fx_stage_model.specs.Properties.{changed}
 use Rattle.fx_stage_model.specs.Sound.{IsSound}
 use Rattle.fx_stage_model.specs.Taking.{IsTaken}
 use Rattle.fx_stage_model.specs.World.{World}
-use Rattle.fx_stage_facts.specs.Publishing.{AreOnce, Size, differing, pairs_of}
+use Rattle.fx_stage_facts.specs.Publishing.{AreOnce, Size, pairs_of}
+use Rattle.fx_stage_facts.specs.Staying.{differing}
 use Rattle.fx_stage_facts.proofs.PublishLemmas.{differing_fits, published_err, published_ok, same_changed, sized_few}
 use Rattle.fx_stage_facts.proofs.publishing.publish.Goals as goal
 

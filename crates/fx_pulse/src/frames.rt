@@ -112,7 +112,7 @@ pub(crate) fn made_of<L: Ledgers>(
         frame: frame_since(past.frame, compared.has_shape),
         picture: past.picture,
     };
-    let brought = kept.update_touched(alloc, scene.scene(), compared.touched, window, work)?;
+    let brought = kept.update(alloc, scene.scene(), compared.touched, window, work)?;
     let made = made_by(alloc, scene.scene(), brought, kept, past, gone)?;
     kept.keep(scene);
     Ok(made)

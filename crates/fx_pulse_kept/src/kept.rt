@@ -21,8 +21,7 @@ use fx_kinds::{BoxFacts, StyleFacts};
 use fx_layout::Layouts;
 use fx_look::Look;
 use fx_pulse_touched::{
-    Compared, Scene, SceneLists, Touched, compared_since, is_same_scene, marked_below,
-    marked_places, touched_since,
+    Compared, Scene, SceneLists, Touched, compared_since, marked_below, marked_places,
 };
 use fx_select::RuleIndex;
 use fx_style::{Scene as Styled, Styles};
@@ -79,16 +78,6 @@ impl KeptScene {
         let _styles = &self.styles;
     }
 
-    /// Is this the last scene again? Compares all that both tell, up to what differs.
-    pub fn is_last(&self, scene: Scene<'_>) -> bool
-        ensures { IsTrue result ↔ (self.now.last ≡ Some (seen scene.entry)) }
-    {
-        match lent(&self.last) {
-            None => false,
-            Some(last) => is_same_scene(last, scene),
-        }
-    }
-
     /// Compares a scene with the last one, all facts place by place, and the sheets.
     pub fn compared(&self, alloc: Global, scene: Scene<'_>) -> Result<Compared, AllocError>
         requires { IsScene (seen scene) }
@@ -126,48 +115,11 @@ impl KeptScene {
         }
     }
 
-    /// Brings what is kept up to this scene in a window, and forgets the last scene: it is this one, once it is handed
-    /// to `keep`. The facts are compared with those of the last scene, place by place, and so are the sheets. Styled
-    /// anew are the nodes of which the facts for style are others, and all below them; measured anew are those that are
-    /// laid out by other facts or another look, and all above them. All nodes are where there was no last scene, where
-    /// other nodes stood or hung elsewhere, or where the sheets are others. After want of memory the next scene is made
-    /// afresh.
+    /// Brings what is kept up to this scene in a window, by marks of the nodes that are touched since the last one, and
+    /// forgets the last scene: it is this one, once it is handed to `keep`. Styled anew are the nodes of which the
+    /// facts for style are others, and all below them; measured anew are those that are laid out by other facts or
+    /// another look, and all above them. After want of memory the next scene is made afresh.
     pub fn update<L: Ledgers>(
-        &mut self,
-        alloc: Global,
-        scene: Scene<'_>,
-        window: Option<(u32, u32)>,
-        work: &mut Work<L>,
-    ) -> Result<Brought, AllocError>
-        requires { IsScene (seen scene) }
-        ensures looks { OnOk result (self.new.styles.looks ≡ looks_of (seen scene.entry)) }
-        ensures layout { OnOk result
-            (IsLayout scene.entry.boxes.now (looks_of (seen scene.entry)) window self.new.layout) }
-        ensures size { IfOk result (λ told. told.size ≡ root_size self.new.layout) }
-        ensures marks { IfOk result (λ told. AreOthersMarked self.old.last (seen scene.entry) told.marks.items) }
-        ensures kept { OnOk result (AreOf (seen scene.entry) self.new.styles self.new.layout) }
-        ensures last { self.new.last ≡ None }
-        ensures evaluated { OnOk result (work.new.evaluated ≡ work.old.evaluated) }
-        ensures painted { OnOk result (work.new.painted ≡ work.old.painted) }
-        ensures still { OnOk result (IsUntouched self.old.last (seen scene.entry)
-            → root_size self.old.layout ≡ root_size self.new.layout
-            → (work.new.styled ≤ work.old.styled) × (work.new.laid ≤ work.old.laid)) }
-        ensures few { OnOk result (AreFew self.old.last (seen scene.entry) self.old.layout self.new.layout
-            work.old.styled work.new.styled work.old.laid work.new.laid) }
-    {
-        let touched = touched_since(alloc, lent(&self.last), scene);
-        match touched {
-            Ok(touched) => self.update_touched(alloc, scene, touched, window, work),
-            Err(error) => {
-                self.last = None;
-                Err(error)
-            }
-        }
-    }
-
-    /// Brings what is kept up to this scene as `update` does, by marks of the nodes that are touched since the last
-    /// one, so that nothing is compared again.
-    pub fn update_touched<L: Ledgers>(
         &mut self,
         alloc: Global,
         scene: Scene<'_>,

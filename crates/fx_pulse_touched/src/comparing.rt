@@ -32,23 +32,8 @@ pub struct Compared {
     pub is_last: bool,
 }
 
-/// Which nodes are touched since the last scene: all where there was none, where other nodes stood or hung elsewhere,
-/// or where the sheets are others. Compares all facts, place by place, and the sheets.
-pub fn touched_since(
-    alloc: Global,
-    last: Option<Scene<'_>>,
-    scene: Scene<'_>,
-) -> Result<Touched, AllocError>
-    requires scene { IsScene (seen scene) }
-    requires last { IfSome last (λ old. IsScene (seen old)) }
-    ensures { IfOk result (λ touched. AreTouched (option_map seen last.entry) (seen scene.entry) touched.styles.items
-        touched.boxes.items) }
-{
-    let compared = compared_since(alloc, last, scene)?;
-    Ok(compared.touched)
-}
-
-/// Compares a scene with the last one, all facts place by place, and the sheets.
+/// Compares a scene with the last one, all facts place by place, and the sheets. Touched are all nodes where there was
+/// no last scene, where other nodes stood or hung elsewhere, or where the sheets are others.
 pub fn compared_since(
     alloc: Global,
     last: Option<Scene<'_>>,
@@ -135,16 +120,6 @@ fn is_none_marked(touched: &Touched) -> bool
     ensures boxes { IsTrue result → list_any (λ mark. mark) touched.now.boxes.items ≡ false }
 {
     !is_any(touched.styles.as_slice()) && !is_any(touched.boxes.as_slice())
-}
-
-/// Does the last scene tell the same as this one? Compares place by place, up to the first that differs.
-pub fn is_same_scene(last: Scene<'_>, scene: Scene<'_>) -> bool
-    ensures { IsTrue result ↔ (seen last.entry ≡ seen scene.entry) }
-{
-    are_same_flags(last.disabled, scene.disabled)
-        && are_same(last.boxes, scene.boxes)
-        && are_same(last.styles, scene.styles)
-        && are_same(last.sheets, scene.sheets)
 }
 
 fn are_same_flags(flags: &[bool], others: &[bool]) -> bool

@@ -7,8 +7,6 @@ mod facts;
 mod marks;
 mod scenes;
 
-pub use comparing::{
-    Compared, Touched, compared_since, have_same_heads, is_same_scene, touched_since,
-};
+pub use comparing::{Compared, Touched, compared_since, have_same_heads};
 pub use marks::{is_any, mark_again, marked_above, marked_below, marked_places};
 pub use scenes::{Scene, SceneLists};

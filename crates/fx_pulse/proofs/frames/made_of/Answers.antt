@@ -38,16 +38,16 @@ returns-clause-frame g c =
     subst (λ (s : Scene). IsFrame s c.args.window made.width made.height made.rects.items
     (entries_after made.next c.args.past.picture.now.entries)) c.scene-2.ensures
     (c.in_ok-made.ensures.frame c.args.window
-    (subst (λ (s : Scene). IsLayout s.boxes (looks_of s) c.args.window c.update_touched.new.self.layout)
+    (subst (λ (s : Scene). IsLayout s.boxes (looks_of s) c.args.window c.update.new.self.layout)
     (c.scene.ensures ∙ sym c.scene-2.ensures) c.in_ok-brought.ensures.layout))
 
 pub returns-clause-styled : goal.returns-clause-styled
 returns-clause-styled g c =
     let last = c.args.kept.now.last in
     let before = c.args.kept.now.layout in
-    let layout = c.update_touched.new.self.layout in
+    let layout = c.update.new.self.layout in
     let old = c.args.work.now in
-    let new = c.update_touched.new.work in
+    let new = c.update.new.work in
     styled_most last (scene_of c.args.following.scene) before layout old.styled new.styled old.laid new.laid
     c.requires.scene
     (subst (λ (s : Scene). AreFew last s before layout old.styled new.styled old.laid new.laid) c.scene.ensures
@@ -57,9 +57,9 @@ pub returns-clause-laid : goal.returns-clause-laid
 returns-clause-laid g c =
     let last = c.args.kept.now.last in
     let before = c.args.kept.now.layout in
-    let layout = c.update_touched.new.self.layout in
+    let layout = c.update.new.self.layout in
     let old = c.args.work.now in
-    let new = c.update_touched.new.work in
+    let new = c.update.new.work in
     laid_most last (scene_of c.args.following.scene) before layout old.styled new.styled old.laid new.laid
     (subst (λ (s : Scene). AreFew last s before layout old.styled new.styled old.laid new.laid) c.scene.ensures
     c.in_ok-brought.ensures.few)

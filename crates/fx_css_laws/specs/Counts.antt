@@ -1,5 +1,5 @@
--- Where the parts of a list are first past a limit: as many as may be stand before it, or a part of its own is past one.
--- Cited by src/limits.rt.
+-- Where the parts of a list are first past a limit: as many as may be stand before it, or a part of its own is past
+-- one. Cited by src/limits.rt.
 use Rattle.std.specs.Prelude.{◌≡◌, ◌<◌, ◌⊎◌, ℕ, All, List, [], ◌∷◌, ◌++◌, length, None, Some}
 use Rattle.fx_css.specs.declared.declarations.Kept.{Kept}
 use Rattle.fx_css.specs.Rules.{Reading}

@@ -1,5 +1,5 @@
-//! A sheet, a style, and the sheet of the user agent. Sheets and styles as the reference player reads them are stored cases
-//! of reader_cases.
+//! A sheet, a style, and the sheet of the user agent. Sheets and styles as the reference player reads them are stored
+//! cases of reader_cases.
 use fx_css::{agent_sheet, read_inline, read_sheet};
 use fx_css_types::Sheet;
 use std::test::Fail;

@@ -1,4 +1,5 @@
-//! Names that are marked, and the end of each change: marks spread to all that reads what changed, and the names that became unread are listed.
+//! Names that are marked, and the end of each change: marks spread to all that reads what changed, and the names that
+//! became unread are listed.
 ghost use Rattle.std.specs.Prelude.{ℕ, List, Bool, ◌≡◌, ◌≤◌, ◌<◌, Contains, length, take};
 ghost use Rattle.fx_base.specs.Names.{numbers};
 ghost use Rattle.fx_graph_model.specs.Uses.{Ranked};

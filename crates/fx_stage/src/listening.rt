@@ -91,7 +91,8 @@ impl Stage {
             (spec.listen kind.now path.now (option_copied action.entry) (option_copied label.entry) self.old)
             self.old self.new result }
         ensures few { work.new.evaluated ≤ work.old.evaluated
-            + cost_of (spec.listen kind.now path.now (option_copied action.entry) (option_copied label.entry) self.old) }
+            + cost_of (spec.listen kind.now path.now (option_copied action.entry) (option_copied label.entry)
+            self.old) }
         ensures others { work.new ≡ record work.old { evaluated = work.new.evaluated } }
     {
         let (name, owner) = match self.find_both(path, label) {
@@ -128,7 +129,8 @@ impl Stage {
             (spec.unlisten kind.now path.now (option_copied action.entry) (option_copied label.entry) self.old)
             self.old self.new result }
         ensures few { work.new.evaluated ≤ work.old.evaluated
-            + cost_of (spec.unlisten kind.now path.now (option_copied action.entry) (option_copied label.entry) self.old) }
+            + cost_of (spec.unlisten kind.now path.now (option_copied action.entry) (option_copied label.entry)
+            self.old) }
         ensures others { work.new ≡ record work.old { evaluated = work.new.evaluated } }
     {
         let (name, owner) = match self.find_both(path, label) {

@@ -34,7 +34,8 @@ IsPut true world key before now old new = IsNext world key before now old new ×
 IsPut false world key before now old new = (now ≡ before) × (new ≡ old)
 
 -- these are the facts of the nodes up to this place, of which nothing is unread that a frame reads
-pub record ReachTo (world : World) (keys : List NodeKey) (place : ℕ) (standing : Standing) (draft : Draft) : Type 0 where
+pub record ReachTo (world : World) (keys : List NodeKey) (place : ℕ) (standing : Standing) (draft : Draft)
+    : Type 0 where
   pub within : place ≤ length keys
   pub left : stands_from world standing.stands.items (drop place keys) ≡ stands_from world [] keys
   pub whole : keys_of standing.stands.items ++ drop place keys ≡ keys

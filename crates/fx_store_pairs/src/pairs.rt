@@ -97,8 +97,8 @@ impl Pairs {
         }
     }
 
-    /// Ends all pairs of these names. Where none of them was ever paired, no pair is looked at. Otherwise each looks for
-    /// its two, by halves where the names rise.
+    /// Ends all pairs of these names. Where none of them was ever paired, no pair is looked at. Otherwise each looks
+    /// for its two, by halves where the names rise.
     pub fn forget(&mut self, names: &[Name])
         ensures { self.new ≡ filter (λ (pair : ℕ × ℕ). not (is_touched (numbers names.now) pair)) self.old }
     {

@@ -97,7 +97,8 @@ impl Rows {
 
     /// Takes back the last pair, which is of these two.
     pub fn remove_last_pair(&mut self, one: Name, other: Name)
-        ensures { (number : ℕ) (others : List ℕ) → row self.old number ≡ others ++ partners number ((one.0, other.0) ∷ [])
+        ensures { (number : ℕ) (others : List ℕ)
+            → row self.old number ≡ others ++ partners number ((one.0, other.0) ∷ [])
             → row self.new number ≡ others }
     {
         self.pop(one);

@@ -30,8 +30,8 @@ pub record DiffersInLengths (old node : StyleFacts) : Type 0 where
   pub alike : node ≡ record old { codes = node.codes }
   pub codes : AreRecoded old.codes node.codes
 
--- a node that hangs on the parent of another one, and is it up to its key, an id for which no selector asks, and lengths
--- that bindings give
+-- a node that hangs on the parent of another one, and is it up to its key, an id for which no selector asks, and
+-- lengths that bindings give
 pub record IsLike (listing : Listing) (old node : StyleFacts) : Type 0 where
   pub parent : old.parent ≡ node.parent
   pub alike : AreAlike old node

@@ -9,7 +9,8 @@ use Rattle.fx_style.specs.Kept.{fresh_at}
 use Rattle.fx_style.specs.Lasts.{IsLike, rewritten}
 
 -- an entry was made of the node of a place, and that of another place is like it
-pub record IsMadeLike (listing : Listing) (facts : List StyleFacts) (fresh : List Fresh) (place at : ℕ) (made : Entry) : Type 0 where
+pub record IsMadeLike (listing : Listing) (facts : List StyleFacts) (fresh : List Fresh) (place at : ℕ)
+    (made : Entry) : Type 0 where
   pub old : StyleFacts
   pub was : slice_get facts place ≡ Some old
   pub node : StyleFacts

@@ -51,7 +51,8 @@ fn sibling_entry<'a>(
     requires long { length plan.steps.now ≡ length facts.now }
     requires there { turn.at < length facts.now }
     requires before_it { ForSome turn.before (λ p. p < turn.at) }
-    ensures { ForSome (option_copied result) (IsOfSibling index.now facts.now plan.entry.fresh.now turn.before turn.at) }
+    ensures { ForSome (option_copied result)
+        (IsOfSibling index.now facts.now plan.entry.fresh.now turn.before turn.at) }
 {
     match turn.before {
         Some(place) => like_entry(index, facts, plan, place, turn.at),

@@ -5,10 +5,10 @@
 //! A line is a word, a `|`, and a text with the escapes of escapes.rt, in which the answer is printed too.
 //!
 //! `selectors` and `declaration` say whether the text spells such a part, and what in it is past a limit; `written` and
-//! `value` write the part, `sheet` and `style` count the parts (sheets.rt), and `agent` says whether the text is the sheet
-//! of the user agent. `marks` and `places` say what a text says, and where it stands (marks.rt); `bare` whether it says
-//! itself. `expression` gives the kind and the value where `a` begins a path of 7, `n` one of -3, `b` a true one and `p`
-//! a false one. `document` gives an outline, and `prefixes` those of all that a text begins with.
+//! `value` write the part, `sheet` and `style` count the parts (sheets.rt), and `agent` says whether the text is the
+//! sheet of the user agent. `marks` and `places` say what a text says, and where it stands (marks.rt); `bare` whether
+//! it says itself. `expression` gives the kind and the value where `a` begins a path of 7, `n` one of -3, `b` a true
+//! one and `p` a false one. `document` gives an outline, and `prefixes` those of all that a text begins with.
 #![tactic(auto)]
 
 mod documents;

@@ -6,8 +6,8 @@ use fx_kinds::{Class, StyleFacts};
 use fx_look::{CodeValue, StyleKey, StyleName};
 use std::alloc::Global;
 
-/// The facts of so many nodes, each of four classes that rules name. Every second one is of a further class, if they are
-/// to be unlike, so that none is like the one before it. The VBox lists the sheet.
+/// The facts of so many nodes, each of four classes that rules name. Every second one is of a further class, if they
+/// are to be unlike, so that none is like the one before it. The VBox lists the sheet.
 pub fn buttons(alloc: Global, count: u32, unlike: bool) -> anyhow::Result<Vec<StyleFacts>> {
     let all = ["a", "b", "c", "d", "even"];
     let mut facts = Vec::new(alloc);

@@ -1,5 +1,5 @@
 //! Nodes that differ in their ids alone: where no selector asks for these, the same rules match.
-ghost use Rattle.std.specs.Prelude.{◌≡◌, IsTrue, List};
+ghost use Rattle.std.specs.Prelude.{◌≡◌, ◌↔◌, IsTrue, List};
 ghost use Rattle.fx_css_types.specs.declared.sheets.SheetAt.{SheetAt as SheetValue};
 ghost use Rattle.fx_kinds.specs.declared.facts.StyleFacts.{StyleFacts as StyleFactsValue};
 ghost use Rattle.fx_select.specs.Alike.{AreAlike, IsUnasked, MatchAlike};
@@ -18,14 +18,14 @@ pub fn ids_that_nobody_asks_for()
 
 /// Do selectors and sheets see the same of both nodes, their ids aside?
 pub fn are_alike(one: &StyleFacts, other: &StyleFacts) -> bool
-    ensures { IsTrue result → AreAlike one.now other.now }
+    ensures { IsTrue result ↔ AreAlike one.now other.now }
 {
     has_same_names(one, other) && has_same_sheets(one, other)
 }
 
 fn has_same_names(one: &StyleFacts, other: &StyleFacts) -> bool
-    ensures { IsTrue result → (one.now.class ≡ other.now.class) × (one.now.classes ≡ other.now.classes)
-        × (one.now.pseudos ≡ other.now.pseudos) }
+    ensures { IsTrue result ↔ ((one.now.class ≡ other.now.class) × (one.now.classes ≡ other.now.classes)
+        × (one.now.pseudos ≡ other.now.pseudos)) }
 {
     one.class == other.class
         && one.classes.is_same(&other.classes)
@@ -33,7 +33,7 @@ fn has_same_names(one: &StyleFacts, other: &StyleFacts) -> bool
 }
 
 fn has_same_sheets(one: &StyleFacts, other: &StyleFacts) -> bool
-    ensures { IsTrue result → (one.now.inline ≡ other.now.inline) × (one.now.sheets ≡ other.now.sheets) }
+    ensures { IsTrue result ↔ ((one.now.inline ≡ other.now.inline) × (one.now.sheets ≡ other.now.sheets)) }
 {
     one.inline == other.inline && one.sheets.as_slice() == other.sheets.as_slice()
 }

@@ -1,5 +1,5 @@
 //! A look and paints written in the place of others, which mostly hold the same lists already.
-ghost use Rattle.std.specs.Prelude.{◌≡◌, ◌∷◌, [], IsTrue, OnOk};
+ghost use Rattle.std.specs.Prelude.{◌≡◌, ◌≤◌, ◌↔◌, ◌∷◌, [], IsTrue, OnOk, length};
 
 use fx_base::{List, Same};
 use fx_look::Look;
@@ -70,7 +70,8 @@ pub fn write_paints(
 
 /// Are the paints the same, and at most one, as most nodes have?
 fn are_same_few(paints: &[NamedPaint], others: &[NamedPaint]) -> bool
-    ensures { IsTrue result → paints.now ≡ others.now }
+    ensures same { IsTrue result → paints.now ≡ others.now }
+    ensures only { length paints.now ≤ 1 → paints.now ≡ others.now → IsTrue result }
 {
     match paints {
         [] => others.is_empty(),
@@ -80,7 +81,7 @@ fn are_same_few(paints: &[NamedPaint], others: &[NamedPaint]) -> bool
 }
 
 fn is_only(paint: &NamedPaint, others: &[NamedPaint]) -> bool
-    ensures { IsTrue result → paint.now ∷ [] ≡ others.now }
+    ensures { IsTrue result ↔ (paint.now ∷ [] ≡ others.now) }
 {
     match others {
         [other] => is_same_paint(paint, other),
@@ -89,7 +90,7 @@ fn is_only(paint: &NamedPaint, others: &[NamedPaint]) -> bool
 }
 
 fn is_same_paint(one: &NamedPaint, other: &NamedPaint) -> bool
-    ensures { IsTrue result → one.now ≡ other.now }
+    ensures { IsTrue result ↔ (one.now ≡ other.now) }
 {
     one.name.is_same(&other.name) && one.paint.is_same(&other.paint)
 }

@@ -1,5 +1,5 @@
 //! What a row of a look is by the value that wins it, by the kind of the row.
-ghost use Rattle.std.specs.Prelude.{◌≡◌, ◌∷◌, [], ℕ, ℤ, Bool, Some, IsTrue, OnOk};
+ghost use Rattle.std.specs.Prelude.{◌≡◌, ◌↔◌, ◌∷◌, [], ℕ, ℤ, Bool, Some, IsTrue, OnOk};
 ghost use Rattle.fx_base.specs.declared.geometry.Sides.{Sides as Insets};
 ghost use Rattle.fx_css_types.specs.declared.declarations.FoundValue.TheVariants as found;
 ghost use Rattle.std.specs.Option.{option_map};
@@ -128,7 +128,7 @@ fn fill_one(alloc: Global, layers: &mut List<Sides>, one: Sides) -> Result<(), A
 }
 
 fn is_one(layers: &[Sides], one: Sides) -> bool
-    ensures { IsTrue result → layers.now ≡ one ∷ [] }
+    ensures { IsTrue result ↔ (layers.now ≡ one ∷ []) }
 {
     match layers {
         [only] => only.is_same(&one),

@@ -1,5 +1,5 @@
 //! A style after lengths that bindings give have changed, and nothing else: they are written into its look.
-ghost use Rattle.std.specs.Prelude.{◌≡◌, ◌==◌, IsTrue, Some, find};
+ghost use Rattle.std.specs.Prelude.{◌≡◌, ◌==◌, ◌↔◌, IsTrue, Some, find};
 ghost use Rattle.std.specs.Option.{option_copied};
 ghost use Rattle.fx_node_style.specs.Recoding.{AreRecoded, IsBoundLength, IsRecoded, bound_length, bound_or, is_length_row, with_bound};
 
@@ -8,7 +8,7 @@ use fx_look::{CodeValue, Look, StyleKey, StyleName};
 
 /// Are the code values those of before, up to the numbers that bindings give to lengths?
 pub fn are_recoded(olds: &[CodeValue], news: &[CodeValue]) -> bool
-    ensures { IsTrue result → AreRecoded olds.now news.now }
+    ensures { IsTrue result ↔ AreRecoded olds.now news.now }
 {
     if olds.len() != news.len() {
         return false;
@@ -22,7 +22,7 @@ pub fn are_recoded(olds: &[CodeValue], news: &[CodeValue]) -> bool
 }
 
 fn is_recoded(old: &CodeValue, new: &CodeValue) -> bool
-    ensures { IsTrue result → IsRecoded old.now new.now }
+    ensures { IsTrue result ↔ IsRecoded old.now new.now }
 {
     new.style == old.style
         && new.bound == old.bound
@@ -30,7 +30,7 @@ fn is_recoded(old: &CodeValue, new: &CodeValue) -> bool
 }
 
 fn is_bound_length(code: &CodeValue) -> bool
-    ensures { IsTrue result → IsBoundLength code.now }
+    ensures { IsTrue result ↔ IsBoundLength code.now }
 {
     match code.value {
         Value::Int(_) => code.bound && is_length(code.style),
@@ -67,7 +67,7 @@ pub fn write_bound(look: &mut Look, codes: &[CodeValue])
 /// Has a look the lengths that bindings give?
 #[tactic(auto, unfolding(fx_look::specs::Styles::styles, crate::specs::Recoding::with_bound))]
 pub fn has_bound(look: &Look, codes: &[CodeValue]) -> bool
-    ensures { IsTrue result → with_bound codes.now look.now ≡ look.now }
+    ensures { IsTrue result ↔ (with_bound codes.now look.now ≡ look.now) }
 {
     is_bound(codes, StyleKey::MinWidth as usize, look.min_width)
         && is_bound(codes, StyleKey::MinHeight as usize, look.min_height)
@@ -79,7 +79,7 @@ pub fn has_bound(look: &Look, codes: &[CodeValue]) -> bool
 
 /// Is this the length that a binding gives, if one gives the length of the row?
 fn is_bound(codes: &[CodeValue], row: usize, kept: i64) -> bool
-    ensures { IsTrue result → bound_length codes.now row kept ≡ kept }
+    ensures { IsTrue result ↔ (bound_length codes.now row kept ≡ kept) }
 {
     bound_length(codes, row, kept) == kept
 }

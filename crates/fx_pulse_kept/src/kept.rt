@@ -87,6 +87,10 @@ impl KeptScene {
             → IsOfShape self.now.last (seen scene.entry)) }
         ensures last { IfOk result (λ compared. IsTrue compared.is_last
             → self.now.last ≡ Some (seen scene.entry)) }
+        ensures only_shape { IfOk result (λ compared. IsOfShape self.now.last (seen scene.entry)
+            → IsTrue compared.has_shape) }
+        ensures only_last { IfOk result (λ compared. self.now.last ≡ Some (seen scene.entry)
+            → IsTrue compared.is_last) }
     {
         compared_since(alloc, lent(&self.last), scene)
     }

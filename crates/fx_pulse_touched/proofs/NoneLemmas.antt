@@ -1,5 +1,5 @@
 -- Where no mark is set.
-use Rattle.std.proofs.Common.{refl, sym, ap, ◌∙◌, ◌≡◌, ℕ, ◌<◌, ◌||◌, Bool, true, false, cond, List, [], ◌∷◌, filter, length, replicate, arith}
+use Rattle.std.proofs.Common.{refl, sym, ap, ◌∙◌, ◌≡◌, ℕ, suc, ◌<◌, ◌||◌, Bool, true, false, cond, List, [], ◌∷◌, filter, length, replicate, arith}
 use Rattle.std.specs.List.{list_any, range_with_len}
 use Rattle.std.proofs.lemmas.Bool.{true≢false}
 use Rattle.std.proofs.lemmas.List.{ext_get_or, get_or-replicate, length-replicate}
@@ -18,6 +18,14 @@ none_set marks none k = by (flag_in marks k) refl
     by false is = is
     by true is =
         absurd (true≢false (sym (list_any_at (λ mark. mark) marks k false (flag_past marks k is) is) ∙ none))
+
+-- the other way round
+pub none_told : (marks : List Bool) → ((k : ℕ) → k < length marks → flag_in marks k ≡ false)
+    → list_any (λ mark. mark) marks ≡ false
+none_told [] each = refl
+none_told (mark ∷ marks) each =
+    ap (λ b. b || list_any (λ m. m) marks) (each 0 (omega arith))
+    ∙ none_told marks (λ k within. each (suc k) (omega (arith, within)))
 
 none_of : (test : ℕ → Bool) → ((k : ℕ) → test k ≡ false) → (xs : List ℕ) → list_any test xs ≡ false
 none_of test none [] = refl

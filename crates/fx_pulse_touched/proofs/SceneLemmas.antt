@@ -1,5 +1,5 @@
 -- A scene of the shape of the last one.
-use Rattle.std.proofs.Common.{refl, sym, ap, ◌∙◌, ◌≡◌, ◌↔◌, ℕ, ◌<◌, Bool, false, List, [], ◌∷◌, length, map, Some, unwrap_or, arith}
+use Rattle.std.proofs.Common.{refl, sym, ap, ◌∙◌, ◌≡◌, ℕ, ◌<◌, Bool, false, List, [], ◌∷◌, length, Some, unwrap_or, arith}
 use Rattle.std.specs.Prelude.{slice_get}
 use Rattle.std.specs.List.{list_any}
 use Rattle.std.proofs.lemmas.List.{ext_get_or, length-map}
@@ -7,10 +7,10 @@ use Rattle.std.proofs.lemmas.Option.{unwrap_or-slice_get}
 use Rattle.fx_css_types.specs.declared.sheets.SheetAt.{SheetAt}
 use Rattle.fx_kinds.specs.declared.facts.BoxFacts.{BoxFacts}
 use Rattle.fx_kinds.specs.declared.facts.StyleFacts.{StyleFacts}
-use Rattle.fx_layout_sweeps.specs.Marks.{flag_in}
+use Rattle.fx_layout_sweeps.specs.Nodes.{keys, parents}
 use Rattle.fx_pulse_model.specs.Scenes.{IsScene, Scene}
 use Rattle.fx_pulse_touched.specs.Touched.{AreTouched, HaveOneShape}
-use Rattle.fx_pulse_touched.proofs.NoneLemmas.{none_set}
+use Rattle.fx_pulse_touched.proofs.NoneLemmas.{none_set, none_told}
 
 as_many : (scene : Scene) → IsScene scene → length scene.styles ≡ length scene.boxes
 as_many scene is =
@@ -61,3 +61,25 @@ same_scene last scene styles boxes was is shape touched no_style no_box flags =
     (same_lists last.boxes scene.boxes (boxes_long last scene shape)
     (λ k within. ((touched.laid k within).0 (none_set boxes no_box k)).1))
     flags
+
+-- the same scene is of the same shape
+pub shape_of_same : (last scene : Scene) → last ≡ scene → HaveOneShape last scene
+shape_of_same last scene same =
+    record {
+      sheets = ap (λ (s : Scene). s.sheets) same;
+      keys = ap (λ (s : Scene). keys s.boxes) same;
+      parents = ap (λ (s : Scene). parents s.boxes) same;
+    }
+
+-- and no node of it is marked
+pub same_unmarked : (last scene : Scene) (styles boxes : List Bool) → AreTouched (Some last) scene styles boxes
+    → last ≡ scene → (list_any (λ mark. mark) styles ≡ false) × (list_any (λ mark. mark) boxes ≡ false)
+same_unmarked last scene styles boxes touched same =
+    let shape = shape_of_same last scene same in (
+      none_told styles
+          (λ k within. (touched.styled k (omega (arith, within, touched.each_style))).1
+          (shape, ap (λ (s : Scene). slice_get s.styles k) same)),
+      none_told boxes
+          (λ k within. (touched.laid k (omega (arith, within, touched.each_box))).1
+          (shape, ap (λ (s : Scene). slice_get s.boxes k) same)),
+    )

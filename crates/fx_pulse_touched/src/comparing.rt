@@ -47,6 +47,10 @@ pub fn compared_since(
         → IsOfShape (option_map seen last.entry) (seen scene.entry)) }
     ensures last { IfOk result (λ compared. IsTrue compared.is_last
         → option_map seen last.entry ≡ Some (seen scene.entry)) }
+    ensures only_shape { IfOk result (λ compared. IsOfShape (option_map seen last.entry) (seen scene.entry)
+        → IsTrue compared.has_shape) }
+    ensures only_last { IfOk result (λ compared. option_map seen last.entry ≡ Some (seen scene.entry)
+        → IsTrue compared.is_last) }
 {
     match last {
         None => Ok(unlike(all_touched(alloc, scene)?)),
@@ -85,6 +89,9 @@ fn compared_with(alloc: Global, last: Scene<'_>, scene: Scene<'_>) -> Result<Com
     ensures shape { IfOk result (λ compared. IsTrue compared.has_shape
         → HaveOneShape (seen last.entry) (seen scene.entry)) }
     ensures last { IfOk result (λ compared. IsTrue compared.is_last → seen last.entry ≡ seen scene.entry) }
+    ensures only_shape { IfOk result (λ compared. HaveOneShape (seen last.entry) (seen scene.entry)
+        → IsTrue compared.has_shape) }
+    ensures only_last { IfOk result (λ compared. seen last.entry ≡ seen scene.entry → IsTrue compared.is_last) }
 {
     if !have_one_shape(last, scene) {
         return Ok(unlike(all_touched(alloc, scene)?));
@@ -107,7 +114,8 @@ fn is_untouched(last: Scene<'_>, scene: Scene<'_>, touched: &Touched) -> bool
     requires last { IsScene (seen last) }
     requires shape { HaveOneShape (seen last) (seen scene) }
     requires touched { AreTouched (Some (seen last)) (seen scene) touched.now.styles.items touched.now.boxes.items }
-    ensures { IsTrue result → seen last.entry ≡ seen scene.entry }
+    ensures is { IsTrue result → seen last.entry ≡ seen scene.entry }
+    ensures only { seen last.entry ≡ seen scene.entry → IsTrue result }
 {
     if !are_same_flags(last.disabled, scene.disabled) {
         return false;
@@ -118,6 +126,8 @@ fn is_untouched(last: Scene<'_>, scene: Scene<'_>, touched: &Touched) -> bool
 fn is_none_marked(touched: &Touched) -> bool
     ensures styles { IsTrue result → list_any (λ mark. mark) touched.now.styles.items ≡ false }
     ensures boxes { IsTrue result → list_any (λ mark. mark) touched.now.boxes.items ≡ false }
+    ensures only { list_any (λ mark. mark) touched.now.styles.items ≡ false
+        → list_any (λ mark. mark) touched.now.boxes.items ≡ false → IsTrue result }
 {
     !is_any(touched.styles.as_slice()) && !is_any(touched.boxes.as_slice())
 }

@@ -1,5 +1,5 @@
 -- Keys that differ stand at one place at most.
-use Rattle.std.proofs.Common.{◌≡◌, ◌<◌, ℕ, Bool, true, eqb, cond, ltb, List, Some, None, get_or, length, sym, ◌∙◌, ap, inl, inr, arith, eq-eqb}
+use Rattle.std.proofs.Common.{◌≡◌, ◌∷◌, [], ◌<◌, ℕ, Bool, true, eqb, cond, ltb, List, Some, None, get_or, length, sym, ◌∙◌, ap, inl, inr, arith, eq-eqb}
 use Rattle.std.specs.Prelude.{slice_get}
 use Rattle.std.specs.List.{position_or_len}
 use Rattle.std.proofs.lemmas.Bool.{and_from, and_parts, cases_Bool, eqb-true, lt-ltb}
@@ -50,3 +50,12 @@ pub key_found : (rest : List Rest) (key : NodeKey) (place : ℕ) (one : Rest) �
 key_found rest key place one e is =
     let found = position-Some (has_key key) rest place one e in
     same_key one.key key (ap (has_key key) (sym (get_or_from_slice_get rest place one one is)) ∙ found.1)
+
+-- a key stands within the list
+pub key_within : (rest : List Rest) (key : NodeKey) (place : ℕ) → place_of_key rest key ≡ Some place
+    → slice_get rest place ≡ None → ⊥
+key_within [] key place e none = let h : None ≡ Some place = e in cc
+key_within (one ∷ rest) key place e none =
+    let found = position-Some (has_key key) (one ∷ rest) place one e in
+    let h : Some (get_or (one ∷ rest) place one) ≡ None =
+    sym (slice_get-get_or (one ∷ rest) place one found.0) ∙ none in cc

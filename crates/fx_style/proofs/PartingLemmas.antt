@@ -109,6 +109,13 @@ under_up there facts before at within off =
     ap (list_any (λ (p : ℕ). get_or there p false)) (places-some facts before at within)
     ∙ ap (λ (b : Bool). b || is_under there facts (parent_at facts at)) off
 
+-- the first place up is marked
+pub under_here : (there : List Bool) (facts : List StyleFacts) → ParentsStandBefore facts → (at : ℕ) → at < length facts
+    → get_or there at false ≡ true → is_under there facts (Some at) ≡ true
+under_here there facts before at within on =
+    ap (list_any (λ (p : ℕ). get_or there p false)) (places-some facts before at within)
+    ∙ ap (λ (b : Bool). b || is_under there facts (parent_at facts at)) on
+
 pub under_none : (there : List Bool) (facts : List StyleFacts) → is_under there facts None ≡ false
 under_none there facts = ap (list_any (λ (p : ℕ). get_or there p false)) (places-none facts)
 

@@ -1,5 +1,5 @@
 //! What is kept of a node, and where.
-ghost use Rattle.std.specs.Prelude.{◌≡◌, ℕ, IsTrue, Some, slice_get};
+ghost use Rattle.std.specs.Prelude.{◌≡◌, ◌↔◌, ℕ, IsTrue, Some, slice_get};
 ghost use Rattle.std.specs.List.{position};
 ghost use Rattle.std.specs.Option.{option_copied};
 ghost use Rattle.fx_kinds.specs.declared.facts.StyleFacts.{StyleFacts as Facts};
@@ -53,7 +53,7 @@ pub(crate) fn place_of_key(rest: &[Rest], key: NodeKey, guess: usize) -> Option<
 #[inline]
 pub(crate) fn stands_at(rest: &[Rest], key: NodeKey, at: usize) -> bool
     requires { HaveDifferentKeys rest.now }
-    ensures { IsTrue result → place_of_key rest.now key ≡ Some at }
+    ensures { IsTrue result ↔ (place_of_key rest.now key ≡ Some at) }
 {
     match rest_at(rest, at) {
         Some(one) => is_key(one.key, key),
@@ -64,8 +64,8 @@ pub(crate) fn stands_at(rest: &[Rest], key: NodeKey, at: usize) -> bool
 /// Does the key of each of these nodes stand at its place?
 pub(crate) fn all_stand(rest: &[Rest], facts: &[StyleFacts]) -> bool
     requires { HaveDifferentKeys rest.now }
-    ensures { IsTrue result → (at : ℕ) (node : Facts) → slice_get facts.now at ≡ Some node
-        → place_of_key rest.now node.key ≡ Some at }
+    ensures { IsTrue result ↔ ((at : ℕ) (node : Facts) → slice_get facts.now at ≡ Some node
+        → place_of_key rest.now node.key ≡ Some at) }
 {
     for (at, node) in facts.iter().enumerate() {
         if !stands_at(rest, node.key, at) {

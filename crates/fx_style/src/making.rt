@@ -1,5 +1,5 @@
 //! The entries that an update makes anew, before anything that is kept is changed.
-ghost use Rattle.std.specs.Prelude.{◌≡◌, ◌++◌, ◌∷◌, ◌+◌, ◌<◌, ◌≤◌, [], ℕ, Option as Maybe, Some, None, true, false, IfOk, IfSome, IsTrue, OnOk, is_some, length, map, slice_get, slice_index_or};
+ghost use Rattle.std.specs.Prelude.{◌≡◌, ◌↔◌, ◌++◌, ◌∷◌, ◌+◌, ◌<◌, ◌≤◌, [], ℕ, Option as Maybe, Some, None, true, false, IfOk, IfSome, IsTrue, OnOk, is_some, length, map, slice_get, slice_index_or};
 ghost use Rattle.std.specs.List.{filter_map};
 ghost use Rattle.std.specs.Option.{ForSome, option_copied, option_map};
 ghost use Rattle.fx_kinds.specs.declared.facts.StyleFacts.{StyleFacts as Facts};
@@ -331,8 +331,8 @@ pub(crate) struct Old<'a> {
 #[inline]
 fn is_idle(old: Old<'_>, listed: bool, key: NodeKey, at: usize) -> bool
     requires keys { HaveDifferentKeys old.rest.now }
-    ensures { IsTrue result → (listed ≡ false) × (old.entry.stay ≡ true)
-        × (place_of_key old.entry.rest.now key ≡ Some at) }
+    ensures { IsTrue result ↔ ((listed ≡ false) × (old.entry.stay ≡ true)
+        × (place_of_key old.entry.rest.now key ≡ Some at)) }
 {
     old.stay && !listed && stands_at(old.rest, key, at)
 }
@@ -340,9 +340,9 @@ fn is_idle(old: Old<'_>, listed: bool, key: NodeKey, at: usize) -> bool
 /// Is no node listed, and may each keep what it has where it stands?
 fn is_still(old: Old<'_>, facts: &[StyleFacts], restyle: &[usize]) -> bool
     requires keys { HaveDifferentKeys old.rest.now }
-    ensures { IsTrue result → (restyle.now ≡ []) × (old.entry.stay ≡ true)
+    ensures { IsTrue result ↔ ((restyle.now ≡ []) × (old.entry.stay ≡ true)
         × ((at : ℕ) (node : Facts) → slice_get facts.now at ≡ Some node
-        → place_of_key old.entry.rest.now node.key ≡ Some at) }
+        → place_of_key old.entry.rest.now node.key ≡ Some at)) }
 {
     restyle.is_empty() && old.stay && all_stand(old.rest, facts)
 }

@@ -1,6 +1,6 @@
 //! The nodes of an update apart: those that keep their styles, those that get lengths where they stand, and those that
 //! are styled anew.
-ghost use Rattle.std.specs.Prelude.{◌≡◌, ◌<◌, ℕ, true, false, IfOk, IfSome, IsTrue, OnOk, length, slice_set};
+ghost use Rattle.std.specs.Prelude.{◌≡◌, ◌↔◌, ◌<◌, ℕ, true, false, IfOk, IfSome, IsTrue, OnOk, length, slice_set};
 ghost use Rattle.std.specs.Option.{option_copied};
 ghost use Rattle.fx_select.specs.Chains.{ParentsStandBefore};
 ghost use Rattle.fx_style.specs.Kept.{HaveDifferentKeys, is_among};
@@ -121,8 +121,8 @@ fn note_part(
 fn are_clear(facts: &[StyleFacts], there: &[bool], left: &[usize]) -> bool
     requires before { ParentsStandBefore facts.now }
     requires long { length there.now ≡ length facts.now }
-    ensures { IsTrue result → (at : ℕ) → is_among left.now at ≡ true
-        → is_under there.now facts.now (parent_at facts.now at) ≡ false }
+    ensures { IsTrue result ↔ ((at : ℕ) → is_among left.now at ≡ true
+        → is_under there.now facts.now (parent_at facts.now at) ≡ false) }
 {
     for place in left {
         if !is_clear(facts, there, *place) {
@@ -136,7 +136,7 @@ fn are_clear(facts: &[StyleFacts], there: &[bool], left: &[usize]) -> bool
 fn is_clear(facts: &[StyleFacts], there: &[bool], at: usize) -> bool
     requires before { ParentsStandBefore facts.now }
     requires long { length there.now ≡ length facts.now }
-    ensures { IsTrue result → is_under there.now facts.now (parent_at facts.now at) ≡ false }
+    ensures { IsTrue result ↔ (is_under there.now facts.now (parent_at facts.now at) ≡ false) }
 {
     let mut place = parent_at(facts, at);
     while let Some(up) = place {

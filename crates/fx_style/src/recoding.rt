@@ -1,6 +1,6 @@
 //! Nodes that differ from those of which the styles are kept in lengths that bindings give: these are written into a
 //! copy of what is kept, and no rules are searched.
-ghost use Rattle.std.specs.Prelude.{◌≡◌, ◌<◌, ℕ, false, option_and_then, IfOk, IsTrue, Some, length, slice_get, slice_index_or};
+ghost use Rattle.std.specs.Prelude.{◌≡◌, ◌↔◌, ◌<◌, ℕ, false, option_and_then, IfOk, IsTrue, Some, length, slice_get, slice_index_or};
 ghost use Rattle.std.specs.Option.{ForSome, option_copied, option_map};
 ghost use Rattle.fx_style.specs.Kept.{entry_in, style_of_entry};
 ghost use Rattle.fx_style.specs.Lasts.{DiffersInLengths, IsLike, IsRecodedAt, rewritten};
@@ -42,15 +42,15 @@ fn differs_in_lengths(old: &StyleFacts, node: &StyleFacts) -> bool
 }
 
 fn has_same_place(old: &StyleFacts, node: &StyleFacts) -> bool
-    ensures { IsTrue result → (node.now.key ≡ old.now.key) × (node.now.parent ≡ old.now.parent)
-        × (node.now.class ≡ old.now.class) }
+    ensures { IsTrue result ↔ ((node.now.key ≡ old.now.key) × (node.now.parent ≡ old.now.parent)
+        × (node.now.class ≡ old.now.class)) }
 {
     node.key == old.key && node.parent == old.parent && node.class == old.class
 }
 
 fn has_same_names(old: &StyleFacts, node: &StyleFacts) -> bool
-    ensures { IsTrue result → (node.now.id ≡ old.now.id) × (node.now.classes ≡ old.now.classes)
-        × (node.now.pseudos ≡ old.now.pseudos) }
+    ensures { IsTrue result ↔ ((node.now.id ≡ old.now.id) × (node.now.classes ≡ old.now.classes)
+        × (node.now.pseudos ≡ old.now.pseudos)) }
 {
     node.id.is_same(&old.id)
         && node.classes.is_same(&old.classes)
@@ -58,7 +58,7 @@ fn has_same_names(old: &StyleFacts, node: &StyleFacts) -> bool
 }
 
 fn has_same_sheets(old: &StyleFacts, node: &StyleFacts) -> bool
-    ensures { IsTrue result → (node.now.inline ≡ old.now.inline) × (node.now.sheets ≡ old.now.sheets) }
+    ensures { IsTrue result ↔ ((node.now.inline ≡ old.now.inline) × (node.now.sheets ≡ old.now.sheets)) }
 {
     node.inline == old.inline && node.sheets.as_slice() == old.sheets.as_slice()
 }
@@ -78,7 +78,7 @@ pub(crate) fn is_like(index: &RuleIndex, old: &StyleFacts, node: &StyleFacts) ->
 /// Is the parent of a node, if it has one, not marked?
 pub(crate) fn is_calm(marks: &[bool], parent: Option<usize>) -> bool
     requires { ForSome parent (λ p. p < length marks.now) }
-    ensures { IsTrue result → (p : ℕ) → parent ≡ Some p → slice_index_or marks.now p false ≡ false }
+    ensures { IsTrue result ↔ ((p : ℕ) → parent ≡ Some p → slice_index_or marks.now p false ≡ false) }
 {
     match parent {
         Some(parent) => !marks[parent],

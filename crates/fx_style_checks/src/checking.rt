@@ -1,5 +1,5 @@
 //! What updates ask of the facts of nodes, tested.
-ghost use Rattle.std.specs.Prelude.{◌≡◌, ◌<◌, ℕ, IsTrue, Some, length, slice_get, true};
+ghost use Rattle.std.specs.Prelude.{◌≡◌, ◌↔◌, ◌<◌, ℕ, IsTrue, Some, length, slice_get, true};
 ghost use Rattle.fx_kinds.specs.declared.facts.StyleFacts.{StyleFacts as Facts};
 ghost use Rattle.fx_select.specs.Chains.{ParentsStandBefore};
 ghost use Rattle.fx_cascade.specs.Tables.{AreRows};
@@ -16,12 +16,13 @@ pub fn can_be_styled(facts: &[StyleFacts]) -> bool
     ensures before { IsTrue result → ParentsStandBefore facts.now }
     ensures keys { IsTrue result → AreDifferent facts.now }
     ensures codes { IsTrue result → HaveRows facts.now }
+    ensures only { ParentsStandBefore facts.now → AreDifferent facts.now → HaveRows facts.now → IsTrue result }
 {
     stand_before(facts) && are_different(facts) && have_rows(facts)
 }
 
 fn stand_before(facts: &[StyleFacts]) -> bool
-    ensures { IsTrue result → ParentsStandBefore facts.now }
+    ensures { IsTrue result ↔ ParentsStandBefore facts.now }
 {
     for (at, node) in facts.iter().enumerate() {
         if let Some(parent) = node.parent {
@@ -34,7 +35,7 @@ fn stand_before(facts: &[StyleFacts]) -> bool
 }
 
 fn are_different(facts: &[StyleFacts]) -> bool
-    ensures { IsTrue result → AreDifferent facts.now }
+    ensures { IsTrue result ↔ AreDifferent facts.now }
 {
     for (at, node) in facts.iter().enumerate() {
         if !stands_alone(facts, at, node) {
@@ -46,8 +47,8 @@ fn are_different(facts: &[StyleFacts]) -> bool
 
 /// Has no other node the key of this one?
 fn stands_alone(facts: &[StyleFacts], at: usize, node: &StyleFacts) -> bool
-    ensures { IsTrue result → (other : ℕ) (b : Facts) → slice_get facts.now other ≡ Some b
-        → is_key b.key node.now.key ≡ true → other ≡ at }
+    ensures { IsTrue result ↔ ((other : ℕ) (b : Facts) → slice_get facts.now other ≡ Some b
+        → is_key b.key node.now.key ≡ true → other ≡ at) }
 {
     for (other, one) in facts.iter().enumerate() {
         if other != at && is_key(one.key, node.key) {
@@ -58,7 +59,7 @@ fn stands_alone(facts: &[StyleFacts], at: usize, node: &StyleFacts) -> bool
 }
 
 fn have_rows(facts: &[StyleFacts]) -> bool
-    ensures { IsTrue result → HaveRows facts.now }
+    ensures { IsTrue result ↔ HaveRows facts.now }
 {
     for node in facts {
         if !are_rows(node.codes.as_slice()) {
@@ -69,7 +70,7 @@ fn have_rows(facts: &[StyleFacts]) -> bool
 }
 
 fn are_rows(codes: &[CodeValue]) -> bool
-    ensures { IsTrue result → AreRows codes.now }
+    ensures { IsTrue result ↔ AreRows codes.now }
 {
     for code in codes {
         if code.style.0 >= STYLE_COUNT as u32 {

@@ -137,7 +137,7 @@ remade-requires-clause-calm g c = λ calm p up.
     let less : p < at = c.requires.before at p node is above in
     sym (c.in_ok-marks.ensures.marks p (omega (arith, less, c.loop-at-test.true)))
     ∙ ap (λ (l : List Bool). get_or l p false) (sym c.as_slice.ensures.value)
-    ∙ c.is_calm.ensures calm p above
+    ∙ c.is_calm.ensures.0 calm p above
 
 -- nothing is listed, and each key stands at its place
 idles : (facts : List StyleFacts) (restyle : List ℕ) (looks : List Look) (rest : List Rest) → restyle ≡ []
@@ -159,7 +159,7 @@ returns-then-is_still-clause-right g c =
     let restyle = c.args.restyle.now in
     let looks = c.args.old.looks.now in
     let rest = c.args.old.rest.now in
-    let still = c.is_still.ensures c.if-is_still.true in
+    let still = c.is_still.ensures.0 c.if-is_still.true in
     let long = c.requires.stay still.1 in
     subst (λ (l : List Fresh). AreRightBelow c.args.scene.sheets.now facts restyle (kept_at looks rest facts) looks
     rest l (length facts)) (sym c.taken_entries-fresh.ensures)
@@ -168,7 +168,7 @@ returns-then-is_still-clause-right g c =
 
 pub returns-then-is_still-clause-all : goal.returns-then-is_still-clause-all
 returns-then-is_still-clause-all g c = λ must k below.
-    let still = c.is_still.ensures c.if-is_still.true in
+    let still = c.is_still.ensures.0 c.if-is_still.true in
     absurd (let h : true ≡ false = sym still.1 ∙ must in cc)
 
 pub returns-then-is_still-clause-cost : goal.returns-then-is_still-clause-cost
@@ -177,7 +177,7 @@ returns-then-is_still-clause-cost g c =
     let restyle = c.args.restyle.now in
     let looks = c.args.old.looks.now in
     let rest = c.args.old.rest.now in
-    let still = c.is_still.ensures c.if-is_still.true in
+    let still = c.is_still.ensures.0 c.if-is_still.true in
     let long = c.requires.stay still.1 in
     let none = still_cost facts restyle looks rest (idles facts restyle looks rest still.0 long.0 long.1 still.2)
     (length facts) (omega arith) in
@@ -206,7 +206,7 @@ loop-at-preserved-then-is_idle g c =
     let fs = c.loop-at.fresh in
     let node = c.index-facts-at.result in
     let inv = c.loop-at.invariant in
-    let idle = c.is_idle.ensures c.if-is_idle.true in
+    let idle = c.is_idle.ensures.0 c.if-is_idle.true in
     let is : slice_get facts at ≡ Some node =
     slice_get_read facts (length facts) at node refl c.loop-at-test.true c.index-facts-at.is in
     let listed : c.index-listed.result.now ≡ is_among restyle at =

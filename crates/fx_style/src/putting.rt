@@ -1,5 +1,5 @@
 //! Fresh entries put in their places, which can't fail.
-ghost use Rattle.std.specs.Prelude.{◌≡◌, ◌≤◌, IfOk, IsTrue, OnOk, Some, length, map, slice_get, slice_set, take};
+ghost use Rattle.std.specs.Prelude.{◌≡◌, ◌↔◌, ◌≤◌, IfOk, IsTrue, OnOk, Some, length, map, slice_get, slice_set, take};
 ghost use Rattle.std.specs.Option.{option_copied};
 ghost use Rattle.fx_style.specs.Kept.{put_looks, put_rest, rest_of};
 ghost use Rattle.fx_style.specs.Changes.{IsNoted, NamesChanges};
@@ -89,7 +89,7 @@ fn push_change(places: &mut Vec<usize>, looks: &[Look], one: &Fresh) -> Result<(
 }
 
 fn stands_there(looks: &[Look], at: usize, look: &Look) -> bool
-    ensures { IsTrue result → slice_get looks.now at ≡ Some look.now }
+    ensures { IsTrue result ↔ (slice_get looks.now at ≡ Some look.now) }
 {
     match look_at(looks, at) {
         Some(old) => is_same_look(old, look),

@@ -18,7 +18,7 @@ use std::alloc::{AllocError, Global};
 /// Is the node of a place the one that stood there, up to lengths that bindings give?
 pub(crate) fn is_recoded(last: Option<&[StyleFacts]>, facts: &[StyleFacts], at: usize) -> bool
     requires { at < length facts.now }
-    ensures { IsTrue result → IsRecodedAt (option_copied last.entry) facts.now at }
+    ensures { IsTrue result ↔ IsRecodedAt (option_copied last.entry) facts.now at }
 {
     match old_at(last, at) {
         Some(old) => differs_in_lengths(old, node_at(facts, at)),
@@ -33,7 +33,7 @@ fn old_at(last: Option<&[StyleFacts]>, at: usize) -> Option<&StyleFacts>
 }
 
 fn differs_in_lengths(old: &StyleFacts, node: &StyleFacts) -> bool
-    ensures { IsTrue result → DiffersInLengths old.now node.now }
+    ensures { IsTrue result ↔ DiffersInLengths old.now node.now }
 {
     has_same_place(old, node)
         && has_same_names(old, node)
@@ -66,7 +66,7 @@ fn has_same_sheets(old: &StyleFacts, node: &StyleFacts) -> bool
 /// Is a node like another one of its parent, up to its key, an id for which no selector asks, and lengths that bindings
 /// give?
 pub(crate) fn is_like(index: &RuleIndex, old: &StyleFacts, node: &StyleFacts) -> bool
-    ensures { IsTrue result → IsLike index.now old.now node.now }
+    ensures { IsTrue result ↔ IsLike index.now old.now node.now }
 {
     node.parent == old.parent
         && are_alike(old, node)

@@ -23,7 +23,7 @@ returns-then-branch-clause-style g c =
     let looks = c.args.plan.looks.now in
     let rest = c.args.plan.rest.now in
     let at = c.args.turn.at in
-    let r = c.is_recoded.ensures c.if-is_recoded.true in
+    let r = c.is_recoded.ensures.0 c.if-is_recoded.true in
     let are : AreStylesOf sheets facts listed looks rest r.olds =
     subst (λ o. IfSome o (AreStylesOf sheets facts listed looks rest)) r.given c.requires.last in
     let node : c.node_at.result.now ≡ r.node =

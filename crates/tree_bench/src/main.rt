@@ -7,30 +7,48 @@ use fx_base::NodeKey;
 use fx_tree::{Tree, TreeError};
 use std::alloc::Global;
 use std::env;
+use std::mem::forget;
 
 /// How many children each node is built with.
 const CHILDREN: usize = 8;
 
 fn main(rt: HostRuntime) -> anyhow::Result<()> {
-    let mut words = env::args(&rt)?;
-    let _program = words.next();
-    let (Some(nodes), Some(moves), Some(walks)) = (words.next(), words.next(), words.next()) else {
+    let words = env::args(&rt)?.collect::<Vec<String>>(rt.alloc())?;
+    let sum = sum_of(rt.alloc(), words.as_slice())?;
+    println!(rt; "{sum}")?;
+    Ok(())
+}
+
+/// The checksum of what the words of the command line ask for.
+fn sum_of(alloc: Global, words: &[String]) -> anyhow::Result<u32> {
+    let [_, nodes, moves, walks, ..] = words else {
         bail!("usage: tree_bench NODES MOVES WALKS");
     };
     let nodes = nodes.as_str().parse::<usize>()?;
     let moves = moves.as_str().parse::<usize>()?;
     let walks = walks.as_str().parse::<usize>()?;
-    let sum = run(rt.alloc(), nodes, moves, walks)?;
-    println!(rt; "{sum}")?;
-    Ok(())
+    Ok(run(alloc, nodes, moves, walks)?)
 }
 
 fn run(alloc: Global, nodes: usize, moves: usize, walks: usize) -> Result<u32, TreeError> {
     let mut tree = Tree::new(alloc);
+    let sum = work_on(alloc, &mut tree, nodes, moves, walks);
+    // The process ends right after this, so nothing of the tree is freed.
+    forget(tree);
+    sum
+}
+
+fn work_on(
+    alloc: Global,
+    tree: &mut Tree,
+    nodes: usize,
+    moves: usize,
+    walks: usize,
+) -> Result<u32, TreeError> {
     let top = tree.make(alloc)?;
-    let keys = build(alloc, &mut tree, top, nodes)?;
-    move_subtrees(alloc, &mut tree, keys.as_slice(), moves)?;
-    let sum = walk(alloc, &tree, top, walks)?;
+    let keys = build(alloc, tree, top, nodes)?;
+    move_subtrees(alloc, tree, keys.as_slice(), moves)?;
+    let sum = walk(alloc, tree, top, walks)?;
     tree.drop_tree(top)?;
     Ok(sum)
 }

@@ -5,6 +5,7 @@
 #![tactic(auto)]
 
 ghost use Rattle.std.specs.Prelude.{◌≡◌};
+ghost use Rattle.fx_store_model.specs.Step.{IsFit};
 
 use anyhow::bail;
 use fx_base::{Kind, Ledgers, List, Name, Value, Work};
@@ -16,11 +17,14 @@ use fx_store_model::Change;
 use std::alloc::Global;
 use std::env;
 use std::marker::Brand;
+use std::mem::forget;
 use std::sync::ledger::Blank;
 
-/// How often each thing is done.
+/// How much is built, and how often each thing is done.
 #[derive(Clone, Copy)]
-struct Rounds {
+struct Task {
+    /// So many diamonds stand behind the first property.
+    diamonds: u32,
     /// The first property is set to another value.
     sets: u64,
     /// An owner is made, listens and is released.
@@ -39,66 +43,120 @@ struct Rounds {
 const PROPERTIES: u32 = 20;
 
 fn main(rt: HostRuntime) -> anyhow::Result<()> {
-    let mut words = env::args(&rt)?;
-    let _program = words.next();
-    let (Some(diamonds), Some(sets), Some(owners)) = (words.next(), words.next(), words.next())
+    let words = env::args(&rt)?.collect::<Vec<String>>(rt.alloc())?;
+    start::<Brand, HostRuntime>(
+        &rt,
+        words.as_slice(),
+        Blank::new(1),
+        Blank::new(1),
+        Blank::new(1),
+        Blank::new(1),
+    )
+}
+
+/// What the words of the command line ask for.
+fn task_of(words: &[String]) -> anyhow::Result<Task> {
+    let [
+        _,
+        diamonds,
+        sets,
+        owners,
+        listeners,
+        pairs,
+        nodes,
+        dropped,
+        ..
+    ] = words
     else {
         bail!("usage: store_bench DIAMONDS SETS OWNERS LISTENERS PAIRS NODES DROPPED");
     };
-    let (Some(listeners), Some(pairs)) = (words.next(), words.next()) else {
-        bail!("usage: store_bench DIAMONDS SETS OWNERS LISTENERS PAIRS NODES DROPPED");
-    };
-    let (Some(nodes), Some(dropped)) = (words.next(), words.next()) else {
-        bail!("usage: store_bench DIAMONDS SETS OWNERS LISTENERS PAIRS NODES DROPPED");
-    };
-    let diamonds = diamonds.as_str().parse::<u32>()?;
-    let rounds = Rounds {
-        sets: sets.as_str().parse::<u64>()?,
-        owners: owners.as_str().parse::<u64>()?,
-        listeners: listeners.as_str().parse::<u32>()?,
-        pairs: pairs.as_str().parse::<u32>()?,
-        nodes: nodes.as_str().parse::<u32>()?,
-        dropped: dropped.as_str().parse::<u32>()?,
-    };
-    let notices = start::<Brand>(
-        rt.alloc(),
-        diamonds,
-        rounds,
-        Blank::new(1),
-        Blank::new(1),
-        Blank::new(1),
-        Blank::new(1),
-    )?;
-    println!(rt; "{notices}")?;
-    Ok(())
+    Ok(Task {
+        diamonds: count(diamonds)?,
+        sets: times(sets)?,
+        owners: times(owners)?,
+        listeners: count(listeners)?,
+        pairs: count(pairs)?,
+        nodes: count(nodes)?,
+        dropped: count(dropped)?,
+    })
 }
 
-fn start<L: Ledgers>(
-    alloc: Global,
-    diamonds: u32,
-    rounds: Rounds,
+fn count(word: &String) -> anyhow::Result<u32> {
+    Ok(word.as_str().parse::<u32>()?)
+}
+
+fn times(word: &String) -> anyhow::Result<u64> {
+    Ok(word.as_str().parse::<u64>()?)
+}
+
+fn start<L: Ledgers, R: Print + AllocGlobal>(
+    rt: &R,
+    words: &[String],
     evaluated: Blank,
     styled: Blank,
     laid: Blank,
     painted: Blank,
-) -> anyhow::Result<usize>
+) -> anyhow::Result<()>
     requires evaluated { (evaluated.name ≡ L.evaluated_name) × (evaluated.parts ≡ 1) }
     requires styled { (styled.name ≡ L.styled_name) × (styled.parts ≡ 1) }
     requires laid { (laid.name ≡ L.laid_name) × (laid.parts ≡ 1) }
     requires painted { (painted.name ≡ L.painted_name) × (painted.parts ≡ 1) }
 {
     let mut work: Work<L> = Work::new(evaluated, styled, laid, painted);
-    let mut store = Store::new(alloc);
-    let last = build(alloc, &mut store, diamonds, &mut work)?;
+    let mut store = Store::new(rt.alloc());
+    let done = tell(rt, words, &mut store, &mut work);
+    // The process ends right after this, so nothing of the store is freed.
+    forget(store);
+    done
+}
+
+/// Does what the words of the command line ask for, and prints how many notices came.
+fn tell<L: Ledgers, R: Print + AllocGlobal>(
+    rt: &R,
+    words: &[String],
+    store: &mut Store,
+    work: &mut Work<L>,
+) -> anyhow::Result<()> {
+    let task = task_of(words)?;
+    let notices = carry_out(rt.alloc(), store, task, work)?;
+    println!(rt; "{notices}")?;
+    Ok(())
+}
+
+fn carry_out<L: Ledgers>(
+    alloc: Global,
+    store: &mut Store,
+    task: Task,
+    work: &mut Work<L>,
+) -> anyhow::Result<usize> {
+    let last = build(alloc, store, task.diamonds, work)?;
     let listen = Change::Listen(last, ListenKind::Change, None, 0);
-    store.apply(alloc, listen, &mut work)?;
-    listen_often(alloc, &mut store, rounds.listeners, &mut work)?;
-    pair_often(alloc, &mut store, rounds.pairs, &mut work)?;
-    let notices = set_often(alloc, &mut store, rounds.sets, &mut work)?;
-    own_often(alloc, &mut store, last, rounds.owners, &mut work)?;
-    let names = names_of_dropped(alloc, &mut store, rounds.nodes, rounds.dropped)?;
-    store.apply(alloc, Change::Forget(List::from_vec(names)), &mut work)?;
+    told(alloc, store, listen, work)?;
+    listen_often(alloc, store, task.listeners, work)?;
+    pair_often(alloc, store, task.pairs, work)?;
+    let notices = set_often(alloc, store, task.sets, work)?;
+    own_often(alloc, store, last, task.owners, work)?;
+    let names = names_of_dropped(alloc, store, task.nodes, task.dropped)?;
+    told(alloc, store, Change::Forget(List::from_vec(names)), work)?;
     Ok(notices)
+}
+
+/// Makes the change, and answers how many notices came to change listeners.
+fn told<L: Ledgers>(
+    alloc: Global,
+    store: &mut Store,
+    change: Change,
+    work: &mut Work<L>,
+) -> anyhow::Result<usize>
+    requires { IsFit change store.old }
+{
+    let notices = store.apply(alloc, change, work)?;
+    Ok(notices.changed.as_slice().len())
+}
+
+/// A further property, of which the value is zero.
+fn declared(alloc: Global, store: &mut Store) -> anyhow::Result<Name> {
+    Ok(store.declare(alloc, Kind::Int, false, Value::Int(0))?)
 }
 
 /// One number, and so many diamonds of three behind one another. Answers the last name.
@@ -108,7 +166,7 @@ fn build<L: Ledgers>(
     diamonds: u32,
     work: &mut Work<L>,
 ) -> anyhow::Result<Name> {
-    let mut last = store.declare(alloc, Kind::Int, false, Value::Int(0))?;
+    let mut last = declared(alloc, store)?;
     for _ in 0..diamonds {
         let left = bound(alloc, store, "a + 1", &[last], work)?;
         let right = bound(alloc, store, "a * 0", &[last], work)?;
@@ -125,14 +183,14 @@ fn bound<L: Ledgers>(
     operands: &[Name],
     work: &mut Work<L>,
 ) -> anyhow::Result<Name> {
-    let name = store.declare(alloc, Kind::Int, false, Value::Int(0))?;
+    let name = declared(alloc, store)?;
     let parsed = read_expr(alloc, text)?;
     let operands = Vec::from_slice(alloc, operands)?;
     if operands.len() != parsed.paths.as_slice().len() {
         bail!("each path has one operand");
     }
     let change = Change::Bind(name, Formula::new(parsed.expr), List::from_vec(operands));
-    store.apply(alloc, change, work)?;
+    told(alloc, store, change, work)?;
     Ok(name)
 }
 
@@ -143,10 +201,10 @@ fn listen_often<L: Ledgers>(
     listeners: u32,
     work: &mut Work<L>,
 ) -> anyhow::Result<()> {
-    let name = store.declare(alloc, Kind::Int, false, Value::Int(0))?;
+    let name = declared(alloc, store)?;
     for tag in 0..listeners {
         let listen = Change::Listen(name, ListenKind::Change, None, tag);
-        store.apply(alloc, listen, work)?;
+        told(alloc, store, listen, work)?;
     }
     Ok(())
 }
@@ -159,8 +217,8 @@ fn pair_often<L: Ledgers>(
     work: &mut Work<L>,
 ) -> anyhow::Result<()> {
     for _ in 0..pairs {
-        let name = store.declare(alloc, Kind::Int, false, Value::Int(0))?;
-        store.apply(alloc, Change::Pair(name, Name(0)), work)?;
+        let name = declared(alloc, store)?;
+        told(alloc, store, Change::Pair(name, Name(0)), work)?;
     }
     Ok(())
 }
@@ -175,7 +233,7 @@ fn names_of_dropped(
     let mut names = Vec::new(alloc);
     for node in 0..nodes {
         for _ in 0..PROPERTIES {
-            let name = store.declare(alloc, Kind::Int, false, Value::Int(0))?;
+            let name = declared(alloc, store)?;
             if node < dropped {
                 names.push(name)?;
             }
@@ -193,8 +251,8 @@ fn set_often<L: Ledgers>(
     let mut notices = 0usize;
     for round in 0..rounds {
         let value = Value::Int((round % 1000) as i64 + 1);
-        let told = store.apply(alloc, Change::Set(Name(0), value), work)?;
-        notices = notices.wrapping_add(told.changed.as_slice().len());
+        let more = told(alloc, store, Change::Set(Name(0), value), work)?;
+        notices = notices.wrapping_add(more);
     }
     Ok(notices)
 }
@@ -209,7 +267,7 @@ fn own_often<L: Ledgers>(
     for _ in 0..rounds {
         let owner = store.make_owner(alloc)?;
         let listen = Change::Listen(name, ListenKind::Invalid, Some(owner), 0);
-        store.apply(alloc, listen, work)?;
+        told(alloc, store, listen, work)?;
         store.release_owner(owner);
     }
     Ok(())

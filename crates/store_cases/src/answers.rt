@@ -7,55 +7,70 @@ use std::alloc::{AllocError, Global};
 /// The flags of so many properties are printed.
 const FLAGS: u32 = 20;
 
-pub fn of_value(alloc: Global, value: &Value) -> Result<String, AllocError> {
+fn of_value(alloc: Global, value: &Value) -> Result<String, AllocError> {
     match value {
         Value::Int(number) => format!(in alloc; "i{number}"),
-        Value::Bool(truth) => format!(in alloc; "b{}", i64::from(*truth)),
+        Value::Bool(truth) => String::from_str(alloc, if *truth { "b1" } else { "b0" }),
         Value::Text(text) => format!(in alloc; "t{}", text.as_str()),
-        Value::Choice(_, _) | Value::Color(_) | Value::Sides(_) => format!(in alloc; "?"),
+        Value::Choice(_, _) | Value::Color(_) | Value::Sides(_) => String::from_str(alloc, "?"),
     }
 }
 
-pub fn of_error(alloc: Global, error: &StoreError) -> Result<String, AllocError> {
-    match error {
-        StoreError::Unknown(name) => format!(in alloc; "unknown {}", name.0),
-        StoreError::ReadOnly(name) => format!(in alloc; "readonly {}", name.0),
-        StoreError::WrongKind(name) => format!(in alloc; "type {}", name.0),
-        StoreError::Bound(name) => format!(in alloc; "bound {}", name.0),
-        StoreError::Cycle(name) => format!(in alloc; "cycle {}", name.0),
-        StoreError::Full => format!(in alloc; "full"),
-        StoreError::InUse(_) => format!(in alloc; "used"),
-        StoreError::Same => format!(in alloc; "same"),
-        StoreError::Mixed(name) => format!(in alloc; "mixed {}", name.0),
-        StoreError::StaleOwner => format!(in alloc; "stale"),
-        StoreError::Memory => format!(in alloc; "memory"),
-    }
+pub fn of_error(alloc: Global, error: &StoreError) -> anyhow::Result<String> {
+    let text = match error {
+        StoreError::Unknown(name) => named(alloc, "unknown", name),
+        StoreError::ReadOnly(name) => named(alloc, "readonly", name),
+        StoreError::WrongKind(name) => named(alloc, "type", name),
+        StoreError::Bound(name) => named(alloc, "bound", name),
+        StoreError::Cycle(name) => named(alloc, "cycle", name),
+        StoreError::Mixed(name) => named(alloc, "mixed", name),
+        StoreError::Full => String::from_str(alloc, "full"),
+        StoreError::InUse(_) => String::from_str(alloc, "used"),
+        StoreError::Same => String::from_str(alloc, "same"),
+        StoreError::StaleOwner => String::from_str(alloc, "stale"),
+        StoreError::Memory => String::from_str(alloc, "memory"),
+    };
+    Ok(text?)
 }
 
-pub fn of_change(alloc: Global, answer: Result<Notices, StoreError>) -> Result<String, AllocError> {
+fn named(alloc: Global, word: &str, name: &Name) -> Result<String, AllocError> {
+    format!(in alloc; "{word} {}", name.0)
+}
+
+pub fn of_change(alloc: Global, answer: Result<Notices, StoreError>) -> anyhow::Result<String> {
     match answer {
         Ok(notices) => of_notices(alloc, &notices),
         Err(error) => of_error(alloc, &error),
     }
 }
 
-fn of_notices(alloc: Global, notices: &Notices) -> Result<String, AllocError> {
-    let mut text = format!(in alloc; "ok")?;
+/// A value that was read, and from where it came.
+pub fn of_read(alloc: Global, value: &Value, origin: &str) -> anyhow::Result<String> {
+    let value = of_value(alloc, value)?;
+    Ok(format!(in alloc; "value {value} {origin}")?)
+}
+
+fn of_notices(alloc: Global, notices: &Notices) -> anyhow::Result<String> {
+    let mut text = String::from_str(alloc, "ok")?;
+    match push_notices(alloc, &mut text, notices) {
+        Ok(()) => Ok(text),
+        Err(error) => Err(error.into()),
+    }
+}
+
+fn push_notices(alloc: Global, text: &mut String, notices: &Notices) -> Result<(), AllocError> {
     if let Some(number) = notices.added {
-        let word = format!(in alloc; " added {number}")?;
-        text.push_str(word.as_str())?;
+        write!(text, " added {number}")?;
     }
     for notice in notices.invalid.as_slice() {
-        let word = format!(in alloc; " invalid {} {}", notice.0.0, notice.1)?;
-        text.push_str(word.as_str())?;
+        write!(text, " invalid {} {}", notice.0.0, notice.1)?;
     }
     for notice in notices.changed.as_slice() {
         let before = of_value(alloc, &notice.2)?;
         let after = of_value(alloc, &notice.3)?;
-        let word = format!(in alloc; " changed {} {} {before} {after}", notice.0.0, notice.1)?;
-        text.push_str(word.as_str())?;
+        write!(text, " changed {} {} {before} {after}", notice.0.0, notice.1)?;
     }
-    Ok(text)
+    Ok(())
 }
 
 /// The flags of the first properties.

@@ -1,15 +1,18 @@
 //! The commands, one function for each change of the store.
-use crate::answers::{of_change, of_error, of_value};
-use crate::words::{name, next, value};
+ghost use Rattle.fx_store_model.specs.Step.{IsFit};
+
+use crate::answers::{of_change, of_error, of_read};
+use crate::words::{name, next, next_name, next_number, next_value};
 use anyhow::bail;
-use fx_base::{Ledgers, List, Work};
+use fx_base::{Ledgers, List, Name, Work};
 use fx_expr::read_expr;
 use fx_graph_model::{Formula, Origin};
 use fx_handles::Owner;
 use fx_listen::ListenKind;
 use fx_store::Store;
 use fx_store_model::Change;
-use std::alloc::{AllocError, Global};
+use std::alloc::Global;
+use std::mem::{forget, replace};
 use std::str::Split;
 
 /// The store, and the owners in the order of their making.
@@ -36,38 +39,63 @@ pub fn carry_out<L: Ledgers>(
 ) -> anyhow::Result<String> {
     let mut words = line.split(' ');
     match next(&mut words)? {
-        "store" => {
-            *run = Run::new(alloc);
-            Ok(format!(in alloc; "ok")?)
-        }
+        "store" => begin(alloc, run),
         "declare" => declare(alloc, run, false, &mut words),
         "declare-read-only" => declare(alloc, run, true, &mut words),
         "publish" => publish(alloc, run, &mut words, work),
         "bind" => bind(alloc, run, &mut words, work),
         "read" => read(alloc, run, &mut words, work),
-        "owner" => Ok(make_owner(alloc, run)?),
-        "release" => {
-            let owner = owner(run, &mut words)?;
-            let released = owner.is_some_and(|owner| run.store.release_owner(owner));
-            Ok(format!(in alloc; "{}", if released { "ok" } else { "stale" })?)
-        }
-        "is-bound" => {
-            let name = name(next(&mut words)?)?;
-            Ok(yes_or_no(alloc, run.store.is_bound(name))?)
-        }
-        "is-listening" => {
-            let number = next(&mut words)?.parse::<u32>()?;
-            Ok(yes_or_no(alloc, run.store.is_listening(number))?)
-        }
+        "owner" => make_owner(alloc, run),
+        "release" => release(alloc, run, &mut words),
+        "is-bound" => is_bound(alloc, run, &mut words),
+        "is-listening" => is_listening(alloc, run, &mut words),
         "listen" => listen(alloc, run, &mut words, work),
         "unlisten" => unlisten(alloc, run, &mut words, work),
-        "forget" => forget(alloc, run, &mut words, work),
+        "forget" => forget_names(alloc, run, &mut words, work),
         word => change_one(alloc, run, word, &mut words, work),
     }
 }
 
-fn yes_or_no(alloc: Global, answer: bool) -> Result<String, AllocError> {
-    format!(in alloc; "{}", if answer { "yes" } else { "no" })
+fn plain(alloc: Global, word: &str) -> anyhow::Result<String> {
+    Ok(String::from_str(alloc, word)?)
+}
+
+/// Another store. The one before isn't freed: those of all cases are few and small.
+fn begin(alloc: Global, run: &mut Run) -> anyhow::Result<String> {
+    forget(replace(run, Run::new(alloc)));
+    plain(alloc, "ok")
+}
+
+fn release(alloc: Global, run: &mut Run, words: &mut Split<'_, char>) -> anyhow::Result<String> {
+    let released = match owner(run, words)? {
+        Some(owner) => run.store.release_owner(owner),
+        None => false,
+    };
+    plain(alloc, if released { "ok" } else { "stale" })
+}
+
+fn is_bound(alloc: Global, run: &Run, words: &mut Split<'_, char>) -> anyhow::Result<String> {
+    yes_or_no(alloc, run.store.is_bound(next_name(words)?))
+}
+
+fn is_listening(alloc: Global, run: &Run, words: &mut Split<'_, char>) -> anyhow::Result<String> {
+    yes_or_no(alloc, run.store.is_listening(next_number(words)?))
+}
+
+fn yes_or_no(alloc: Global, answer: bool) -> anyhow::Result<String> {
+    plain(alloc, if answer { "yes" } else { "no" })
+}
+
+/// Makes the change, and gives what is printed of its answer.
+fn applied<L: Ledgers>(
+    alloc: Global,
+    run: &mut Run,
+    change: Change,
+    work: &mut Work<L>,
+) -> anyhow::Result<String>
+    requires { IsFit change run.old.store }
+{
+    of_change(alloc, run.store.apply(alloc, change, work))
 }
 
 /// A change of one property, or of two.
@@ -78,24 +106,41 @@ fn change_one<L: Ledgers>(
     words: &mut Split<'_, char>,
     work: &mut Work<L>,
 ) -> anyhow::Result<String> {
-    let first = name(next(words)?)?;
-    let answer = match word {
+    let first = next_name(words)?;
+    match word {
         "set" => {
-            let value = value(alloc, next(words)?)?;
-            run.store.apply(alloc, Change::Set(first, value), work)
+            let value = next_value(alloc, words)?;
+            applied(alloc, run, Change::Set(first, value), work)
         }
-        "unbind" => run.store.apply(alloc, Change::Unbind(first), work),
+        "unbind" => applied(alloc, run, Change::Unbind(first), work),
         "pair" => {
-            let second = name(next(words)?)?;
-            run.store.apply(alloc, Change::Pair(first, second), work)
+            let second = next_name(words)?;
+            applied(alloc, run, Change::Pair(first, second), work)
         }
         "unpair" => {
-            let second = name(next(words)?)?;
-            run.store.apply(alloc, Change::Unpair(first, second), work)
+            let second = next_name(words)?;
+            applied(alloc, run, Change::Unpair(first, second), work)
         }
         _ => bail!("no such command"),
-    };
-    Ok(of_change(alloc, answer)?)
+    }
+}
+
+/// What a line asks for of a listener.
+#[derive(Clone, Copy)]
+struct Asked {
+    name: Name,
+    kind: ListenKind,
+    owner: Option<Owner>,
+    tag: u32,
+}
+
+fn read_asked(run: &Run, words: &mut Split<'_, char>) -> anyhow::Result<Asked> {
+    Ok(Asked {
+        name: next_name(words)?,
+        kind: kind(next(words)?)?,
+        owner: owner(run, words)?,
+        tag: next_number(words)?,
+    })
 }
 
 fn listen<L: Ledgers>(
@@ -104,14 +149,9 @@ fn listen<L: Ledgers>(
     words: &mut Split<'_, char>,
     work: &mut Work<L>,
 ) -> anyhow::Result<String> {
-    let name = name(next(words)?)?;
-    let kind = kind(next(words)?)?;
-    let owner = owner(run, words)?;
-    let tag = next(words)?.parse::<u32>()?;
-    let answer = run
-        .store
-        .apply(alloc, Change::Listen(name, kind, owner, tag), work);
-    Ok(of_change(alloc, answer)?)
+    let asked = read_asked(run, words)?;
+    let change = Change::Listen(asked.name, asked.kind, asked.owner, asked.tag);
+    applied(alloc, run, change, work)
 }
 
 fn unlisten<L: Ledgers>(
@@ -120,29 +160,28 @@ fn unlisten<L: Ledgers>(
     words: &mut Split<'_, char>,
     work: &mut Work<L>,
 ) -> anyhow::Result<String> {
-    let name = name(next(words)?)?;
-    let kind = kind(next(words)?)?;
-    let owner = owner(run, words)?;
-    let tag = next(words)?.parse::<u32>()?;
-    let answer = run
-        .store
-        .apply(alloc, Change::Unlisten(name, kind, owner, tag), work);
-    Ok(of_change(alloc, answer)?)
+    let asked = read_asked(run, words)?;
+    let change = Change::Unlisten(asked.name, asked.kind, asked.owner, asked.tag);
+    applied(alloc, run, change, work)
 }
 
-fn forget<L: Ledgers>(
+fn forget_names<L: Ledgers>(
     alloc: Global,
     run: &mut Run,
     words: &mut Split<'_, char>,
     work: &mut Work<L>,
 ) -> anyhow::Result<String> {
+    let names = names(alloc, words)?;
+    applied(alloc, run, Change::Forget(List::from_vec(names)), work)
+}
+
+/// The names that are left of a line.
+fn names(alloc: Global, words: &mut Split<'_, char>) -> anyhow::Result<Vec<Name>> {
     let mut names = Vec::new(alloc);
     for word in words {
         names.push(name(word)?)?;
     }
-    let change = Change::Forget(List::from_vec(names));
-    let answer = run.store.apply(alloc, change, work);
-    Ok(of_change(alloc, answer)?)
+    Ok(names)
 }
 
 fn kind(word: &str) -> anyhow::Result<ListenKind> {
@@ -155,7 +194,7 @@ fn kind(word: &str) -> anyhow::Result<ListenKind> {
 
 /// The owner that was made as this one, from 1 on; none for 0.
 fn owner(run: &Run, words: &mut Split<'_, char>) -> anyhow::Result<Option<Owner>> {
-    let place = next(words)?.parse::<usize>()?;
+    let place = next_number(words)? as usize;
     if place == 0 {
         return Ok(None);
     }
@@ -165,11 +204,11 @@ fn owner(run: &Run, words: &mut Split<'_, char>) -> anyhow::Result<Option<Owner>
     }
 }
 
-fn make_owner(alloc: Global, run: &mut Run) -> Result<String, AllocError> {
+fn make_owner(alloc: Global, run: &mut Run) -> anyhow::Result<String> {
     match run.store.make_owner(alloc) {
         Ok(owner) => {
             run.owners.push(owner)?;
-            format!(in alloc; "owner {}", owner.birth)
+            Ok(format!(in alloc; "owner {}", owner.birth)?)
         }
         Err(error) => of_error(alloc, &error),
     }
@@ -181,11 +220,11 @@ fn declare(
     read_only: bool,
     words: &mut Split<'_, char>,
 ) -> anyhow::Result<String> {
-    let value = value(alloc, next(words)?)?;
+    let value = next_value(alloc, words)?;
     let kind = value.kind();
     match run.store.declare(alloc, kind, read_only, value) {
         Ok(name) => Ok(format!(in alloc; "name {}", name.0)?),
-        Err(error) => Ok(of_error(alloc, &error)?),
+        Err(error) => of_error(alloc, &error),
     }
 }
 
@@ -195,16 +234,13 @@ fn publish<L: Ledgers>(
     words: &mut Split<'_, char>,
     work: &mut Work<L>,
 ) -> anyhow::Result<String> {
-    let name = name(next(words)?)?;
-    let value = value(alloc, next(words)?)?;
+    let name = next_name(words)?;
     if !run.store.is_read_only(name) {
         bail!("only a read-only property is published");
     }
     let mut pairs = Vec::new(alloc);
-    pairs.push((name, value))?;
-    let change = Change::Publish(List::from_vec(pairs));
-    let answer = run.store.apply(alloc, change, work);
-    Ok(of_change(alloc, answer)?)
+    pairs.push((name, next_value(alloc, words)?))?;
+    applied(alloc, run, Change::Publish(List::from_vec(pairs)), work)
 }
 
 fn bind<L: Ledgers>(
@@ -213,17 +249,14 @@ fn bind<L: Ledgers>(
     words: &mut Split<'_, char>,
     work: &mut Work<L>,
 ) -> anyhow::Result<String> {
-    let bound = name(next(words)?)?;
+    let bound = next_name(words)?;
     let parsed = read_expr(alloc, next(words)?)?;
-    let mut operands = Vec::new(alloc);
-    for word in words {
-        operands.push(name(word)?)?;
-    }
+    let operands = names(alloc, words)?;
     if operands.len() != parsed.paths.as_slice().len() {
         bail!("each path has one operand");
     }
     let change = Change::Bind(bound, Formula::new(parsed.expr), List::from_vec(operands));
-    Ok(of_change(alloc, run.store.apply(alloc, change, work))?)
+    applied(alloc, run, change, work)
 }
 
 /// The value, and from where the definition came.
@@ -233,14 +266,10 @@ fn read<L: Ledgers>(
     words: &mut Split<'_, char>,
     work: &mut Work<L>,
 ) -> anyhow::Result<String> {
-    let name = name(next(words)?)?;
+    let name = next_name(words)?;
     match run.store.read(alloc, name, work) {
-        Ok(value) => {
-            let text = of_value(alloc, &value)?;
-            let origin = origin_of(run.store.origin(name));
-            Ok(format!(in alloc; "value {text} {origin}")?)
-        }
-        Err(error) => Ok(of_error(alloc, &error)?),
+        Ok(value) => of_read(alloc, &value, origin_of(run.store.origin(name))),
+        Err(error) => of_error(alloc, &error),
     }
 }
 

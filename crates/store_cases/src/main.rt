@@ -12,6 +12,7 @@ use answers::flags_of;
 use commands::{Run, carry_out};
 use fx_base::{Ledgers, Work};
 use std::marker::Brand;
+use std::mem::forget;
 use std::sync::ledger::Blank;
 
 fn main(rt: HostRuntime) -> anyhow::Result<()> {
@@ -36,14 +37,34 @@ fn play<L: Ledgers, R: Input + Print + AllocGlobal>(
     requires laid { (laid.name ≡ L.laid_name) × (laid.parts ≡ 1) }
     requires painted { (painted.name ≡ L.painted_name) × (painted.parts ≡ 1) }
 {
-    let alloc = rt.alloc();
     let mut work: Work<L> = Work::new(evaluated, styled, laid, painted);
-    let mut run = Run::new(alloc);
-    for line in rt.lines(alloc) {
+    let mut run = Run::new(rt.alloc());
+    let played = play_lines(rt, &mut run, &mut work);
+    // The process ends right after this, so nothing of the store is freed.
+    forget(run);
+    played
+}
+
+fn play_lines<L: Ledgers, R: Input + Print + AllocGlobal>(
+    rt: &R,
+    run: &mut Run,
+    work: &mut Work<L>,
+) -> anyhow::Result<()> {
+    for line in rt.lines(rt.alloc()) {
         let line = line?;
-        let answer = carry_out(alloc, &mut run, line.as_str(), &mut work)?;
-        let flags = flags_of(alloc, &run)?;
-        println!(rt; "{answer} unread {flags}")?;
+        play_line(rt, run, line.as_str(), work)?;
     }
+    Ok(())
+}
+
+fn play_line<L: Ledgers, R: Print + AllocGlobal>(
+    rt: &R,
+    run: &mut Run,
+    line: &str,
+    work: &mut Work<L>,
+) -> anyhow::Result<()> {
+    let answer = carry_out(rt.alloc(), run, line, work)?;
+    let flags = flags_of(rt.alloc(), run)?;
+    println!(rt; "{answer} unread {flags}")?;
     Ok(())
 }

@@ -2,13 +2,29 @@
 use anyhow::bail;
 use fx_base::{Name, Text, Value};
 use std::alloc::Global;
+use std::str::Split;
 
 /// The next word, which must be there.
-pub fn next<'a>(words: &mut std::str::Split<'a, char>) -> anyhow::Result<&'a str> {
+pub fn next<'a>(words: &mut Split<'a, char>) -> anyhow::Result<&'a str> {
     match words.next() {
         Some(word) => Ok(word),
         None => bail!("a word is wanting"),
     }
+}
+
+/// The name that is the next word.
+pub fn next_name(words: &mut Split<'_, char>) -> anyhow::Result<Name> {
+    name(next(words)?)
+}
+
+/// The number that is the next word.
+pub fn next_number(words: &mut Split<'_, char>) -> anyhow::Result<u32> {
+    Ok(next(words)?.parse::<u32>()?)
+}
+
+/// The value that is the next word.
+pub fn next_value(alloc: Global, words: &mut Split<'_, char>) -> anyhow::Result<Value> {
+    value(alloc, next(words)?)
 }
 
 pub fn name(word: &str) -> anyhow::Result<Name> {
@@ -16,7 +32,7 @@ pub fn name(word: &str) -> anyhow::Result<Name> {
 }
 
 /// A number as `i5`, a truth as `b0` or `b1`, a text as `tabc`.
-pub fn value(alloc: Global, word: &str) -> anyhow::Result<Value> {
+fn value(alloc: Global, word: &str) -> anyhow::Result<Value> {
     if let Some(digits) = word.strip_prefix('i') {
         return Ok(Value::Int(digits.parse::<i64>()?));
     }

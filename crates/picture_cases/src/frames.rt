@@ -8,6 +8,7 @@ use fx_canvas::Canvas;
 use fx_damage::damage;
 use fx_picture::{Entry, Picture};
 use std::alloc::{AllocError, Global};
+use std::mem::replace;
 
 #[derive(Drop)]
 pub struct Frames {
@@ -25,7 +26,7 @@ impl Frames {
         })
     }
 
-    pub fn add(&mut self, entry: Entry) -> Result<(), AllocError> {
+    pub fn add(&mut self, entry: Entry) -> anyhow::Result<()> {
         self.entries.push(entry)?;
         Ok(())
     }
@@ -36,16 +37,26 @@ impl Frames {
         alloc: Global,
         work: &mut Work<L>,
     ) -> anyhow::Result<String> {
-        let entries = std::mem::replace(&mut self.entries, Vec::new(alloc));
+        let entries = replace(&mut self.entries, Vec::new(alloc));
         let picture = Picture {
             entries: List::from_vec(entries),
         };
-        let rects = changed(alloc, self.last.as_ref(), &picture, &self.canvas)?;
+        let told = self.paint(alloc, &picture, work);
+        self.last = Some(picture);
+        told
+    }
+
+    fn paint<L: Ledgers>(
+        &mut self,
+        alloc: Global,
+        picture: &Picture,
+        work: &mut Work<L>,
+    ) -> anyhow::Result<String> {
+        let rects = changed(alloc, self.last.as_ref(), picture, &self.canvas)?;
         if !self.canvas.has_all(rects.as_slice()) {
             bail!("a rectangle lies outside the window");
         }
-        self.canvas.repaint(&picture, rects.as_slice(), work);
-        self.last = Some(picture);
+        self.canvas.repaint(picture, rects.as_slice(), work);
         text_of(alloc, rects.as_slice(), checksum(&self.canvas))
     }
 }
@@ -90,12 +101,17 @@ fn is_without(entries: &[Entry], birth: u32) -> bool
 
 fn text_of(alloc: Global, rects: &[Rect], sum: u32) -> anyhow::Result<String> {
     let mut text = String::new(alloc);
-    for rect in rects {
-        let word = format!(in alloc; "{} {} {} {}|", rect.x, rect.y, rect.w, rect.h)?;
-        text.push_str(word.as_str())?;
+    match push_all(&mut text, rects, sum) {
+        Ok(()) => Ok(text),
+        Err(error) => Err(error.into()),
     }
-    text.push_str(format!(in alloc; " {sum}")?.as_str())?;
-    Ok(text)
+}
+
+fn push_all(text: &mut String, rects: &[Rect], sum: u32) -> Result<(), AllocError> {
+    for rect in rects {
+        write!(text, "{} {} {} {}|", rect.x, rect.y, rect.w, rect.h)?;
+    }
+    write!(text, " {sum}")
 }
 
 fn checksum(canvas: &Canvas) -> u32 {

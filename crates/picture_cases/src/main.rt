@@ -15,7 +15,9 @@ use anyhow::bail;
 use frames::Frames;
 use fx_base::{Ledgers, Work};
 use reading::{read_entry, read_size};
+use std::alloc::Global;
 use std::marker::Brand;
+use std::mem::forget;
 use std::sync::ledger::Blank;
 
 fn main(rt: HostRuntime) -> anyhow::Result<()> {
@@ -40,24 +42,49 @@ fn play<L: Ledgers, R: Input + Print + AllocGlobal>(
     requires laid { (laid.name ≡ L.laid_name) × (laid.parts ≡ 1) }
     requires painted { (painted.name ≡ L.painted_name) × (painted.parts ≡ 1) }
 {
-    let alloc = rt.alloc();
     let mut work: Work<L> = Work::new(evaluated, styled, laid, painted);
-    let mut frames = Frames::new(alloc, 1, 1)?;
-    for line in rt.lines(alloc) {
+    let mut frames = Frames::new(rt.alloc(), 1, 1)?;
+    let played = play_lines(rt, &mut frames, &mut work);
+    // The process ends right after this, so nothing of the window is freed.
+    forget(frames);
+    played
+}
+
+fn play_lines<L: Ledgers, R: Input + Print + AllocGlobal>(
+    rt: &R,
+    frames: &mut Frames,
+    work: &mut Work<L>,
+) -> anyhow::Result<()> {
+    for line in rt.lines(rt.alloc()) {
         let line = line?;
-        let (word, rest) = line.as_str().split_once(' ').unwrap_or((line.as_str(), ""));
-        match word {
-            "window" => {
-                let (width, height) = read_size(rest)?;
-                frames = Frames::new(alloc, width, height)?;
-            }
-            "node" => frames.add(read_entry(alloc, rest)?)?,
-            "frame" => {
-                let text = frames.show(alloc, &mut work)?;
-                rt.println(text.as_str())?;
-            }
-            _ => bail!("no such line"),
-        }
+        play_line(rt, frames, line.as_str(), work)?;
     }
+    Ok(())
+}
+
+fn play_line<L: Ledgers, R: Print + AllocGlobal>(
+    rt: &R,
+    frames: &mut Frames,
+    line: &str,
+    work: &mut Work<L>,
+) -> anyhow::Result<()> {
+    let alloc = rt.alloc();
+    let (word, rest) = line.split_once(' ').unwrap_or((line, ""));
+    match word {
+        "window" => begin(alloc, frames, rest),
+        "node" => frames.add(read_entry(alloc, rest)?),
+        "frame" => {
+            let text = frames.show(alloc, work)?;
+            rt.println(text.as_str())?;
+            Ok(())
+        }
+        _ => bail!("no such line"),
+    }
+}
+
+/// A new window of this size.
+fn begin(alloc: Global, frames: &mut Frames, size: &str) -> anyhow::Result<()> {
+    let (width, height) = read_size(size)?;
+    *frames = Frames::new(alloc, width, height)?;
     Ok(())
 }

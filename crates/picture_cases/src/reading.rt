@@ -26,11 +26,12 @@ pub fn read_entry(alloc: Global, line: &str) -> anyhow::Result<Entry> {
     let (head, facts) = line.split_once(';').unwrap_or((line, ""));
     let mut words = head.split(' ');
     let birth = words.next().unwrap_or("").parse::<u32>()?;
-    let path = read_path(alloc, words.next().unwrap_or("-"))?;
+    let path = words.next().unwrap_or("-");
     let rect = read_rect(&mut words)?;
     if !is_near(rect) {
         bail!("a rectangle is far away");
     }
+    let path = read_path(alloc, path)?;
     let mut text = None;
     let look = read_look(alloc, facts, &mut text)?;
     let shapes = shapes(alloc, &look, rect, text.as_ref())?;
@@ -132,20 +133,46 @@ fn read_look(alloc: Global, facts: &str, text: &mut Option<Text>) -> anyhow::Res
         border_insets: Vec::new(alloc),
         border_widths: Vec::new(alloc),
     };
+    match read_pieces(alloc, facts, &mut look, &mut layers, text) {
+        Ok(()) => Ok(with_layers(look, layers)),
+        Err(error) => Err(error),
+    }
+}
+
+fn read_pieces(
+    alloc: Global,
+    facts: &str,
+    look: &mut Look,
+    layers: &mut Layers,
+    text: &mut Option<Text>,
+) -> anyhow::Result<()> {
     for piece in facts.split(';') {
         let (letter, rest) = piece.split_once(' ').unwrap_or((piece, ""));
-        match letter {
-            "" => {}
-            "x" => *text = Some(Text::from_str(alloc, rest)?),
-            "z" => look.font_size = rest.parse::<i64>()?,
-            "a" => look.alignment = rest.parse::<u8>()?,
-            "r" => look.wrap_text = rest == "1",
-            "t" => look.text_fill = read_color(rest)?,
-            "p" => look.padding = read_sides(rest)?,
-            _ => read_layer(&mut layers, letter, rest)?,
+        if letter == "x" {
+            *text = Some(Text::from_str(alloc, rest)?);
+        } else {
+            read_piece(look, layers, letter, rest)?;
         }
     }
-    with_layers(look, layers)
+    Ok(())
+}
+
+fn read_piece(
+    look: &mut Look,
+    layers: &mut Layers,
+    letter: &str,
+    rest: &str,
+) -> anyhow::Result<()> {
+    match letter {
+        "" => {}
+        "z" => look.font_size = rest.parse::<i64>()?,
+        "a" => look.alignment = rest.parse::<u8>()?,
+        "r" => look.wrap_text = rest == "1",
+        "t" => look.text_fill = read_color(rest)?,
+        "p" => look.padding = read_sides(rest)?,
+        _ => read_layer(layers, letter, rest)?,
+    }
+    Ok(())
 }
 
 fn read_layer(layers: &mut Layers, letter: &str, rest: &str) -> anyhow::Result<()> {
@@ -161,7 +188,7 @@ fn read_layer(layers: &mut Layers, letter: &str, rest: &str) -> anyhow::Result<(
 }
 
 /// The look with these lists; what isn't said is as in a new look.
-fn with_layers(mut look: Look, layers: Layers) -> anyhow::Result<Look> {
+fn with_layers(mut look: Look, layers: Layers) -> Look {
     let Layers {
         colors,
         insets,
@@ -180,7 +207,7 @@ fn with_layers(mut look: Look, layers: Layers) -> anyhow::Result<Look> {
     if !border_widths.is_empty() {
         look.border_width = List::from_vec(border_widths);
     }
-    Ok(look)
+    look
 }
 
 fn read_sides(text: &str) -> anyhow::Result<Sides> {

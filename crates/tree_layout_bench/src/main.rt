@@ -13,6 +13,7 @@ use fx_look::Look;
 use std::alloc::{AllocError, Global};
 use std::env;
 use std::marker::Brand;
+use std::mem::forget;
 use std::sync::ledger::Blank;
 
 /// How many children a pane has in the tree of all panes.
@@ -41,69 +42,127 @@ struct Task {
 }
 
 fn main(rt: HostRuntime) -> anyhow::Result<()> {
-    let mut words = env::args(&rt)?;
-    let _program = words.next();
-    let (Some(part), Some(nodes), Some(rounds)) = (words.next(), words.next(), words.next()) else {
-        bail!("usage: tree_layout_bench all|leaf|rows NODES ROUNDS");
-    };
-    let task = Task {
-        part: part_named(part.as_str()),
-        nodes: nodes.as_str().parse::<usize>()?,
-        rounds: rounds.as_str().parse::<u64>()?,
-    };
-    let sum = start::<Brand>(
-        rt.alloc(),
-        task,
+    let words = env::args(&rt)?.collect::<Vec<String>>(rt.alloc())?;
+    start::<Brand, HostRuntime>(
+        &rt,
+        words.as_slice(),
         Blank::new(1),
         Blank::new(1),
         Blank::new(1),
         Blank::new(1),
-    )?;
-    println!(rt; "{sum}")?;
-    Ok(())
+    )
 }
 
-fn start<L: Ledgers>(
-    alloc: Global,
-    task: Task,
+fn start<L: Ledgers, R: Print + AllocGlobal>(
+    rt: &R,
+    words: &[String],
     evaluated: Blank,
     styled: Blank,
     laid: Blank,
     painted: Blank,
-) -> anyhow::Result<i64>
+) -> anyhow::Result<()>
     requires evaluated { (evaluated.name ≡ L.evaluated_name) × (evaluated.parts ≡ 1) }
     requires styled { (styled.name ≡ L.styled_name) × (styled.parts ≡ 1) }
     requires laid { (laid.name ≡ L.laid_name) × (laid.parts ≡ 1) }
     requires painted { (painted.name ≡ L.painted_name) × (painted.parts ≡ 1) }
 {
     let mut work: Work<L> = Work::new(evaluated, styled, laid, painted);
+    tell(rt, words, &mut work)
+}
+
+/// Does what the words of the command line ask for, and prints a checksum.
+fn tell<L: Ledgers, R: Print + AllocGlobal>(
+    rt: &R,
+    words: &[String],
+    work: &mut Work<L>,
+) -> anyhow::Result<()> {
+    let task = task_of(words)?;
+    let sum = carry_out(rt.alloc(), task, work)?;
+    println!(rt; "{sum}")?;
+    Ok(())
+}
+
+/// What the words of the command line ask for.
+fn task_of(words: &[String]) -> anyhow::Result<Task> {
+    let [_, part, nodes, rounds, ..] = words else {
+        bail!("usage: tree_layout_bench all|leaf|rows NODES ROUNDS");
+    };
+    Ok(Task {
+        part: part_named(part.as_str()),
+        nodes: nodes.as_str().parse::<usize>()?,
+        rounds: rounds.as_str().parse::<u64>()?,
+    })
+}
+
+fn carry_out<L: Ledgers>(alloc: Global, task: Task, work: &mut Work<L>) -> anyhow::Result<i64> {
     let nodes = nodes(alloc, task.part, task.nodes)?;
+    let sum = with_nodes(alloc, task, nodes.as_slice(), work);
+    // The process ends right after this, so the nodes, and what is made for them below, aren't freed.
+    forget(nodes);
+    sum
+}
+
+fn with_nodes<L: Ledgers>(
+    alloc: Global,
+    task: Task,
+    nodes: &[BoxFacts],
+    work: &mut Work<L>,
+) -> anyhow::Result<i64> {
     let mut looks = looks(alloc, nodes.len())?;
-    if !can_be_laid(nodes.as_slice()) || looks.len() != nodes.len() {
+    let sum = with_looks(alloc, task, nodes, &mut looks, work);
+    forget(looks);
+    sum
+}
+
+fn with_looks<L: Ledgers>(
+    alloc: Global,
+    task: Task,
+    nodes: &[BoxFacts],
+    looks: &mut Vec<Look>,
+    work: &mut Work<L>,
+) -> anyhow::Result<i64> {
+    let all = places(alloc, nodes.len())?;
+    let mut layouts = Layouts::new(alloc);
+    let done = lay_out(
+        alloc,
+        task,
+        nodes,
+        looks,
+        all.as_slice(),
+        &mut layouts,
+        work,
+    );
+    let sum = checksum(layouts.rects());
+    forget(layouts);
+    done?;
+    Ok(sum)
+}
+
+/// Lays out all nodes, and then those of the task so many times.
+fn lay_out<L: Ledgers>(
+    alloc: Global,
+    task: Task,
+    nodes: &[BoxFacts],
+    looks: &mut Vec<Look>,
+    all: &[usize],
+    layouts: &mut Layouts,
+    work: &mut Work<L>,
+) -> anyhow::Result<()> {
+    if !can_be_laid(nodes) || looks.len() != nodes.len() {
         bail!("too many nodes, or none");
     }
-    let all = places(alloc, nodes.len())?;
+    layouts.update(alloc, nodes, looks.as_slice(), None, all, work)?;
     let chain = chain(alloc, nodes.len())?;
-    let mut layouts = Layouts::new(alloc);
-    let slice = nodes.as_slice();
-    layouts.update(
-        alloc,
-        slice,
-        looks.as_slice(),
-        None,
-        all.as_slice(),
-        &mut work,
-    )?;
     for round in 0..task.rounds {
-        let first = first_changed(task.part, slice.len());
-        widen(task.part, first, &mut looks, round % 2 == 0);
+        let first = first_changed(task.part, nodes.len());
+        widen(task.part, first, looks, round % 2 == 0);
         let listed = match task.part {
             Part::Leaf => chain.as_slice(),
-            _ => all.as_slice(),
+            _ => all,
         };
-        layouts.update(alloc, slice, looks.as_slice(), None, listed, &mut work)?;
+        layouts.update(alloc, nodes, looks.as_slice(), None, listed, work)?;
     }
-    Ok(checksum(layouts.rects()))
+    Ok(())
 }
 
 fn part_named(name: &str) -> Part {

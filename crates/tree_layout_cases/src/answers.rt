@@ -2,7 +2,7 @@
 use crate::updates::Update;
 use anyhow::bail;
 use fx_base::{Ledgers, Rect, Work};
-use fx_layout::{Layouts, can_be_laid};
+use fx_layout::{Layouts, Updated, can_be_laid};
 use std::alloc::{AllocError, Global};
 
 /// The line that is printed of an update.
@@ -22,15 +22,21 @@ pub fn answer<L: Ledgers>(
     }
     let listed = update.listed.as_slice();
     let told = layouts.update_telling(alloc, nodes, looks, update.window, listed, work)?;
-    let mut text = format!(in alloc; "{}x{} laid {}", told.size.0, told.size.1, told.laid)?;
-    push_rects(alloc, layouts.rects(), &mut text)?;
-    Ok(text)
+    told_text(alloc, &told, layouts.rects())
 }
 
-fn push_rects(alloc: Global, rects: &[Rect], text: &mut String) -> Result<(), AllocError> {
+fn told_text(alloc: Global, told: &Updated, rects: &[Rect]) -> anyhow::Result<String> {
+    let mut text = String::new(alloc);
+    match push_told(&mut text, told, rects) {
+        Ok(()) => Ok(text),
+        Err(error) => Err(error.into()),
+    }
+}
+
+fn push_told(text: &mut String, told: &Updated, rects: &[Rect]) -> Result<(), AllocError> {
+    write!(text, "{}x{} laid {}", told.size.0, told.size.1, told.laid)?;
     for rect in rects {
-        let word = format!(in alloc; " {} {} {} {}", rect.x, rect.y, rect.w, rect.h)?;
-        text.push_str(word.as_str())?;
+        write!(text, " {} {} {} {}", rect.x, rect.y, rect.w, rect.h)?;
     }
     Ok(())
 }

@@ -17,6 +17,7 @@ use answers::answer;
 use fx_base::{Ledgers, Work};
 use fx_layout::Layouts;
 use std::marker::Brand;
+use std::mem::forget;
 use std::sync::ledger::Blank;
 use updates::read_update;
 
@@ -42,14 +43,34 @@ fn play<L: Ledgers, R: Input + Print + AllocGlobal>(
     requires laid { (laid.name ≡ L.laid_name) × (laid.parts ≡ 1) }
     requires painted { (painted.name ≡ L.painted_name) × (painted.parts ≡ 1) }
 {
-    let alloc = rt.alloc();
     let mut work: Work<L> = Work::new(evaluated, styled, laid, painted);
-    let mut layouts = Layouts::new(alloc);
-    for line in rt.lines(alloc) {
+    let mut layouts = Layouts::new(rt.alloc());
+    let played = play_lines(rt, &mut layouts, &mut work);
+    // The process ends right after this, so nothing that is kept is freed.
+    forget(layouts);
+    played
+}
+
+fn play_lines<L: Ledgers, R: Input + Print + AllocGlobal>(
+    rt: &R,
+    layouts: &mut Layouts,
+    work: &mut Work<L>,
+) -> anyhow::Result<()> {
+    for line in rt.lines(rt.alloc()) {
         let line = line?;
-        let update = read_update(alloc, line.as_str())?;
-        let text = answer(alloc, &update, &mut layouts, &mut work)?;
-        rt.println(text.as_str())?;
+        play_line(rt, layouts, line.as_str(), work)?;
     }
+    Ok(())
+}
+
+fn play_line<L: Ledgers, R: Print + AllocGlobal>(
+    rt: &R,
+    layouts: &mut Layouts,
+    line: &str,
+    work: &mut Work<L>,
+) -> anyhow::Result<()> {
+    let update = read_update(rt.alloc(), line)?;
+    let text = answer(rt.alloc(), &update, layouts, work)?;
+    rt.println(text.as_str())?;
     Ok(())
 }

@@ -32,15 +32,28 @@ pub fn read_node(alloc: Global, text: &str) -> anyhow::Result<(BoxFacts, Look)> 
     let mut words = head.split(' ');
     let mut node = new_node(alloc, &mut words)?;
     let mut look = Look::initial(alloc, 0)?;
+    match read_facts(alloc, &mut words, rest, &mut node, &mut look) {
+        Ok(()) => Ok((node, look)),
+        Err(error) => Err(error),
+    }
+}
+
+fn read_facts(
+    alloc: Global,
+    words: &mut Split<'_, char>,
+    rest: &str,
+    node: &mut BoxFacts,
+    look: &mut Look,
+) -> anyhow::Result<()> {
     for word in words {
         let (letter, number) = split_fact(word)?;
-        set_fact(&mut node, &mut look, letter, number);
+        set_fact(node, look, letter, number);
     }
-    if !rest.is_empty() {
-        read_pieces(alloc, rest, &mut node)?;
-        read_borders(alloc, rest, &mut look)?;
+    if rest.is_empty() {
+        return Ok(());
     }
-    Ok((node, look))
+    read_pieces(alloc, rest, node)?;
+    read_borders(alloc, rest, look)
 }
 
 fn new_node(alloc: Global, words: &mut Split<'_, char>) -> anyhow::Result<BoxFacts> {
@@ -146,43 +159,80 @@ fn set_look(look: &mut Look, letter: u8, number: i64) {
     }
 }
 
+/// The lists of a node, as far as they are read.
+#[derive(Drop)]
+struct Lists {
+    columns: Vec<Track>,
+    rows: Vec<Track>,
+    constraints: Vec<Constraint>,
+}
+
 fn read_pieces(alloc: Global, rest: &str, node: &mut BoxFacts) -> anyhow::Result<()> {
-    let mut columns = Vec::new(alloc);
-    let mut rows = Vec::new(alloc);
-    let mut constraints = Vec::new(alloc);
+    let mut lists = Lists {
+        columns: Vec::new(alloc),
+        rows: Vec::new(alloc),
+        constraints: Vec::new(alloc),
+    };
+    let read = read_lists(alloc, rest, node, &mut lists);
+    node.columns = List::from_vec(lists.columns);
+    node.rows = List::from_vec(lists.rows);
+    node.constraints = List::from_vec(lists.constraints);
+    read
+}
+
+fn read_lists(
+    alloc: Global,
+    rest: &str,
+    node: &mut BoxFacts,
+    lists: &mut Lists,
+) -> anyhow::Result<()> {
     for piece in rest.split(';') {
         let (word, facts) = piece.split_once(' ').unwrap_or((piece, ""));
         match word {
             "text" => node.text = Text::from_str(alloc, facts)?,
-            "column" => columns.push(read_track(facts)?)?,
-            "row" => rows.push(read_track(facts)?)?,
+            "column" => lists.columns.push(read_track(facts)?)?,
+            "row" => lists.rows.push(read_track(facts)?)?,
             "border" => {}
-            _ => constraints.push(read_constraint(alloc, word, facts)?)?,
+            _ => lists
+                .constraints
+                .push(read_constraint(alloc, word, facts)?)?,
         }
     }
-    node.columns = List::from_vec(columns);
-    node.rows = List::from_vec(rows);
-    node.constraints = List::from_vec(constraints);
     Ok(())
+}
+
+/// The layers of a border, as far as they are read.
+#[derive(Drop)]
+struct Layers {
+    colors: Vec<Color>,
+    widths: Vec<Sides>,
+    insets: Vec<Sides>,
 }
 
 /// The layers of a border.
 fn read_borders(alloc: Global, rest: &str, look: &mut Look) -> anyhow::Result<()> {
-    let mut colors = Vec::new(alloc);
-    let mut widths = Vec::new(alloc);
-    let mut insets = Vec::new(alloc);
+    let mut layers = Layers {
+        colors: Vec::new(alloc),
+        widths: Vec::new(alloc),
+        insets: Vec::new(alloc),
+    };
+    let read = read_layers(rest, &mut layers);
+    look.border_color = List::from_vec(layers.colors);
+    look.border_width = List::from_vec(layers.widths);
+    look.border_insets = List::from_vec(layers.insets);
+    read
+}
+
+fn read_layers(rest: &str, layers: &mut Layers) -> anyhow::Result<()> {
     for piece in rest.split(';') {
         let (word, facts) = piece.split_once(' ').unwrap_or((piece, ""));
         if word == "border" {
             let mut numbers = facts.split(' ');
-            colors.push(BLACK)?;
-            widths.push(read_sides(&mut numbers)?)?;
-            insets.push(read_sides(&mut numbers)?)?;
+            layers.colors.push(BLACK)?;
+            layers.widths.push(read_sides(&mut numbers)?)?;
+            layers.insets.push(read_sides(&mut numbers)?)?;
         }
     }
-    look.border_color = List::from_vec(colors);
-    look.border_width = List::from_vec(widths);
-    look.border_insets = List::from_vec(insets);
     Ok(())
 }
 

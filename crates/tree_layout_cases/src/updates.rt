@@ -28,12 +28,19 @@ pub fn read_update(alloc: Global, line: &str) -> anyhow::Result<Update> {
         nodes: Vec::new(alloc),
         looks: Vec::new(alloc),
     };
-    for text in rest.split('|') {
-        let (node, look) = read_node(alloc, text)?;
+    match read_nodes(alloc, rest, &mut update) {
+        Ok(()) => Ok(update),
+        Err(error) => Err(error),
+    }
+}
+
+fn read_nodes(alloc: Global, text: &str, update: &mut Update) -> anyhow::Result<()> {
+    for part in text.split('|') {
+        let (node, look) = read_node(alloc, part)?;
         update.nodes.push(node)?;
         update.looks.push(look)?;
     }
-    Ok(update)
+    Ok(())
 }
 
 fn read_window(word: &str) -> anyhow::Result<Option<(u32, u32)>> {

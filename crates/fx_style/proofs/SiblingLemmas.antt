@@ -1,6 +1,5 @@
 -- A node that is like the sibling before it has the style that was made of that, with its own bound lengths.
 use Rattle.std.proofs.Common.{◌≡◌, ◌∷◌, ◌<◌, ℕ, Bool, true, List, Option, Some, filter_map, length, sym, ◌∙◌, ap, arith}
-use Rattle.std.specs.Prelude.{slice_get}
 use Rattle.std.proofs.lemmas.Option.{slice_get_within}
 use Rattle.fx_look.specs.declared.looks.Look.{Look}
 use Rattle.fx_kinds.specs.declared.facts.StyleFacts.{StyleFacts}
@@ -13,7 +12,7 @@ use Rattle.fx_style.specs.declared.kept.Entry.{Entry}
 use Rattle.fx_style.specs.declared.kept.Fresh.{Fresh}
 use Rattle.fx_style.specs.declared.kept.Rest.{Rest}
 use Rattle.fx_base.specs.Answers.{or_else}
-use Rattle.fx_style.specs.Kept.{entry_in, fresh_at, is_among, kept_at, style_of_entry}
+use Rattle.fx_style.specs.Kept.{entry_in, is_among, kept_at, style_of_entry}
 use Rattle.fx_style.specs.Lasts.{rewritten}
 use Rattle.fx_style.specs.Places.{parent_at, places_up}
 use Rattle.fx_style.specs.Rules.{anew, chain_style, renewed, renewed_by}

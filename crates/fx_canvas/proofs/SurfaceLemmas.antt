@@ -1,15 +1,13 @@
 -- Rows of one length, new and changed.
-use Rattle.std.proofs.Common.{◌≡◌, ◌<◌, ◌≤◌, ◌+◌, ◌^◌, ◌&&◌, ◌+ℤ◌, ◌≤ℤ◌, ℕ, ℤ, pos, suc, zero, Bool, true, false, List, [], ◌∷◌, length, get_or, set, replicate, refl, sym, ap, subst, ◌∙◌, inl, inr, arith}
+use Rattle.std.proofs.Common.{◌≡◌, ◌<◌, ◌≤◌, ◌^◌, ◌&&◌, ◌+ℤ◌, ◌≤ℤ◌, ℕ, ℤ, pos, suc, zero, Bool, true, false, List, [], ◌∷◌, length, get_or, replicate, refl, sym, ap, subst, ◌∙◌, arith}
 use Rattle.std.specs.Prelude.{All, int_le}
 use Rattle.std.specs.List.{list_all}
-use Rattle.std.proofs.lemmas.Bool.{cases_eq}
 use Rattle.std.proofs.lemmas.Int.{ints}
-use Rattle.std.proofs.lemmas.List.{get_or-set_same, get_or-set_other}
 use Rattle.std.proofs.lemmas.List.Elements.{All-nil, All-cons}
 use Rattle.fx_base.specs.Pixel.{white}
 use Rattle.fx_base.specs.declared.geometry.Rect.{Rect}
 use Rattle.fx_canvas.specs.Painting.{FitsIn, HaveOneSize}
-use Rattle.fx_canvas.specs.Surfaces.{AreBytes, IsSurface, Line, Surface, lies_in, no_line, pixel_at, row_at, white_line}
+use Rattle.fx_canvas.specs.Surfaces.{AreBytes, IsSurface, Line, Surface, lies_in, pixel_at, row_at, white_line}
 use Rattle.fx_picture.specs.Bounds.{bounds_of}
 
 pub any_line : (rows : List Line) (i : ℕ) (d e : Line) → i < length rows → get_or rows i d ≡ get_or rows i e
@@ -77,23 +75,6 @@ surface_sized s rows is same small = record {
 }
 
 -- ---- a row is printed anew
-pub pixels_kept : (rows : List Line) (i : ℕ) (old new : Line) → i < length rows → new.pixels ≡ (get_or rows i old).pixels
-    → (y : ℕ) → (row_at (set rows i new) y).pixels ≡ (row_at rows y).pixels
-pixels_kept rows i old new within same y = elim (cases_eq y i) [
-  | inl e ↦ (let P : ℕ → Type 0 = λ k. (row_at (set rows i new) k).pixels ≡ (row_at rows k).pixels in
-      subst P (sym e) (ap (λ (k : Line). k.pixels) (get_or-set_same rows i new no_line within)
-      ∙ (same ∙ ap (λ (k : Line). k.pixels) (any_line rows i old no_line within))))
-  | inr n ↦ ap (λ (k : Line). k.pixels) (get_or-set_other rows i y new no_line n)
-]
-
-pub fresh_more : (rows : List Line) (i : ℕ) (new : Line) → i < length rows → new.stale ≡ false
-    → ((y : ℕ) → y < i → (row_at rows y).stale ≡ false) → (y : ℕ) → y < i + 1 → (row_at (set rows i new) y).stale ≡ false
-fresh_more rows i new within fresh before y l = elim (cases_eq y i) [
-  | inl e ↦ (let P : ℕ → Type 0 = λ k. (row_at (set rows i new) k).stale ≡ false in
-      subst P (sym e) (ap (λ (k : Line). k.stale) (get_or-set_same rows i new no_line within) ∙ fresh))
-  | inr n ↦ ap (λ (k : Line). k.stale) (get_or-set_other rows i y new no_line n) ∙ before y (omega (arith, l, n))
-]
-
 pub sizes_kept : (old new : List Line) → length new ≡ length old → ((y : ℕ) → (row_at new y).pixels ≡ (row_at old y).pixels) → HaveOneSize old new
 sizes_kept old new long same = record { down = long; across = λ y. ap (λ (l : List ℕ). length l) (same y) }
 

@@ -215,8 +215,13 @@ fn refresh_all(rows: &mut [Row]) -> Result<(), AllocError>
     ensures fresh { OnOk result ((y : ℕ) → y < length rows.old → (spec.row_at rows.new y).stale ≡ false) }
     ensures pixels { (y : ℕ) → (spec.row_at rows.new y).pixels ≡ (spec.row_at rows.old y).pixels }
 {
-    for row in rows.iter_mut() {
-        row.refresh()?;
+    if rows.is_empty() {
+        return Ok(());
+    }
+    rows[0].refresh()?;
+    for y in 1..rows.len() {
+        let (above, below) = rows.split_at_mut(y);
+        below[0].refresh_below(&above[y - 1])?;
     }
     Ok(())
 }

@@ -7,6 +7,7 @@ ghost use Rattle.fx_picture.specs.Shapes.{bounds, color_of, holds};
 ghost use Rattle.fx_row_text.specs.Rows.{row_text};
 
 use fx_base::Steps;
+use fx_lanes::equal;
 use fx_pens::{Brush, Columns, Pen, Stamp, lay_span, lay_stamp};
 use fx_row_text::print_row;
 use std::alloc::{AllocError, Global};
@@ -119,6 +120,22 @@ impl Row {
             print_row(&mut self.text, self.pixels.as_slice())?;
             self.stale = false;
         }
+        Ok(())
+    }
+
+    /// Makes the text anew where it is stale: where the row shows what a fresh row shows, its text is a copy of that
+    /// row's. Want of memory leaves it stale.
+    pub(crate) fn refresh_below(&mut self, above: &Row) -> Result<(), AllocError>
+        requires { above.now.stale ≡ false }
+        ensures fresh { OnOk result (self.new.stale ≡ false) }
+        ensures pixels { self.new.pixels ≡ self.old.pixels }
+    {
+        if !self.stale || !equal(self.pixels(), above.pixels()) {
+            return self.refresh();
+        }
+        self.text.clear();
+        self.text.extend_from_slice(above.text())?;
+        self.stale = false;
         Ok(())
     }
 

@@ -1,87 +1,181 @@
-//! Printing a row. Equal pixels one after another are printed from one text.
-ghost use Rattle.std.specs.Prelude.{◌≡◌, ◌∷◌, ◌≤◌, ◌==◌, OnOk, length};
-ghost use Rattle.std.specs.List.{flat_map, prefix_len};
-ghost use Rattle.fx_text.specs.Characters.{space};
+//! Printing a row. A text of as many bytes is made first, and then written: each pixel is a word of eight bytes, whose
+//! last one lies where the next word begins.
+ghost use Rattle.std.specs.Prelude.{◌≡◌, ◌∷◌, ◌++◌, ◌+◌, ◌*◌, ◌≤◌, ◌<◌, ◌↔◌, [], IsTrue, OnOk, drop, length, replicate, slice_index, take};
+ghost use Rattle.fx_text.specs.Characters.{line_feed, space};
 ghost use Rattle.fx_row_text.specs.Appending.{Appends};
-ghost use Rattle.fx_row_text.specs.Rows.{copies, pixel_text, pixels_text, row_text, spaced_text};
+ghost use Rattle.fx_row_text.specs.Rows.{pixel_text, row_text, spaced_text};
+ghost use Rattle.fx_row_text.specs.Writing.{IsWritten};
 
 use fx_text::hex_digit;
 use std::alloc::AllocError;
+use std::simd::prelude::*;
+
+/// A pixel's text behind a space, and a byte more.
+#[derive(Clone, Copy)]
+struct Spaced {
+    pixel: u32,
+    text: u8x8,
+    ghost long: { length text ≡ 8 },
+    ghost tells: { take 7 text ≡ space ∷ pixel_text pixel },
+}
 
 /// Makes the text that of a row of pixels, each 0x00RRGGBB, with a line feed. It keeps its room, so a text that was
 /// as long takes no memory.
 pub fn print_row(text: &mut Vec<u8>, row: &[u32]) -> Result<(), AllocError>
     ensures { OnOk result (text.new.items ≡ row_text row.now) }
 {
-    text.clear();
-    append_row(text, row)
+    text.resize(text_length(row), b' ')?;
+    write_row(text.as_mut_slice(), row);
+    Ok(())
 }
 
 /// Appends a row of pixels, each 0x00RRGGBB, and a line feed. Where memory is wanting, a part of it stands there.
-#[tactic(auto, unfolding(crate::specs::Rows::row_text))]
 pub fn append_row(text: &mut Vec<u8>, row: &[u32]) -> Result<(), AllocError>
     ensures { Appends text.old.items text.new.items result (row_text row.now) }
 {
-    print_pixels(text, row)?;
-    text.push(b'\n')?;
+    let start = text.len();
+    let Some(end) = start.checked_add(text_length(row)) else {
+        return Err(AllocError);
+    };
+    text.resize(end, b' ')?;
+    write_row(&mut text.as_mut_slice()[start..], row);
     Ok(())
 }
 
-fn print_pixels(text: &mut Vec<u8>, row: &[u32]) -> Result<(), AllocError>
-    ensures { Appends text.old.items text.new.items result (pixels_text row.now) }
+/// How long the text of a row is: seven bytes a pixel.
+fn text_length(row: &[u32]) -> usize
+    ensures { result ≡ length (row_text row.now) }
+{
+    match row.len() {
+        0 => 1,
+        count => 7 * count,
+    }
+}
+
+/// Writes the text of a row over one that is as long.
+fn write_row(text: &mut [u8], row: &[u32])
+    requires { length text.old ≡ length (row_text row.now) }
+    ensures { text.new ≡ row_text row.now }
 {
     match row {
         [first, rest @ ..] => {
-            text.extend_from_slice(&pixel_digits(*first))?;
-            print_behind(text, rest)
+            let (front, behind) = text.split_at_mut(6);
+            front.copy_from_slice(&pixel_digits(*first));
+            write_behind(behind, rest);
         }
-        [] => Ok(()),
+        [] => text[0] = b'\n',
     }
 }
 
-/// Each pixel behind a space. Equal pixels one after another are printed from one text.
-fn print_behind(text: &mut Vec<u8>, row: &[u32]) -> Result<(), AllocError>
-    ensures { Appends text.old.items text.new.items result (spaced_text row.now) }
+/// Each pixel behind a space, and the line feed. Two colours often take turns, so what was made for a run serves the
+/// run after the next one.
+fn write_behind(text: &mut [u8], row: &[u32])
+    requires { length text.old ≡ 7 * length row.now + 1 }
+    ensures { text.new ≡ spaced_text row.now ++ (line_feed ∷ []) }
 {
-    let mut rest = row;
-    while let Some((pixel, others)) = rest.split_first() {
-        let equal = equal_count(*pixel, others);
-        print_run(text, *pixel, equal + 1)?;
-        rest = others.split_at(equal).1;
+    let mut last = spaced_pixel(0);
+    let mut other = last;
+    let mut at = 0;
+    while at < row.len() {
+        let next = spaced_again(row[at], other);
+        other = last;
+        last = next;
+        at = write_run(text, row, at, next);
     }
-    Ok(())
+    text[7 * row.len()] = b'\n';
 }
 
-/// How many pixels in front of the row are this one.
-fn equal_count(pixel: u32, row: &[u32]) -> usize
-    ensures count { result ≡ prefix_len (λ p. p == pixel) row.now }
-    ensures within { result ≤ length row.now }
+/// Writes the pixels that are like one, from it on.
+#[inline(always)]
+fn write_run(text: &mut [u8], row: &[u32], from: usize, spaced: Spaced) -> usize
+    requires written { IsWritten text.old row.now from }
+    requires within { from < length row.now }
+    requires pixel { slice_index row.now from ≡ spaced.pixel }
+    ensures written { IsWritten text.new row.now result }
+    ensures more { from < result }
 {
-    row.iter().take_while(|other| **other == pixel).count()
-}
-
-/// So many equal pixels, each behind a space.
-fn print_run(text: &mut Vec<u8>, pixel: u32, count: usize) -> Result<(), AllocError>
-    ensures { Appends text.old.items text.new.items result (copies count (space ∷ pixel_text pixel)) }
-{
-    let eight = eight_times(spaced_digits(pixel));
-    let mut left = count;
-    while left > 8 {
-        text.extend_from_slice(&eight)?;
-        left -= 8;
+    write_pixel(text, from, spaced);
+    let mut at = write_blocks(text, row, from + 1, spaced);
+    while at < row.len() && row[at] == spaced.pixel {
+        write_pixel(text, at, spaced);
+        at += 1;
     }
-    text.extend_from_slice(&eight[..7 * left])?;
-    Ok(())
+    at
 }
 
-fn eight_times(text: [u8; 7]) -> [u8; 56]
-    ensures { result ≡ copies 8 text }
+/// Writes eight pixels at a time, as long as all of them are like one.
+#[inline(always)]
+fn write_blocks(text: &mut [u8], row: &[u32], from: usize, spaced: Spaced) -> usize
+    requires { IsWritten text.old row.now from }
+    ensures written { IsWritten text.new row.now result }
+    ensures more { from ≤ result }
 {
-    let [a, b, c, d, e, f, g] = text;
-    [
-        a, b, c, d, e, f, g, a, b, c, d, e, f, g, a, b, c, d, e, f, g, a, b, c, d, e, f, g, a, b,
-        c, d, e, f, g, a, b, c, d, e, f, g, a, b, c, d, e, f, g, a, b, c, d, e, f, g,
-    ]
+    let mut at = from;
+    while is_block(row, at, spaced.pixel) {
+        write_block(text, at, spaced);
+        at += 8;
+    }
+    at
+}
+
+/// Whether the next eight pixels are all this one.
+#[inline(always)]
+fn is_block(row: &[u32], at: usize, pixel: u32) -> bool
+    requires { at ≤ length row.now }
+    ensures { IsTrue result ↔ ((at + 8 ≤ length row.now) × (take 8 (drop at row.now) ≡ replicate 8 pixel)) }
+{
+    row.len() - at >= 8 && row[at + 7] == pixel && is_filled(u32x8::from_slice(&row[at..]), pixel)
+}
+
+/// Whether all lanes are this pixel.
+#[inline(always)]
+fn is_filled(lanes: u32x8, pixel: u32) -> bool
+    ensures { IsTrue result ↔ (lanes ≡ replicate 8 pixel) }
+{
+    lanes.simd_eq(u32x8::splat(pixel)).all()
+}
+
+/// Writes eight equal pixels.
+#[inline(always)]
+fn write_block(text: &mut [u8], at: usize, spaced: Spaced)
+    requires { 7 * (at + 8) < length text.old }
+    ensures long { length text.new ≡ length text.old }
+    ensures front { take (7 * (at + 8)) text.new
+        ≡ take (7 * at) text.old ++ spaced_text (replicate 8 spaced.pixel) }
+{
+    for i in 0..8 {
+        write_pixel(text, at + i, spaced);
+    }
+}
+
+/// Writes a pixel behind a space. The byte behind it is no longer what it was.
+#[inline(always)]
+fn write_pixel(text: &mut [u8], at: usize, spaced: Spaced)
+    requires { 7 * (at + 1) < length text.old }
+    ensures long { length text.new ≡ length text.old }
+    ensures front { take (7 * (at + 1)) text.new ≡ take (7 * at) text.old ++ (space ∷ pixel_text spaced.pixel) }
+{
+    spaced.text.copy_to_slice(&mut text[7 * at..]);
+}
+
+/// A pixel's text, which is made only if it isn't the one that was kept.
+#[inline(always)]
+fn spaced_again(pixel: u32, kept: Spaced) -> Spaced
+    ensures { result.pixel ≡ pixel }
+{
+    if kept.pixel == pixel {
+        return kept;
+    }
+    spaced_pixel(pixel)
+}
+
+/// A pixel's text, made anew.
+fn spaced_pixel(pixel: u32) -> Spaced
+    ensures { result.pixel ≡ pixel }
+{
+    let [a, b, c, d, e, f] = pixel_digits(pixel);
+    let text = u8x8::from_array([b' ', a, b, c, d, e, f, b' ']);
+    Spaced { pixel, text }
 }
 
 #[tactic(auto, unfolding(crate::specs::Rows::pixel_text))]
@@ -99,11 +193,4 @@ fn pixel_digits(pixel: u32) -> [u8; 6]
         hex_digit(blue / 16),
         hex_digit(blue % 16),
     ]
-}
-
-fn spaced_digits(pixel: u32) -> [u8; 7]
-    ensures { result ≡ space ∷ pixel_text pixel }
-{
-    let [a, b, c, d, e, f] = pixel_digits(pixel);
-    [b' ', a, b, c, d, e, f]
 }

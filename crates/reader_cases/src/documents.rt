@@ -26,38 +26,40 @@ fn write_element(out: &mut String, element: &Element) -> anyhow::Result<()> {
     Ok(())
 }
 
-fn outline(alloc: Global, document: &Document) -> anyhow::Result<String> {
-    let mut out = String::new(alloc);
+fn write_outline(out: &mut String, document: &Document) -> anyhow::Result<()> {
     for import in document.imports.as_slice() {
         write!(out, "import[{}]", import.as_str())?;
     }
-    write_element(&mut out, &document.root)?;
-    Ok(out)
+    write_element(out, &document.root)
 }
 
 /// What is read of the bytes.
-pub fn document(alloc: Global, bytes: &[u8]) -> anyhow::Result<String> {
+pub fn write_document(alloc: Global, bytes: &[u8], out: &mut String) -> anyhow::Result<()> {
     if bytes.len() > 4_194_304 {
         bail!("the document is too long");
     }
     match read_document(alloc, bytes) {
-        Ok(document) => outline(alloc, &document),
-        Err(DocError::NotUtf8(valid)) => Ok(format!(in alloc; "notutf8 {valid}")?),
-        Err(DocError::Markup(at)) => Ok(format!(in alloc; "markup {}:{}", at.line, at.column)?),
-        Err(DocError::Depth(at)) => Ok(format!(in alloc; "depth {}:{}", at.line, at.column)?),
-        Err(DocError::Long(at)) => Ok(format!(in alloc; "long {}:{}", at.line, at.column)?),
-        Err(DocError::Memory) => Err(DocError::Memory.into()),
+        Ok(document) => write_outline(out, &document),
+        Err(error) => write_error(out, error),
     }
 }
 
-/// What is read of each text that this one begins with, but for itself.
-pub fn prefixes(alloc: Global, bytes: &[u8]) -> anyhow::Result<String> {
-    let mut out = String::new(alloc);
-    let mut prefix = Vec::new(alloc);
-    for byte in bytes {
-        out.push_str(document(alloc, prefix.as_slice())?.as_str())?;
-        out.push_str(";")?;
-        prefix.push(*byte)?;
+fn write_error(out: &mut String, error: DocError) -> anyhow::Result<()> {
+    match error {
+        DocError::NotUtf8(valid) => write!(out, "notutf8 {valid}")?,
+        DocError::Markup(at) => write!(out, "markup {}:{}", at.line, at.column)?,
+        DocError::Depth(at) => write!(out, "depth {}:{}", at.line, at.column)?,
+        DocError::Long(at) => write!(out, "long {}:{}", at.line, at.column)?,
+        DocError::Memory => bail!("out of memory"),
     }
-    Ok(out)
+    Ok(())
+}
+
+/// What is read of each text that this one begins with, but for itself.
+pub fn write_prefixes(alloc: Global, bytes: &[u8], out: &mut String) -> anyhow::Result<()> {
+    for end in 0..bytes.len() {
+        write_document(alloc, &bytes[..end], out)?;
+        out.push_str(";")?;
+    }
+    Ok(())
 }

@@ -3,18 +3,24 @@
 ghost use Rattle.std.specs.Prelude.{◌<◌, IfOk};
 
 use anyhow::bail;
-use std::alloc::{AllocError, Global};
+use std::alloc::Global;
+use std::fmt::Write;
 
 pub fn bytes_of(alloc: Global, line: &str) -> anyhow::Result<Vec<u8>> {
     let mut bytes = Vec::new(alloc);
+    read_bytes(line, &mut bytes)?;
+    Ok(bytes)
+}
+
+fn read_bytes(line: &str, bytes: &mut Vec<u8>) -> anyhow::Result<()> {
     let mut parts = line.split('\\');
     if let Some(first) = parts.next() {
         bytes.extend_from_slice(first.as_bytes())?;
     }
     for part in parts {
-        push_escaped(&mut bytes, part.as_bytes())?;
+        push_escaped(bytes, part.as_bytes())?;
     }
-    Ok(bytes)
+    Ok(())
 }
 
 /// What stands behind a `\`, up to the next.
@@ -45,18 +51,22 @@ fn digit(letter: u8) -> anyhow::Result<u8>
     }
 }
 
-/// The bytes as they are written in one line: what is not a printed sign of ASCII is escaped.
-pub fn escaped(alloc: Global, bytes: &[u8]) -> Result<String, AllocError> {
-    let mut text = String::new(alloc);
+/// Writes the bytes in one line: what is not a printed sign of ASCII is escaped.
+pub fn write_escaped(out: &mut String, bytes: &[u8]) -> anyhow::Result<()> {
     for byte in bytes {
-        match *byte {
-            b'\n' => text.push_str("\\n")?,
-            b'\r' => text.push_str("\\r")?,
-            b'\t' => text.push_str("\\t")?,
-            b'\\' => text.push_str("\\b")?,
-            b' '..=b'~' => text.push(char::from(*byte))?,
-            other => text.push_str(format!(in alloc; "\\x{other:02x}")?.as_str())?,
-        }
+        write_byte(out, *byte)?;
     }
-    Ok(text)
+    Ok(())
+}
+
+fn write_byte(out: &mut String, byte: u8) -> anyhow::Result<()> {
+    match byte {
+        b'\n' => out.push_str("\\n")?,
+        b'\r' => out.push_str("\\r")?,
+        b'\t' => out.push_str("\\t")?,
+        b'\\' => out.push_str("\\b")?,
+        b' '..=b'~' => out.push(char::from(byte))?,
+        other => write!(out, "\\x{other:02x}")?,
+    }
+    Ok(())
 }

@@ -1,9 +1,10 @@
 //! Expressions with what they mean.
-ghost use Rattle.std.specs.Prelude.{◌≡◌, IfOk, length};
+ghost use Rattle.std.specs.Prelude.{◌≡◌, IfOk, IsTrue, length};
+ghost use Rattle.fx_expr.specs.Tree.{is_within, tree};
 
 use anyhow::bail;
 use fx_base::{Kind, Ledgers, List, Text, Value, Work};
-use fx_expr::{ExprError, KindError, eval, read_expr, type_of};
+use fx_expr::{Expr, ExprError, Parsed, eval, read_expr, type_of};
 use std::alloc::{AllocError, Global};
 
 fn operand(path: &List<Text>) -> Value {
@@ -46,30 +47,69 @@ fn name_of(kind: Kind) -> &'static str {
     }
 }
 
-/// The kind of the expression and its value, printed, or why there is none.
-pub fn meaning<L: Ledgers>(
+/// Writes the kind of the expression and its value, or why there is none.
+pub fn write_meaning<L: Ledgers>(
     alloc: Global,
     text: &str,
+    out: &mut String,
     work: &mut Work<L>,
-) -> anyhow::Result<String> {
-    let parsed = match read_expr(alloc, text) {
-        Ok(parsed) => parsed,
-        Err(ExprError::Syntax) => return Ok(String::from_str(alloc, "Syntax")?),
-        Err(ExprError::Depth) => return Ok(String::from_str(alloc, "Depth")?),
-        Err(ExprError::Operands) => return Ok(String::from_str(alloc, "Operands")?),
-        Err(ExprError::Memory) => return Ok(String::from_str(alloc, "Memory")?),
-    };
+) -> anyhow::Result<()> {
+    match read_expr(alloc, text) {
+        Ok(parsed) => write_parsed(alloc, &parsed, out, work),
+        Err(error) => Ok(out.push_str(name_of_error(error))?),
+    }
+}
+
+fn name_of_error(error: ExprError) -> &'static str {
+    match error {
+        ExprError::Syntax => "Syntax",
+        ExprError::Depth => "Depth",
+        ExprError::Operands => "Operands",
+        ExprError::Memory => "Memory",
+    }
+}
+
+fn write_parsed<L: Ledgers>(
+    alloc: Global,
+    parsed: &Parsed,
+    out: &mut String,
+    work: &mut Work<L>,
+) -> anyhow::Result<()>
+    requires { IsTrue (is_within (tree parsed.now.expr) (length parsed.now.paths)) }
+{
     let values = operands(alloc, parsed.paths.as_slice())?;
-    let kinds = kinds(alloc, values.as_slice())?;
-    let kind = match type_of(&parsed.expr, kinds.as_slice()) {
-        Ok(kind) => kind,
-        Err(KindError::Mismatch) => return Ok(String::from_str(alloc, "Mismatch")?),
+    write_value(alloc, &parsed.expr, values.as_slice(), out, work)
+}
+
+fn write_value<L: Ledgers>(
+    alloc: Global,
+    expr: &Expr,
+    values: &[Value],
+    out: &mut String,
+    work: &mut Work<L>,
+) -> anyhow::Result<()>
+    requires { IsTrue (is_within (tree expr.now) (length values.now)) }
+{
+    let Some(kind) = kind_of(alloc, expr, values)? else {
+        return Ok(out.push_str("Mismatch")?);
     };
-    let value = eval(alloc, &parsed.expr, values.as_slice(), work)?;
-    let mut out = Vec::from_slice(alloc, name_of(kind).as_bytes())?;
-    value.print(alloc, &mut out)?;
-    match String::from_utf8(out) {
-        Ok(text) => Ok(text),
+    let value = eval(alloc, expr, values, work)?;
+    out.push_str(name_of(kind))?;
+    write_printed(alloc, &value, out)
+}
+
+fn kind_of(alloc: Global, expr: &Expr, values: &[Value]) -> Result<Option<Kind>, AllocError>
+    requires { IsTrue (is_within (tree expr.now) (length values.now)) }
+{
+    let kinds = kinds(alloc, values)?;
+    Ok(type_of(expr, kinds.as_slice()).ok())
+}
+
+fn write_printed(alloc: Global, value: &Value, out: &mut String) -> anyhow::Result<()> {
+    let mut bytes = Vec::new(alloc);
+    value.print(alloc, &mut bytes)?;
+    match str::from_utf8(bytes.as_slice()) {
+        Ok(text) => Ok(out.push_str(text)?),
         Err(_) => bail!("not UTF-8"),
     }
 }

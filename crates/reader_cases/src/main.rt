@@ -21,7 +21,7 @@ mod sheets;
 ghost use Rattle.std.specs.Prelude.{◌≡◌};
 
 use anyhow::bail;
-use escapes::{bytes_of, escaped};
+use escapes::{bytes_of, write_escaped};
 use fx_base::{Ledgers, Work};
 use std::alloc::Global;
 use std::marker::Brand;
@@ -49,45 +49,63 @@ fn play<L: Ledgers, R: Input + Print + AllocGlobal>(
     requires laid { (laid.name ≡ L.laid_name) × (laid.parts ≡ 1) }
     requires painted { (painted.name ≡ L.painted_name) × (painted.parts ≡ 1) }
 {
-    let alloc = rt.alloc();
     let mut work: Work<L> = Work::new(evaluated, styled, laid, painted);
-    for line in rt.lines(alloc) {
+    for line in rt.lines(rt.alloc()) {
         let line = line?;
-        let text = answer(alloc, line.as_str(), &mut work)?;
-        println!(rt; "{text}")?;
+        play_line(rt, line.as_str(), &mut work)?;
     }
     Ok(())
 }
 
-/// What is printed of a line.
-fn answer<L: Ledgers>(alloc: Global, line: &str, work: &mut Work<L>) -> anyhow::Result<String> {
+fn play_line<L: Ledgers, R: Print + AllocGlobal>(
+    rt: &R,
+    line: &str,
+    work: &mut Work<L>,
+) -> anyhow::Result<()> {
+    let mut text = String::new(rt.alloc());
+    answer(rt.alloc(), line, &mut text, work)?;
+    rt.println(text.as_str())?;
+    Ok(())
+}
+
+/// Writes what is printed of a line.
+fn answer<L: Ledgers>(
+    alloc: Global,
+    line: &str,
+    out: &mut String,
+    work: &mut Work<L>,
+) -> anyhow::Result<()> {
     let Some((word, text)) = line.split_once('|') else {
         bail!("a word is wanting");
     };
     let bytes = bytes_of(alloc, text)?;
-    let read = if word == "expression" {
-        expressions::meaning(alloc, text_of(bytes.as_slice())?, work)?
-    } else {
-        reading(alloc, word, bytes.as_slice())?
-    };
-    Ok(escaped(alloc, read.as_bytes())?)
+    let mut read = String::new(alloc);
+    write_reading(alloc, word, bytes.as_slice(), &mut read, work)?;
+    write_escaped(out, read.as_bytes())
 }
 
-/// What is read of a text.
-fn reading(alloc: Global, word: &str, text: &[u8]) -> anyhow::Result<String> {
+/// Writes what is read of a text.
+fn write_reading<L: Ledgers>(
+    alloc: Global,
+    word: &str,
+    text: &[u8],
+    out: &mut String,
+    work: &mut Work<L>,
+) -> anyhow::Result<()> {
     match word {
-        "selectors" => parts::selectors(alloc, text),
-        "declaration" => parts::declaration(alloc, text),
-        "written" => parts::written(alloc, text),
-        "value" => parts::value(alloc, text),
-        "sheet" => sheets::sheet(alloc, text),
-        "style" => sheets::style(alloc, text_of(text)?),
-        "agent" => sheets::agent(alloc, text),
-        "marks" => marks::said(alloc, text),
-        "bare" => marks::bare(alloc, text),
-        "places" => marks::places_told(alloc, text_of(text)?),
-        "document" => documents::document(alloc, text),
-        "prefixes" => documents::prefixes(alloc, text),
+        "selectors" => parts::tell_selectors(alloc, text, out),
+        "declaration" => parts::tell_declaration(alloc, text, out),
+        "written" => parts::write_selectors_of(alloc, text, out),
+        "value" => parts::write_declaration_of(alloc, text, out),
+        "sheet" => sheets::write_sheet_of(alloc, text, out),
+        "style" => sheets::write_style_of(alloc, text_of(text)?, out),
+        "agent" => sheets::tell_agent(alloc, text, out),
+        "marks" => marks::write_said(alloc, text, out),
+        "bare" => marks::tell_bare(text, out),
+        "places" => marks::write_places(alloc, text_of(text)?, out),
+        "expression" => expressions::write_meaning(alloc, text_of(text)?, out, work),
+        "document" => documents::write_document(alloc, text, out),
+        "prefixes" => documents::write_prefixes(alloc, text, out),
         _ => bail!("no such word"),
     }
 }

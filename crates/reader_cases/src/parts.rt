@@ -1,43 +1,49 @@
 //! Selectors and declarations.
-use crate::sheets::{declaration_written, selectors_written};
+use crate::sheets::{write_declaration, write_selectors};
 use fx_css_parts::{read_declaration, read_selectors};
-use std::alloc::{AllocError, Global};
+use std::alloc::Global;
+use std::fmt::Write;
 
 /// Whether the text spells selectors, and the first part past a limit.
-pub fn selectors(alloc: Global, text: &[u8]) -> anyhow::Result<String> {
+pub fn tell_selectors(alloc: Global, text: &[u8], out: &mut String) -> anyhow::Result<()> {
     match read_selectors(alloc, text)? {
-        Some(read) => Ok(good(alloc, read.past)?),
-        None => Ok(String::from_str(alloc, "bad")?),
+        Some(read) => tell_good(read.past, out),
+        None => tell_bad(out),
     }
 }
 
 /// Whether the text spells a declaration, and the first layer past the limit.
-pub fn declaration(alloc: Global, text: &[u8]) -> anyhow::Result<String> {
+pub fn tell_declaration(alloc: Global, text: &[u8], out: &mut String) -> anyhow::Result<()> {
     match read_declaration(alloc, text)? {
-        Some(read) => Ok(good(alloc, read.past)?),
-        None => Ok(String::from_str(alloc, "bad")?),
+        Some(read) => tell_good(read.past, out),
+        None => tell_bad(out),
     }
 }
 
-fn good(alloc: Global, past: Option<usize>) -> Result<String, AllocError> {
+fn tell_good(past: Option<usize>, out: &mut String) -> anyhow::Result<()> {
     match past {
-        Some(place) => format!(in alloc; "good, but for {place}"),
-        None => String::from_str(alloc, "good"),
+        Some(place) => write!(out, "good, but for {place}")?,
+        None => out.push_str("good")?,
     }
+    Ok(())
+}
+
+fn tell_bad(out: &mut String) -> anyhow::Result<()> {
+    Ok(out.push_str("bad")?)
 }
 
 /// The selectors of the text as they are written.
-pub fn written(alloc: Global, text: &[u8]) -> anyhow::Result<String> {
+pub fn write_selectors_of(alloc: Global, text: &[u8], out: &mut String) -> anyhow::Result<()> {
     match read_selectors(alloc, text)? {
-        Some(read) => Ok(selectors_written(alloc, read.selectors.as_slice())?),
-        None => Ok(String::from_str(alloc, "bad")?),
+        Some(read) => write_selectors(read.selectors.as_slice(), out),
+        None => tell_bad(out),
     }
 }
 
 /// The declaration of the text as it is written.
-pub fn value(alloc: Global, text: &[u8]) -> anyhow::Result<String> {
+pub fn write_declaration_of(alloc: Global, text: &[u8], out: &mut String) -> anyhow::Result<()> {
     match read_declaration(alloc, text)? {
-        Some(read) => Ok(declaration_written(alloc, &read.declaration)?),
-        None => Ok(String::from_str(alloc, "bad")?),
+        Some(read) => write_declaration(&read.declaration, out),
+        None => tell_bad(out),
     }
 }

@@ -5,46 +5,55 @@ use fx_base::{Color, Same, Sides, Text, Value};
 use fx_css::{SheetError, agent_sheet, read_inline, read_sheet};
 use fx_css_types::{Combinator, Compound, Declaration, Declared, Paint, Rule, Selector, Sheet};
 use std::alloc::{AllocError, Global};
+use std::fmt::Write;
 
 /// What is read of a sheet.
-pub fn sheet(alloc: Global, text: &[u8]) -> anyhow::Result<String> {
+pub fn write_sheet_of(alloc: Global, text: &[u8], out: &mut String) -> anyhow::Result<()> {
     if text.len() > 4194304 {
         bail!("the sheet is too long");
     }
-    Ok(told(alloc, &read_sheet(alloc, text, 0))?)
+    write_told(alloc, &read_sheet(alloc, text, 0), out)
 }
 
 /// What is read of a style.
-pub fn style(alloc: Global, text: &str) -> anyhow::Result<String> {
+pub fn write_style_of(alloc: Global, text: &str, out: &mut String) -> anyhow::Result<()> {
     if text.len() > 4194304 {
         bail!("the style is too long");
     }
-    Ok(told(alloc, &read_inline(alloc, text))?)
+    write_told(alloc, &read_inline(alloc, text), out)
 }
 
 /// Whether the text is the sheet of the user agent.
-pub fn agent(alloc: Global, text: &[u8]) -> anyhow::Result<String> {
+pub fn tell_agent(alloc: Global, text: &[u8], out: &mut String) -> anyhow::Result<()> {
     if text.len() > 4194304 {
         bail!("the sheet is too long");
     }
-    let built = agent_sheet(alloc)?;
     let same = match &read_sheet(alloc, text, 0) {
-        Ok(sheet) => sheet.is_same(&built),
+        Ok(sheet) => is_agent(alloc, sheet)?,
         Err(_) => false,
     };
-    Ok(String::from_str(alloc, if same { "same" } else { "other" })?)
+    Ok(out.push_str(if same { "same" } else { "other" })?)
 }
 
-fn told(alloc: Global, read: &Result<Sheet, SheetError>) -> Result<String, AllocError> {
+fn is_agent(alloc: Global, sheet: &Sheet) -> Result<bool, AllocError> {
+    let built = agent_sheet(alloc)?;
+    Ok(sheet.is_same(&built))
+}
+
+fn write_told(
+    alloc: Global,
+    read: &Result<Sheet, SheetError>,
+    out: &mut String,
+) -> anyhow::Result<()> {
     match read {
-        Ok(sheet) => counts(alloc, sheet),
-        Err(error) => format!(in alloc; "{error}"),
+        Ok(sheet) => write_counts(alloc, sheet, out),
+        Err(error) => Ok(write!(out, "{error}")?),
     }
 }
 
 /// The numbers of rules, selectors and declarations, a checksum of the rules as they are written, and the places of
 /// warnings.
-fn counts(alloc: Global, sheet: &Sheet) -> Result<String, AllocError> {
+fn write_counts(alloc: Global, sheet: &Sheet, out: &mut String) -> anyhow::Result<()> {
     let mut selectors = 0usize;
     let mut declarations = 0usize;
     for rule in sheet.rules.as_slice() {
@@ -52,15 +61,21 @@ fn counts(alloc: Global, sheet: &Sheet) -> Result<String, AllocError> {
         declarations = declarations.wrapping_add(rule.declarations.as_slice().len());
     }
     let rules = sheet.rules.as_slice().len();
-    let sum = checksum(written(alloc, sheet)?.as_str());
-    let mut text = format!(in alloc; "{rules} {selectors} {declarations} {sum}")?;
+    let sum = sum_of(alloc, sheet)?;
+    write!(out, "{rules} {selectors} {declarations} {sum}")?;
     for place in sheet.warnings.as_slice() {
         let line = place.position.line;
         let column = place.position.column;
-        let warning = format!(in alloc; " {line}:{column}")?;
-        text.push_str(warning.as_str())?;
+        write!(out, " {line}:{column}")?;
     }
-    Ok(text)
+    Ok(())
+}
+
+/// The checksum of the rules as they are written.
+fn sum_of(alloc: Global, sheet: &Sheet) -> anyhow::Result<u32> {
+    let mut text = String::new(alloc);
+    write_rules(sheet, &mut text)?;
+    Ok(checksum(text.as_str()))
 }
 
 fn checksum(text: &str) -> u32 {
@@ -71,126 +86,125 @@ fn checksum(text: &str) -> u32 {
     sum
 }
 
-fn sides_written(alloc: Global, sides: &Sides) -> Result<String, AllocError> {
+fn write_sides(sides: &Sides, out: &mut String) -> anyhow::Result<()> {
     let Sides {
         top,
         right,
         bottom,
         left,
     } = *sides;
-    format!(in alloc; "{top} {right} {bottom} {left},")
+    Ok(write!(out, "{top} {right} {bottom} {left},")?)
 }
 
-fn paint_written(alloc: Global, paint: &Paint) -> Result<String, AllocError> {
+fn write_paint(paint: &Paint, out: &mut String) -> anyhow::Result<()> {
     match paint {
         Paint::Color(color) => {
             let Color { r, g, b, a } = *color;
-            format!(in alloc; "{r} {g} {b} {a},")
+            write!(out, "{r} {g} {b} {a},")?;
         }
-        Paint::Named(name) => String::from_str(alloc, name.as_str()),
+        Paint::Named(name) => out.push_str(name.as_str())?,
     }
+    Ok(())
 }
 
-fn value_written(alloc: Global, value: &Value) -> Result<String, AllocError> {
+fn write_value(value: &Value, out: &mut String) -> anyhow::Result<()> {
     match value {
-        Value::Int(number) => format!(in alloc; "{number}"),
-        Value::Bool(truth) => format!(in alloc; "{truth}"),
-        Value::Sides(sides) => sides_written(alloc, sides),
-        Value::Choice(_, place) => format!(in alloc; "choice {place}"),
-        _ => String::from_str(alloc, "another"),
+        Value::Int(number) => write!(out, "{number}")?,
+        Value::Bool(truth) => write!(out, "{truth}")?,
+        Value::Sides(sides) => write_sides(sides, out)?,
+        Value::Choice(_, place) => write!(out, "choice {place}")?,
+        _ => out.push_str("another")?,
     }
+    Ok(())
 }
 
-fn paints_written(alloc: Global, paints: &[Paint]) -> Result<String, AllocError> {
-    let mut text = String::new(alloc);
+fn write_paints(paints: &[Paint], out: &mut String) -> anyhow::Result<()> {
     for paint in paints {
-        text.push_str(paint_written(alloc, paint)?.as_str())?;
+        write_paint(paint, out)?;
     }
-    Ok(text)
+    Ok(())
 }
 
-fn layers_written(alloc: Global, layers: &[Sides]) -> Result<String, AllocError> {
-    let mut text = String::new(alloc);
+fn write_layers(layers: &[Sides], out: &mut String) -> anyhow::Result<()> {
     for sides in layers {
-        text.push_str(sides_written(alloc, sides)?.as_str())?;
+        write_sides(sides, out)?;
     }
-    Ok(text)
+    Ok(())
 }
 
-fn declared_written(alloc: Global, declared: &Declared) -> Result<String, AllocError> {
+fn write_declared(declared: &Declared, out: &mut String) -> anyhow::Result<()> {
     match declared {
-        Declared::Plain(value) => value_written(alloc, value),
-        Declared::Paint(paint) => paint_written(alloc, paint),
-        Declared::Paints(paints) => paints_written(alloc, paints.as_slice()),
-        Declared::SidesList(layers) => layers_written(alloc, layers.as_slice()),
-        Declared::Inherit => String::from_str(alloc, "inherit"),
+        Declared::Plain(value) => write_value(value, out),
+        Declared::Paint(paint) => write_paint(paint, out),
+        Declared::Paints(paints) => write_paints(paints.as_slice(), out),
+        Declared::SidesList(layers) => write_layers(layers.as_slice(), out),
+        Declared::Inherit => Ok(out.push_str("inherit")?),
     }
 }
 
-fn names_written(alloc: Global, sign: &str, names: &[Text]) -> Result<String, AllocError> {
-    let mut text = String::new(alloc);
+fn write_names(sign: &str, names: &[Text], out: &mut String) -> anyhow::Result<()> {
     for name in names {
-        text.push_str(sign)?;
-        text.push_str(name.as_str())?;
+        out.push_str(sign)?;
+        out.push_str(name.as_str())?;
     }
-    Ok(text)
+    Ok(())
 }
 
 /// A compound behind its combinator.
-fn compound_written(alloc: Global, compound: &Compound) -> Result<String, AllocError> {
-    let combinator = match compound.combinator {
+fn write_compound(compound: &Compound, out: &mut String) -> anyhow::Result<()> {
+    out.push_str(match compound.combinator {
         None => "",
         Some(Combinator::Descendant) => " ",
         Some(Combinator::Child) => ">",
-    };
-    let mut text = String::from_str(alloc, combinator)?;
+    })?;
     match &compound.kind {
-        Some(kind) => text.push_str(kind.as_str())?,
-        None => text.push_str("*")?,
+        Some(kind) => out.push_str(kind.as_str())?,
+        None => out.push_str("*")?,
     }
-    text.push_str(names_written(alloc, ".", compound.classes.as_slice())?.as_str())?;
-    text.push_str(names_written(alloc, ":", compound.pseudos.as_slice())?.as_str())?;
-    text.push_str(names_written(alloc, "#", compound.ids.as_slice())?.as_str())?;
-    Ok(text)
+    write_names(".", compound.classes.as_slice(), out)?;
+    write_names(":", compound.pseudos.as_slice(), out)?;
+    write_names("#", compound.ids.as_slice(), out)
 }
 
-/// Selectors as they are written.
-pub fn selectors_written(alloc: Global, selectors: &[Selector]) -> Result<String, AllocError> {
-    let mut text = String::new(alloc);
-    for selector in selectors {
-        if !text.is_empty() {
-            text.push_str(",")?;
+/// Selectors as they are written, with commas between them.
+pub fn write_selectors(selectors: &[Selector], out: &mut String) -> anyhow::Result<()> {
+    for (place, selector) in selectors.iter().enumerate() {
+        if place > 0 {
+            out.push_str(",")?;
         }
-        for compound in selector.compounds.as_slice() {
-            text.push_str(compound_written(alloc, compound)?.as_str())?;
-        }
+        write_selector(selector, out)?;
     }
-    Ok(text)
+    Ok(())
+}
+
+fn write_selector(selector: &Selector, out: &mut String) -> anyhow::Result<()> {
+    for compound in selector.compounds.as_slice() {
+        write_compound(compound, out)?;
+    }
+    Ok(())
 }
 
 /// A declaration as it is written.
-pub fn declaration_written(alloc: Global, declaration: &Declaration) -> Result<String, AllocError> {
-    let name = declaration.name.as_str();
-    let value = declared_written(alloc, &declaration.value)?;
-    let value = value.as_str();
-    format!(in alloc; "{name}:{value};")
+pub fn write_declaration(declaration: &Declaration, out: &mut String) -> anyhow::Result<()> {
+    out.push_str(declaration.name.as_str())?;
+    out.push_str(":")?;
+    write_declared(&declaration.value, out)?;
+    Ok(out.push_str(";")?)
 }
 
-fn rule_written(alloc: Global, rule: &Rule) -> Result<String, AllocError> {
-    let mut text = selectors_written(alloc, rule.selectors.as_slice())?;
-    text.push_str("{")?;
+fn write_rule(rule: &Rule, out: &mut String) -> anyhow::Result<()> {
+    write_selectors(rule.selectors.as_slice(), out)?;
+    out.push_str("{")?;
     for declaration in rule.declarations.as_slice() {
-        text.push_str(declaration_written(alloc, declaration)?.as_str())?;
+        write_declaration(declaration, out)?;
     }
-    text.push_str("}")?;
-    Ok(text)
+    Ok(out.push_str("}")?)
 }
 
-fn written(alloc: Global, sheet: &Sheet) -> Result<String, AllocError> {
-    let mut text = String::new(alloc);
+fn write_rules(sheet: &Sheet, out: &mut String) -> anyhow::Result<()> {
     for rule in sheet.rules.as_slice() {
-        text.push_str(rule_written(alloc, rule)?.as_str())?;
-        text.push_str("\n")?;
+        write_rule(rule, out)?;
+        out.push_str("\n")?;
     }
-    Ok(text)
+    Ok(())
 }

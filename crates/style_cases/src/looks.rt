@@ -3,7 +3,7 @@
 use fx_base::{Color, Sides};
 use fx_look::Look;
 use fx_style::Styles;
-use std::alloc::{AllocError, Global};
+use std::fmt::Write;
 
 const ZERO: Sides = Sides {
     top: 0,
@@ -20,153 +20,115 @@ const ONE: Sides = Sides {
 };
 
 /// The lines of all nodes.
-pub fn looks_text(alloc: Global, styles: &Styles) -> anyhow::Result<String> {
-    let mut text = String::new(alloc);
+pub fn push_looks(text: &mut String, styles: &Styles) -> anyhow::Result<()> {
     text.push_str("changed")?;
     for place in styles.changed() {
-        text.push_str(format!(in alloc; " {place}")?.as_str())?;
+        write!(text, " {place}")?;
     }
     text.push_str("\n")?;
     for look in styles.looks() {
-        push_look(alloc, &mut text, look)?;
+        push_look(text, look)?;
     }
-    Ok(text)
+    Ok(())
 }
 
-fn push_look(alloc: Global, text: &mut String, look: &Look) -> Result<(), AllocError> {
-    text.push_str(format!(in alloc; "alignment={}", look.alignment)?.as_str())?;
-    push_sizes(alloc, text, look)?;
-    push_truths(alloc, text, look)?;
-    push_layers(alloc, text, look)?;
-    text.push_str("\n")
+fn push_look(text: &mut String, look: &Look) -> anyhow::Result<()> {
+    write!(text, "alignment={}", look.alignment)?;
+    push_sizes(text, look)?;
+    push_truths(text, look)?;
+    push_layers(text, look)?;
+    Ok(text.push_str("\n")?)
 }
 
-fn push_sizes(alloc: Global, text: &mut String, look: &Look) -> Result<(), AllocError> {
-    push_size(alloc, text, "spacing", look.spacing, 0)?;
-    push_size(alloc, text, "hgap", look.hgap, 0)?;
-    push_size(alloc, text, "vgap", look.vgap, 0)?;
-    push_size(alloc, text, "min-width", look.min_width, -1)?;
-    push_size(alloc, text, "min-height", look.min_height, -1)?;
-    push_size(alloc, text, "pref-width", look.pref_width, -1)?;
-    push_size(alloc, text, "pref-height", look.pref_height, -1)?;
-    push_size(alloc, text, "max-width", look.max_width, -1)?;
-    push_size(alloc, text, "max-height", look.max_height, -1)?;
-    push_size(alloc, text, "font-size", look.font_size, 12)
+fn push_sizes(text: &mut String, look: &Look) -> anyhow::Result<()> {
+    push_size(text, "spacing", look.spacing, 0)?;
+    push_size(text, "hgap", look.hgap, 0)?;
+    push_size(text, "vgap", look.vgap, 0)?;
+    push_size(text, "min-width", look.min_width, -1)?;
+    push_size(text, "min-height", look.min_height, -1)?;
+    push_size(text, "pref-width", look.pref_width, -1)?;
+    push_size(text, "pref-height", look.pref_height, -1)?;
+    push_size(text, "max-width", look.max_width, -1)?;
+    push_size(text, "max-height", look.max_height, -1)?;
+    push_size(text, "font-size", look.font_size, 12)
 }
 
-fn push_size(
-    alloc: Global,
-    text: &mut String,
-    name: &str,
-    size: i64,
-    initial: i64,
-) -> Result<(), AllocError> {
+fn push_size(text: &mut String, name: &str, size: i64, initial: i64) -> anyhow::Result<()> {
     if size == initial {
         return Ok(());
     }
-    text.push_str(format!(in alloc; " {name}={size}")?.as_str())
+    Ok(write!(text, " {name}={size}")?)
 }
 
-fn push_truths(alloc: Global, text: &mut String, look: &Look) -> Result<(), AllocError> {
-    push_truth(alloc, text, "fill-width", look.fill_width, true)?;
-    push_truth(alloc, text, "fill-height", look.fill_height, true)?;
-    push_truth(alloc, text, "wrap-text", look.wrap_text, false)?;
-    push_truth(alloc, text, "visibility", look.visibility, true)
+fn push_truths(text: &mut String, look: &Look) -> anyhow::Result<()> {
+    push_truth(text, "fill-width", look.fill_width, true)?;
+    push_truth(text, "fill-height", look.fill_height, true)?;
+    push_truth(text, "wrap-text", look.wrap_text, false)?;
+    push_truth(text, "visibility", look.visibility, true)
 }
 
-fn push_truth(
-    alloc: Global,
-    text: &mut String,
-    name: &str,
-    truth: bool,
-    initial: bool,
-) -> Result<(), AllocError> {
+fn push_truth(text: &mut String, name: &str, truth: bool, initial: bool) -> anyhow::Result<()> {
     if truth == initial {
         return Ok(());
     }
-    text.push_str(format!(in alloc; " {name}={truth}")?.as_str())
+    Ok(write!(text, " {name}={truth}")?)
 }
 
-fn push_layers(alloc: Global, text: &mut String, look: &Look) -> Result<(), AllocError> {
-    push_sides(alloc, text, "padding", &[look.padding], ZERO)?;
+fn push_layers(text: &mut String, look: &Look) -> anyhow::Result<()> {
+    push_sides(text, "padding", &[look.padding], ZERO)?;
     push_sides(
-        alloc,
         text,
         "background-insets",
         look.background_insets.as_slice(),
         ZERO,
     )?;
-    push_sides(
-        alloc,
-        text,
-        "border-width",
-        look.border_width.as_slice(),
-        ONE,
-    )?;
-    push_sides(
-        alloc,
-        text,
-        "border-insets",
-        look.border_insets.as_slice(),
-        ZERO,
-    )?;
-    push_colors(
-        alloc,
-        text,
-        "background-color",
-        look.background_color.as_slice(),
-    )?;
-    push_colors(alloc, text, "border-color", look.border_color.as_slice())?;
-    push_colors(alloc, text, "text-fill", &[look.text_fill])
+    push_sides(text, "border-width", look.border_width.as_slice(), ONE)?;
+    push_sides(text, "border-insets", look.border_insets.as_slice(), ZERO)?;
+    push_colors(text, "background-color", look.background_color.as_slice())?;
+    push_colors(text, "border-color", look.border_color.as_slice())?;
+    push_colors(text, "text-fill", &[look.text_fill])
 }
 
 /// The sides of layers, but for one layer of the initial ones.
 fn push_sides(
-    alloc: Global,
     text: &mut String,
     name: &str,
     layers: &[Sides],
     initial: Sides,
-) -> Result<(), AllocError> {
+) -> anyhow::Result<()> {
     if let [only] = layers {
         if only.equals(initial) {
             return Ok(());
         }
     }
-    text.push_str(format!(in alloc; " {name}=")?.as_str())?;
+    write!(text, " {name}=")?;
     for (at, sides) in layers.iter().enumerate() {
         push_bar(text, at)?;
-        let word = format!(in alloc;
+        write!(
+            text,
             "{},{},{},{}",
             sides.top, sides.right, sides.bottom, sides.left
         )?;
-        text.push_str(word.as_str())?;
     }
     Ok(())
 }
 
 /// The colours of layers, if there are any.
-fn push_colors(
-    alloc: Global,
-    text: &mut String,
-    name: &str,
-    layers: &[Color],
-) -> Result<(), AllocError> {
+fn push_colors(text: &mut String, name: &str, layers: &[Color]) -> anyhow::Result<()> {
     if layers.is_empty() {
         return Ok(());
     }
-    text.push_str(format!(in alloc; " {name}=")?.as_str())?;
+    write!(text, " {name}=")?;
     for (at, color) in layers.iter().enumerate() {
         push_bar(text, at)?;
-        let word = format!(in alloc; "{},{},{},{}", color.r, color.g, color.b, color.a)?;
-        text.push_str(word.as_str())?;
+        write!(text, "{},{},{},{}", color.r, color.g, color.b, color.a)?;
     }
     Ok(())
 }
 
-fn push_bar(text: &mut String, at: usize) -> Result<(), AllocError> {
+fn push_bar(text: &mut String, at: usize) -> anyhow::Result<()> {
     if at == 0 {
         return Ok(());
     }
-    text.push_str("/")
+    Ok(text.push_str("/")?)
 }

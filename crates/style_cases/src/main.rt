@@ -17,6 +17,7 @@ ghost use Rattle.std.specs.Prelude.{◌≡◌};
 use fx_base::{Ledgers, Work};
 use scenes::Scenery;
 use std::marker::Brand;
+use std::mem::forget;
 use std::sync::ledger::Blank;
 
 fn main(rt: HostRuntime) -> anyhow::Result<()> {
@@ -41,13 +42,34 @@ fn play<L: Ledgers, R: Input + Print + AllocGlobal>(
     requires laid { (laid.name ≡ L.laid_name) × (laid.parts ≡ 1) }
     requires painted { (painted.name ≡ L.painted_name) × (painted.parts ≡ 1) }
 {
-    let alloc = rt.alloc();
     let mut work: Work<L> = Work::new(evaluated, styled, laid, painted);
-    let mut scenery = Scenery::new(alloc);
-    for line in rt.lines(alloc) {
+    let mut scenery = Scenery::new(rt.alloc());
+    let played = play_lines(rt, &mut scenery, &mut work);
+    // The process ends right after this, so nothing of the scene is freed.
+    forget(scenery);
+    played
+}
+
+fn play_lines<L: Ledgers, R: Input + Print + AllocGlobal>(
+    rt: &R,
+    scenery: &mut Scenery,
+    work: &mut Work<L>,
+) -> anyhow::Result<()> {
+    for line in rt.lines(rt.alloc()) {
         let line = line?;
-        let answer = scenery.carry_out(alloc, line.as_str(), &mut work)?;
-        rt.print(answer.as_str())?;
+        play_line(rt, scenery, line.as_str(), work)?;
     }
+    Ok(())
+}
+
+fn play_line<L: Ledgers, R: Print + AllocGlobal>(
+    rt: &R,
+    scenery: &mut Scenery,
+    line: &str,
+    work: &mut Work<L>,
+) -> anyhow::Result<()> {
+    let mut answer = String::new(rt.alloc());
+    scenery.carry_out(rt.alloc(), line, &mut answer, work)?;
+    rt.print(answer.as_str())?;
     Ok(())
 }

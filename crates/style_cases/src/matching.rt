@@ -1,5 +1,5 @@
 //! Which nodes a selector matches, and which rules match each node.
-ghost use Rattle.std.specs.Prelude.{◌≤◌, length};
+ghost use Rattle.std.specs.Prelude.{◌<◌, ◌≤◌, length};
 ghost use Rattle.fx_select.specs.Chains.{ParentsStandBefore};
 ghost use Rattle.fx_css_types.specs.Limits.{AreShort, AreWithinLimits};
 
@@ -10,15 +10,19 @@ use fx_kinds::StyleFacts;
 use fx_select::{RuleIndex, matches};
 use fx_style_checks::can_be_styled;
 use std::alloc::{AllocError, Global};
+use std::fmt::Write;
 
 /// For each selector of the text a line that says of each node whether it matches.
-pub fn matches_text(alloc: Global, text: &str, facts: &[StyleFacts]) -> anyhow::Result<String> {
-    let Some(read) = read_selectors(alloc, text.as_bytes())? else {
-        bail!("no selector");
-    };
-    let mut lines = String::new(alloc);
-    push_all(&mut lines, read.selectors.as_slice(), facts)?;
-    Ok(lines)
+pub fn push_matching(
+    alloc: Global,
+    lines: &mut String,
+    text: &str,
+    facts: &[StyleFacts],
+) -> anyhow::Result<()> {
+    match read_selectors(alloc, text.as_bytes())? {
+        Some(read) => push_all(lines, read.selectors.as_slice(), facts),
+        None => bail!("no selector"),
+    }
 }
 
 fn push_all(
@@ -57,16 +61,19 @@ fn push_matches(
 }
 
 /// A line for each node: the rules that match it, each with the places of sheet and rule and with the specificity.
-pub fn rules_text(alloc: Global, sheets: &[SheetAt], facts: &[StyleFacts]) -> anyhow::Result<String>
+pub fn push_matched(
+    alloc: Global,
+    lines: &mut String,
+    sheets: &[SheetAt],
+    facts: &[StyleFacts],
+) -> anyhow::Result<()>
     requires { AreWithinLimits sheets.now }
 {
     if !can_be_styled(facts) {
         bail!("the nodes aren't those of a scene");
     }
     sheets_within_limits_are_short();
-    let mut lines = String::new(alloc);
-    push_rules(alloc, &mut lines, sheets, facts)?;
-    Ok(lines)
+    push_rules(alloc, lines, sheets, facts)
 }
 
 fn push_rules(
@@ -74,19 +81,34 @@ fn push_rules(
     lines: &mut String,
     sheets: &[SheetAt],
     facts: &[StyleFacts],
-) -> Result<(), AllocError>
+) -> anyhow::Result<()>
     requires before { ParentsStandBefore facts.now }
     requires short { AreShort sheets.now }
 {
     let index = RuleIndex::build(alloc, sheets)?;
     for at in 0..facts.len() {
-        let found = index.matched(alloc, sheets, facts, at)?;
-        push_found(alloc, lines, found.as_slice())?;
+        push_matched_by(alloc, lines, &index, sheets, facts, at)?;
     }
     Ok(())
 }
 
-fn push_found(alloc: Global, lines: &mut String, found: &[Candidate]) -> Result<(), AllocError> {
+fn push_matched_by(
+    alloc: Global,
+    lines: &mut String,
+    index: &RuleIndex,
+    sheets: &[SheetAt],
+    facts: &[StyleFacts],
+    at: usize,
+) -> anyhow::Result<()>
+    requires before { ParentsStandBefore facts.now }
+    requires there { at < length facts.now }
+    requires short { AreShort sheets.now }
+{
+    let found = index.matched(alloc, sheets, facts, at)?;
+    push_found(lines, found.as_slice())
+}
+
+fn push_found(lines: &mut String, found: &[Candidate]) -> anyhow::Result<()> {
     if found.is_empty() {
         lines.push_str("-")?;
     }
@@ -97,7 +119,7 @@ fn push_found(alloc: Global, lines: &mut String, found: &[Candidate]) -> Result<
             specificity: (ids, classes, types),
             origin: _,
         } = *candidate;
-        lines.push_str(format!(in alloc; "{sheet} {rule} {ids} {classes} {types};")?.as_str())?;
+        write!(lines, "{sheet} {rule} {ids} {classes} {types};")?;
     }
-    lines.push_str("\n")
+    Ok(lines.push_str("\n")?)
 }

@@ -27,7 +27,8 @@ pub fn read_node(alloc: Global, line: &str) -> anyhow::Result<StyleFacts> {
     let birth = next_word(&mut words)?.parse::<u32>()?;
     let parent = next_word(&mut words)?.parse::<usize>().ok();
     let class = read_class(next_word(&mut words)?)?;
-    let traits = read_traits(alloc, &mut words)?;
+    let mut traits = Traits::new(alloc);
+    read_traits(alloc, &mut traits, &mut words)?;
     Ok(StyleFacts {
         key: NodeKey { slot: 7, birth },
         parent,
@@ -39,6 +40,19 @@ pub fn read_node(alloc: Global, line: &str) -> anyhow::Result<StyleFacts> {
         sheets: List::from_vec(traits.sheets),
         codes: List::from_vec(traits.codes),
     })
+}
+
+impl Traits {
+    fn new(alloc: Global) -> Traits {
+        Traits {
+            id: Text::new(alloc),
+            classes: Vec::new(alloc),
+            pseudos: Vec::new(alloc),
+            inline: None,
+            sheets: Vec::new(alloc),
+            codes: Vec::new(alloc),
+        }
+    }
 }
 
 fn next_word<'a>(words: &mut Split<'a, char>) -> anyhow::Result<&'a str> {
@@ -55,25 +69,31 @@ fn read_class(word: &str) -> anyhow::Result<Class> {
     }
 }
 
+/// Puts the places of a line behind these.
+pub fn read_places(line: &str, places: &mut Vec<usize>) -> anyhow::Result<()> {
+    for word in line.split(' ') {
+        if !word.is_empty() {
+            places.push(read_place(word)?)?;
+        }
+    }
+    Ok(())
+}
+
 /// The number of a place in a list.
-pub fn read_place(word: &str) -> anyhow::Result<usize> {
+fn read_place(word: &str) -> anyhow::Result<usize> {
     Ok(word.parse::<usize>()?)
 }
 
-fn read_traits(alloc: Global, words: &mut Split<'_, char>) -> anyhow::Result<Traits> {
-    let mut traits = Traits {
-        id: Text::new(alloc),
-        classes: Vec::new(alloc),
-        pseudos: Vec::new(alloc),
-        inline: None,
-        sheets: Vec::new(alloc),
-        codes: Vec::new(alloc),
-    };
+fn read_traits(
+    alloc: Global,
+    traits: &mut Traits,
+    words: &mut Split<'_, char>,
+) -> anyhow::Result<()> {
     for word in words {
         let (sign, rest) = split_sign(word)?;
-        read_trait(alloc, &mut traits, sign, rest)?;
+        read_trait(alloc, traits, sign, rest)?;
     }
-    Ok(traits)
+    Ok(())
 }
 
 /// The first sign of a word, and what is behind it.

@@ -5,9 +5,9 @@ ghost use Rattle.fx_style.specs.Kept.{AreDifferent};
 ghost use Rattle.fx_style.specs.Rules.{AreIndexed, HaveRows};
 ghost use Rattle.fx_css_types.specs.Limits.{AreWithinLimits, IsWithinLimits};
 
-use crate::looks::looks_text;
-use crate::matching::{matches_text, rules_text};
-use crate::reading::{read_node, read_place};
+use crate::looks::push_looks;
+use crate::matching::{push_matched, push_matching};
+use crate::reading::{read_node, read_places};
 use anyhow::bail;
 use fx_base::{Ledgers, Work};
 use fx_css::{agent_sheet, read_inline, read_sheet};
@@ -47,53 +47,52 @@ impl Scenery {
         }
     }
 
-    /// What is printed of a line.
+    /// Writes what is printed of a line.
     pub fn carry_out<L: Ledgers>(
         &mut self,
         alloc: Global,
         line: &str,
+        out: &mut String,
         work: &mut Work<L>,
-    ) -> anyhow::Result<String> {
+    ) -> anyhow::Result<()> {
         let (word, rest) = line.split_once(' ').unwrap_or((line, ""));
-        if word == "update" {
-            return self.update(alloc, rest, work);
+        match word {
+            "update" => self.update(alloc, rest, out, work),
+            "matches" => push_matching(alloc, out, rest, self.facts.as_slice()),
+            "rules" => push_matched(alloc, out, self.sheets.as_slice(), self.facts.as_slice()),
+            _ => self.change(alloc, word, rest),
         }
-        if word == "matches" {
-            return matches_text(alloc, rest, self.facts.as_slice());
-        }
-        if word == "rules" {
-            return rules_text(alloc, self.sheets.as_slice(), self.facts.as_slice());
-        }
-        self.change(alloc, word, rest)?;
-        Ok(String::new(alloc))
     }
 
     fn change(&mut self, alloc: Global, word: &str, rest: &str) -> anyhow::Result<()> {
         match word {
-            "case" => *self = Scenery::new(alloc),
-            "sheets" => self.sheets = Vec::new(alloc),
-            "nodes" => self.facts = Vec::new(alloc),
+            "case" => self.forget(alloc),
+            "sheets" => self.sheets.clear(),
+            "nodes" => self.facts.clear(),
             "node" => self.facts.push(read_node(alloc, rest)?)?,
             _ => list(alloc, &mut self.sheets, word, rest)?,
         }
         Ok(())
     }
 
-    /// Styles the nodes of these places, and gives the looks of all.
+    fn forget(&mut self, alloc: Global) {
+        self.sheets.clear();
+        self.facts.clear();
+        self.styles = Styles::new(alloc);
+    }
+
+    /// Styles the nodes of these places, and writes the looks of all.
     fn update<L: Ledgers>(
         &mut self,
         alloc: Global,
         places: &str,
+        out: &mut String,
         work: &mut Work<L>,
-    ) -> anyhow::Result<String> {
+    ) -> anyhow::Result<()> {
         let mut restyle = Vec::new(alloc);
-        for word in places.split(' ') {
-            if !word.is_empty() {
-                restyle.push(read_place(word)?)?;
-            }
-        }
+        read_places(places, &mut restyle)?;
         self.restyle(alloc, restyle.as_slice(), work)?;
-        looks_text(alloc, &self.styles)
+        push_looks(out, &self.styles)
     }
 
     fn restyle<L: Ledgers>(

@@ -1,5 +1,5 @@
 -- A row of pixels as text.
-use Rattle.std.specs.Prelude.{ℕ, zero, suc, List, [], ◌∷◌, ◌++◌, map}
+use Rattle.std.specs.Prelude.{ℕ, List, [], ◌∷◌, ◌++◌, map}
 use Rattle.std.specs.List.{flat_map, join_with_byte}
 use Rattle.fx_text.specs.Characters.{line_feed, space}
 use Rattle.fx_base.specs.Pixel.{red_of, green_of, blue_of}
@@ -16,11 +16,6 @@ pixels_text pixels = join_with_byte space (map pixel_text pixels)
 -- pixels, each behind a space
 abbrev pub spaced_text : List ℕ → List ℕ
 spaced_text pixels = flat_map (λ pixel. space ∷ pixel_text pixel) pixels
-
--- a text so many times
-abbrev pub copies : ℕ → List ℕ → List ℕ
-copies zero text = []
-copies (suc n) text = text ++ copies n text
 
 -- a row of a picture
 unfoldable pub row_text : List ℕ → List ℕ

@@ -8,12 +8,40 @@ ghost use Rattle.fx_scene_names.specs.Names as spec;
 
 use fx_kinds::{Class, all_classes, name_of, package_of};
 
-/// The class that an element's name means: its simple name, or its full name.
-#[tactic(auto, unfolding(crate::specs::Names::class_named))]
+/// The class that an element's name means: its simple name, or its full name. Mostly it is the simple name of a node's
+/// class, which its first letter and its length tell.
+#[tactic(auto, using(crate::proofs::GuessLemmas::guess_holds))]
 pub fn class_named(name: &str) -> Option<Class>
     ensures { result ≡ spec.class_named name.now }
 {
+    let guess = guessed(name.as_bytes());
+    if is_simple(guess, name) {
+        return Some(guess);
+    }
+    searched(name)
+}
+
+#[tactic(auto, unfolding(crate::specs::Names::class_named))]
+fn searched(name: &str) -> Option<Class>
+    ensures { result ≡ spec.class_named name.now }
+{
     find_class(all_classes(), name)
+}
+
+/// A class that may have this simple name.
+fn guessed(name: &[u8]) -> Class {
+    match name {
+        [b'A', ..] => Class::AnchorPane,
+        [b'B', _, _, _, _, _] => Class::Button,
+        [b'B', ..] => Class::BorderPane,
+        [b'G', ..] => Class::GridPane,
+        [b'H', ..] => Class::HBox,
+        [b'P', ..] => Class::Pane,
+        [b'R', ..] => Class::Region,
+        [b'S', ..] => Class::StackPane,
+        [b'V', ..] => Class::VBox,
+        _ => Class::Label,
+    }
 }
 
 fn find_class(table: &[Class], name: &str) -> Option<Class>

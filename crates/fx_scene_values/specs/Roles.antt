@@ -24,12 +24,15 @@ handled_by name =
     if bytes_eq name (codes "onAction") then Some event.Action
     else (if bytes_eq name (codes "onKeyPressed") then Some event.KeyPressed else mouse_handled_by name)
 
+abbrev pub dotted_role : List ℕ → Role
+dotted_role name = if is_static name then role.Static else role.Property
+
 abbrev pub plain_role : List ℕ → Role
 plain_role name =
     if bytes_eq name (codes "style") then role.Style
     else (if bytes_eq name (codes "styleClass") then role.Classes
     else (if bytes_eq name (codes "stylesheets") then role.Sheets
-    else (if is_static name then role.Static else role.Property)))
+    else dotted_role name))
 
 abbrev pub handler_role : List ℕ → Option EventKind → Role
 handler_role name (Some on) = role.Handler on

@@ -1,6 +1,6 @@
 //! Properties by the names that documents have for them.
-ghost use Rattle.std.specs.Prelude.{◌≡◌, IfOk};
-ghost use Rattle.std.specs.List.{find};
+ghost use Rattle.std.specs.Prelude.{◌≡◌, IfOk, IfSome, Some, true};
+ghost use Rattle.std.specs.List.{find, slice_get};
 ghost use Rattle.std.specs.Option.{option_map};
 ghost use Rattle.std.specs.Str.{bytes_eq};
 ghost use Rattle.fx_kinds.specs.Listing.{listed_property};
@@ -25,7 +25,7 @@ use std::alloc::{AllocError, Global};
 pub fn property_named(class: Class, name: &str) -> Option<&'static Property>
     ensures { option_map (λ p. listed_property p.now) result ≡ spec.property_named class name.now }
 {
-    if name == "fontSize" {
+    if is_word(name, "fontSize") {
         return None;
     }
     listed(class, property_name(name))
@@ -35,13 +35,55 @@ pub fn property_named(class: Class, name: &str) -> Option<&'static Property>
 fn property_name(name: &str) -> &str
     ensures { result.now ≡ spec.property_name name.now }
 {
-    if name == "font" { "fontSize" } else { name }
+    if is_word(name, "font") {
+        "fontSize"
+    } else {
+        name
+    }
 }
 
+fn is_word(name: &str, word: &str) -> bool
+    ensures { result ≡ bytes_eq name.now word.now }
+{
+    name.len() == word.len() && name == word
+}
+
+/// A property of this name is the only one of the class that has it, so it may be looked for at any place first.
 fn listed(class: Class, name: &str) -> Option<&'static Property>
     ensures { option_map (λ p. listed_property p.now) result ≡ spec.listed class name.now }
 {
-    first_named(properties(class), name)
+    let list = properties(class);
+    match named_at(list, guessed_place(name.as_bytes()), name) {
+        Some(property) => Some(property),
+        None => first_named(list, name),
+    }
+}
+
+/// The property at this place, if it has this name.
+fn named_at<'a>(list: &'a [Property], place: usize, name: &str) -> Option<&'a Property>
+    ensures { IfSome result
+        (λ p. (slice_get list.now place ≡ Some p.now) × (bytes_eq p.now.name.now name.now ≡ true)) }
+{
+    let property = list.get(place)?;
+    if is_word(property.name, name) {
+        return Some(property);
+    }
+    None
+}
+
+/// The place that some properties have in the lists of all classes that have them.
+fn guessed_place(name: &[u8]) -> usize {
+    match name {
+        [b'm', b'i', b'n', b'W', ..] => 6,
+        [b'm', b'i', b'n', ..] => 7,
+        [b'p', b'r', b'e', b'f', b'W', ..] => 8,
+        [b'p', b'r', b'e', b'f', ..] => 9,
+        [b'm', b'a', b'x', b'W', ..] => 10,
+        [b'm', b'a', b'x', ..] => 11,
+        [b'a', ..] => 15,
+        [b't', ..] | [b's', ..] => 16,
+        _ => 0,
+    }
 }
 
 /// Lengths tell most names apart.

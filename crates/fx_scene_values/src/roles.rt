@@ -1,5 +1,5 @@
 //! What an attribute is by its name.
-ghost use Rattle.std.specs.Prelude.{◌≡◌};
+ghost use Rattle.std.specs.Prelude.{◌≡◌, IsTrue};
 ghost use Rattle.fx_scene_values.specs.Roles as spec;
 
 use fx_events::EventKind;
@@ -23,9 +23,30 @@ pub enum Role {
     Property,
 }
 
-/// What the attribute of this name is.
-#[tactic(auto, unfolding(crate::specs::Roles::role_of))]
+/// What the attribute of this name is. The first letters tell most properties from all names that mean something else.
 pub fn role_of(name: &str) -> Role
+    ensures { result ≡ spec.role_of name.now }
+{
+    if begins_plain(name.as_bytes()) {
+        return dotted_role(name);
+    }
+    searched_role(name)
+}
+
+/// Do the first letters say that it is a property or a constraint, by the dot in it? Where they don't, it may be one still.
+#[tactic(auto, unfolding(crate::specs::Roles::role_of))]
+fn begins_plain(name: &[u8]) -> bool
+    ensures { IsTrue result → spec.role_of name.now ≡ spec.dotted_role name.now }
+{
+    match name {
+        [b'p', b'r', ..] | [b't', b'e', b'x', b't'] | [b'm', b'i', ..] | [b'm', b'a', ..] => true,
+        [b'l' | b'w' | b'h' | b'v' | b'i', ..] | [b'H' | b'V' | b'G', ..] => true,
+        _ => false,
+    }
+}
+
+#[tactic(auto, unfolding(crate::specs::Roles::role_of))]
+fn searched_role(name: &str) -> Role
     ensures { result ≡ spec.role_of name.now }
 {
     if name == "fx:id" {
@@ -78,6 +99,12 @@ fn plain_role(name: &str) -> Role
     if name == "stylesheets" {
         return Role::Sheets;
     }
+    dotted_role(name)
+}
+
+fn dotted_role(name: &str) -> Role
+    ensures { result ≡ spec.dotted_role name.now }
+{
     if is_static(name) {
         return Role::Static;
     }

@@ -1,6 +1,6 @@
 -- What a property is bound to by a text between `${` and `}`, or what is wrong with the text.
 use Rattle.std.specs.Prelude.{◌≡◌, ℕ, ◌-◌, ◌==◌, Bool, true, false, List, [], ◌∷◌, length, map, slice_get, take, Option, Some, None, Result, Ok, Err, is_some, if◌then◌else◌}
-use Rattle.std.specs.List.{list_all}
+use Rattle.std.specs.List.{list_all, list_any}
 use Rattle.std.specs.Option.{option_map}
 use Rattle.std.specs.Str.{chars}
 use Rattle.fx_base.specs.declared.kinds.Kind.{Kind}
@@ -97,6 +97,10 @@ operands_of spaces names (path ∷ paths) =
 abbrev pub values_of : Names → List (List (List ℕ)) → List (Option Content)
 values_of names paths = map (value_of names) paths
 
+-- a path stands for a value
+abbrev pub has_value : Names → List (List (List ℕ)) → Bool
+has_value names paths = list_any (λ path. is_some (value_of names path)) paths
+
 -- each path leads to something
 abbrev pub are_named : List Space → Names → List (List (List ℕ)) → Bool
 are_named spaces names paths = list_all (is_named spaces names) paths
@@ -135,6 +139,10 @@ at_fault mistake = doing.Fault (Flawed mistake)
 abbrev pub bound_if : ℕ → ListedProperty → Tree → Option (List Operand) → Doing
 bound_if node property t None = at_fault flaw.Property
 bound_if node property t (Some operands) = bound_to node property t operands
+
+abbrev pub unbound : List Space → Names → List (List (List ℕ)) → Doing
+unbound spaces names paths =
+    if are_named spaces names paths then at_fault flaw.Property else at_fault flaw.Name
 
 abbrev pub bound_over : List Space → Names → ℕ → ListedProperty → Tree → List (List (List ℕ)) → Doing
 bound_over spaces names node property t paths =

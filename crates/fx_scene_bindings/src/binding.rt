@@ -1,15 +1,18 @@
 //! Binding a property to an expression.
 ghost use Rattle.std.specs.Prelude.{◌≡◌, IfOk, IsTrue, Some, length, map};
 ghost use Rattle.std.specs.Result.{result_ok};
+ghost use Rattle.fx_expr.specs.Filling.{filled, unknowns};
 ghost use Rattle.fx_expr.specs.Tree.{is_within, tree};
 ghost use Rattle.fx_kinds.specs.Listing.{listed_property};
 ghost use Rattle.fx_scene_bindings.specs.Bindings as spec;
 ghost use Rattle.fx_scene_bindings.specs.Views.{operand_view};
 ghost use Rattle.fx_scene_things.specs.Known.{known, space_view};
 
-use crate::operands::{Operand, are_named, kinds_of, operands_of, planned_of, values_of};
+use crate::operands::{
+    Operand, are_named, has_value, kinds_of, operands_of, planned_of, values_of,
+};
 use crate::reading::read;
-use fx_base::Kind;
+use fx_base::{Kind, List, Text};
 use fx_expr::{Expr, ExprError, KindError, Parsed, as_text, fill, type_of};
 use fx_graph_model::Formula;
 use fx_kinds::Property;
@@ -89,17 +92,39 @@ fn bound_over(
     ensures { IfOk result (λ doing. doing ≡ spec.bound_over (map space_view spaces.now) (known names.now) node
         (listed_property property.now) (tree parsed.expr) parsed.paths) }
 {
-    if !are_named(spaces, names, parsed.paths.as_slice()) {
-        return Ok(at_fault(Flaw::Name));
-    }
-    let values = values_of(alloc, names, parsed.paths.as_slice())?;
     match operands_of(alloc, spaces, names, parsed.paths.as_slice())? {
         Some(operands) => {
-            let expr = fill(alloc, parsed, values)?;
+            let expr = filled(alloc, names, parsed)?;
             bound_to(alloc, node, property, expr, operands.as_slice())
         }
-        None => Ok(at_fault(Flaw::Property)),
+        None => Ok(unbound(spaces, names, parsed.paths.as_slice())),
     }
+}
+
+/// What is wrong where a path leads to no operand: it leads to nothing, or to a node that has no such property.
+fn unbound(spaces: &[Space], names: &Names, paths: &[List<Text>]) -> Doing
+    ensures { result ≡ spec.unbound (map space_view spaces.now) (known names.now) paths.now }
+{
+    if are_named(spaces, names, paths) {
+        at_fault(Flaw::Property)
+    } else {
+        at_fault(Flaw::Name)
+    }
+}
+
+/// The expression with the values among its paths in it, which mostly has none.
+fn filled(alloc: Global, names: &Names, parsed: Parsed) -> Result<Expr, AllocError>
+    requires { IsTrue (is_within (tree parsed.expr) (length parsed.paths)) }
+    ensures filled { IfOk result
+        (λ e. tree e ≡ filled (spec.values_of (known names.now) parsed.paths) (tree parsed.expr)) }
+    ensures within { IfOk result
+        (λ e. IsTrue (is_within (tree e) (unknowns (spec.values_of (known names.now) parsed.paths)))) }
+{
+    if has_value(names, parsed.paths.as_slice()) {
+        let values = values_of(alloc, names, parsed.paths.as_slice())?;
+        return fill(alloc, parsed, values);
+    }
+    Ok(parsed.expr)
 }
 
 fn bound_to(

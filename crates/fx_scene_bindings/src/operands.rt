@@ -92,6 +92,15 @@ pub(crate) fn values_of(
     Ok(values)
 }
 
+/// Does a path stand for a value?
+pub(crate) fn has_value(names: &Names, paths: &[List<Text>]) -> bool
+    ensures { result ≡ spec.has_value (known names.now) paths.now }
+{
+    paths
+        .iter()
+        .any(|path| value_of(names, path.as_slice()).is_some())
+}
+
 fn copied(alloc: Global, value: Option<&Value>) -> Result<Option<Value>, AllocError>
     ensures { IfOk result (λ copy. copy ≡ option_copied value.entry) }
 {

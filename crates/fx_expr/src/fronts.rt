@@ -54,9 +54,12 @@ fn letter_count(text: &[u8]) -> usize
         .count()
 }
 
-/// How many characters the text has.
+/// How many characters the text has: as many as bytes, where all are ASCII.
 pub fn character_count(text: &str) -> usize
     ensures { result ≡ length (chars text.now) }
 {
+    if text.is_ascii() {
+        return text.len();
+    }
     text.chars().count()
 }

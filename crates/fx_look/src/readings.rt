@@ -17,7 +17,7 @@ use crate::color_names::same_letters;
 use crate::colors::color_at;
 use crate::insets::{Length, sides_at};
 use crate::numbers::number_at;
-use fx_base::{Family, Kind, Text, Value};
+use fx_base::{Family, Kind, Text, TextError, Value};
 use std::alloc::{AllocError, Global};
 
 /// The value of this kind that the text spells, if there is one.
@@ -71,10 +71,10 @@ fn truth_at(s: &str) -> Option<bool>
 fn text_at(alloc: Global, s: &str) -> Result<Option<Value>, AllocError>
     ensures { IfOk result (λ o. o ≡ text_at s.now) }
 {
-    let text = String::from_str(alloc, s)?;
-    match Text::from_string(text) {
-        Some(text) => Ok(Some(Value::Text(text))),
-        None => Ok(None),
+    match Text::from_str(alloc, s) {
+        Ok(text) => Ok(Some(Value::Text(text))),
+        Err(TextError::TooLong) => Ok(None),
+        Err(TextError::Memory) => Err(AllocError),
     }
 }
 

@@ -7,5 +7,6 @@ pub mod ForgetLemmas
 pub mod GivenLemmas
 pub mod LookLemmas
 pub mod ReadLemmas
+pub mod RowLemmas
 pub mod StoreLemmas
 pub mod UnbindLemmas

@@ -3,3 +3,4 @@ pub mod Forgotten
 pub mod Given
 pub mod Reading
 pub mod Store
+pub mod Together

@@ -4,6 +4,7 @@
 #![tactic(auto)]
 
 mod binding;
+mod declaring;
 mod foreseeing;
 mod forgetting;
 mod giving;
@@ -29,15 +30,16 @@ ghost use Rattle.fx_graph_model.specs.Sound.{AreSound, IsAcyclic};
 ghost use Rattle.fx_graph_model.specs.Changes as changes;
 ghost use Rattle.fx_base.specs.Answers.{IsAnswer, IsFirmAnswer};
 ghost use Rattle.fx_graph_model.specs.Refusals as refusals;
+ghost use Rattle.fx_graph.specs.Together.{AreFirstDeclared, after_rows};
 ghost use Rattle.fx_graph.specs.Given.{ArePlain, AreReadOnly};
 ghost use Rattle.fx_graph.specs.Reading.{ArePartRead};
 ghost use Rattle.fx_graph_refusals.specs.Known.{known_kind, known_value};
 ghost use Rattle.fx_graph_refusals.specs.Known.{origin_in};
 
 use crate::lists::Lists;
+pub use declaring::Rows;
 use fx_base::{Kind, Ledgers, Name, Value, Work};
-use fx_graph_edges::Users;
-use fx_graph_model::{Definition, Entry, Formula, GraphError, Origin};
+use fx_graph_model::{Formula, GraphError, Origin};
 use fx_graph_refusals::{asking, refusals};
 use std::alloc::{AllocError, Global};
 use std::marker::Model;
@@ -94,11 +96,7 @@ impl Graph {
     pub fn reserve(&mut self, more: usize) -> Result<(), AllocError>
         ensures { self.new ≡ self.old }
     {
-        let lists = &mut self.lists;
-        room::reserve_both(&mut lists.entries, &mut lists.users, more)?;
-        room::reserve_both(&mut lists.unread, &mut lists.spare, more)?;
-        room::reserve_both(&mut lists.newly, &mut lists.cache, more)?;
-        room::reserve_both(&mut lists.fresh, &mut lists.work, more)
+        declaring::reserve_rows(&mut self.lists, more)
     }
 
     /// A further property with this value. It isn't unread.
@@ -119,27 +117,19 @@ impl Graph {
         if place >= MOST_NAMES {
             return Err(GraphError::Full);
         }
-        let lists = &mut self.lists;
-        room::reserve_two(&mut lists.entries, &mut lists.users)?;
-        room::reserve_three(&mut lists.unread, &mut lists.spare, &mut lists.newly)?;
-        room::reserve_three(&mut lists.cache, &mut lists.fresh, &mut lists.work)?;
+        declaring::reserve_rows(&mut self.lists, 1)?;
         let kept = value.copy(alloc)?;
-        let entry = Entry {
-            kind,
-            read_only,
-            origin: Origin::Initial,
-            definition: Definition::Base(value),
-        };
-        room::push_two(
-            &mut lists.entries,
-            entry,
-            &mut lists.users,
-            Users::new(alloc),
-        );
-        room::push_two(&mut lists.unread, false, &mut lists.spare, false);
-        room::push_two(&mut lists.newly, Name(0), &mut lists.cache, kept);
-        room::push_two(&mut lists.fresh, Value::Bool(false), &mut lists.work, 0);
+        declaring::push_row(alloc, &mut self.lists, kind, read_only, value, kept);
         Ok(Name(place as u32))
+    }
+
+    /// Declares these properties one after another. Where memory is wanting, the first of them may be declared.
+    pub fn declare_all<R: Rows>(&mut self, alloc: Global, rows: &R) -> Result<(), AllocError>
+        requires { length self.old.entries + length (R.rows rows.now) ≤ 4000000 }
+        ensures ok { OnOk result (self.new ≡ after_rows (R.rows rows.now) self.old) }
+        ensures first { AreFirstDeclared (R.rows rows.now) self.old self.new }
+    {
+        declaring::declare_rows(alloc, &mut self.lists, rows)
     }
 
     /// Sets properties by code, all or none, so that those that are joined never differ. Values other than texts take

@@ -12,6 +12,7 @@ pub mod MarkLemmas
 pub mod Near
 pub mod Pairing
 pub mod QuietLemmas
+pub mod Rows
 pub mod Silent
 pub mod Staying
 pub mod Stepping

@@ -16,6 +16,7 @@ ghost use Rattle.fx_graph_model.specs.Sound.{AreSound, IsAcyclic};
 ghost use Rattle.fx_graph_model.specs.Uses.{bound_in};
 ghost use Rattle.fx_graph.specs.Reading.{ArePartRead};
 ghost use Rattle.fx_store.specs.Own.{has_own};
+ghost use Rattle.fx_store.specs.Together.{AreFirstStored, with_all_declared};
 ghost use Rattle.fx_store_model.specs.Applied.{Applied};
 ghost use Rattle.fx_store_model.specs.Making.{with_owners, after_declared};
 ghost use Rattle.fx_base.specs.Answers.{IsAnswer};
@@ -24,7 +25,7 @@ ghost use Rattle.fx_store_model.specs.Step.{IsFit, IsReadSome};
 ghost use Rattle.fx_store_model.specs.Stored.{AreJoinedAlike, after_end, empty, watched_names, with_unread};
 
 use fx_base::{Kind, Ledgers, Name, Value, Work};
-use fx_graph::Graph;
+use fx_graph::{Graph, Rows};
 use fx_graph_model::Origin;
 use fx_handles::{Owner, Owners};
 use fx_listen::{Listeners, has_life};
@@ -98,6 +99,15 @@ impl Store {
     {
         let name = self.graph.declare(alloc, kind, read_only, value)?;
         Ok(name)
+    }
+
+    /// Declares these properties one after another. Where memory is wanting, the first of them may be declared.
+    pub fn declare_all<R: Rows>(&mut self, alloc: Global, rows: &R) -> Result<(), AllocError>
+        requires { length self.old.entries + length (R.rows rows.now) ≤ 4000000 }
+        ensures ok { OnOk result (self.new ≡ with_all_declared (R.rows rows.now) self.old) }
+        ensures first { AreFirstStored (R.rows rows.now) self.old self.new }
+    {
+        self.graph.declare_all(alloc, rows)
     }
 
     /// Makes one change and tells of it. Where memory is wanting, it is made wholly or not at all, but some properties

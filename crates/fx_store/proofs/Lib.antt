@@ -1,4 +1,5 @@
 pub mod AgainLemmas
+pub mod Alone
 pub mod Answering
 pub mod EndLemmas
 pub mod Ending

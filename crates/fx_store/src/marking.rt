@@ -303,12 +303,35 @@ impl Store {
         if self.graph.has_value(name, &given[0].1) {
             return self.set_again(alloc, name, &given[0].1, work);
         }
+        if !self.pairs.is_paired(name) {
+            return self.set_joined(alloc, &given[0], &[name], &given, work);
+        }
         let group = self.pairs.group(alloc, name)?;
         let names = group.as_slice();
-        let more = joined_ends(&self.pairs, name, names);
-        let watch = self.look(alloc, names, more, work)?;
         let values = with_value(alloc, names, &given[0].1)?;
-        self.graph.set_group(alloc, values.as_slice())?;
+        self.set_joined(alloc, &given[0], names, values.as_slice(), work)
+    }
+
+    /// Gives the property and all that are joined with it the value, of which this is one pair for each, and tells of
+    /// it.
+    fn set_joined<L: Ledgers>(
+        &mut self,
+        alloc: Global,
+        given: &(Name, Value),
+        names: &[Name],
+        values: &[(Name, Value)],
+        work: &mut Work<L>,
+    ) -> Result<Notices, StoreError>
+        requires allowed { set_refusal ((given.now.0, given.now.1) ∷ []) self.old.entries ≡ None }
+        requires joined { AreJoinedWith self.old.pairs given.now.0.0 names.now }
+        requires values { values.now ≡ map (λ (name : Named). (name, given.now.1)) names.now }
+        ensures applied { Applied (change.Set given.now.0 given.now.1) self.old self.new result work.old.evaluated
+            work.new.evaluated }
+        ensures others { work.new ≡ record work.old { evaluated = work.new.evaluated } }
+    {
+        let more = joined_ends(&self.pairs, given.0, names);
+        let watch = self.look(alloc, names, more, work)?;
+        self.graph.set_group(alloc, values)?;
         finish(
             alloc,
             &mut self.graph,

@@ -1,10 +1,8 @@
 -- Declaring a class's rows one after another.
-use Rattle.std.proofs.Common.{◌≡◌, ◌≤◌, ◌<◌, ℕ, ◌+◌, Bool, true, false, cond, List, [], ◌∷◌, ◌++◌, length, map, filter, take, get_or, replicate, Option, Some, None, refl, sym, ◌∙◌, ap, append_assoc, add-one, arith}
+use Rattle.std.proofs.Common.{◌≡◌, ◌≤◌, ◌<◌, ℕ, ◌+◌, Bool, true, false, cond, List, [], ◌∷◌, ◌++◌, length, map, filter, take, get_or, replicate, Option, Some, None, refl, sym, ◌∙◌, ap, append_assoc, arith}
 use Rattle.std.specs.Prelude.{slice_get}
 use Rattle.std.specs.Option.{option_map}
-use Rattle.std.proofs.Math.Seq.{take-suc}
-use Rattle.std.proofs.lemmas.List.{append-nil, length-append, length-map, length-take-le, replicate_more, take_all}
-use Rattle.std.proofs.lemmas.List.Sums.{fold-append}
+use Rattle.std.proofs.lemmas.List.{append-nil, length-append, length-map, replicate_more, take-map}
 use Rattle.std.proofs.lemmas.Option.{slice_get-get_or, slice_get-map}
 use Rattle.fx_base.specs.Printing.{kind_of}
 use Rattle.fx_base.specs.declared.kinds.Kind.{Kind}
@@ -19,7 +17,8 @@ use Rattle.fx_store_model.specs.Making.{after_declared}
 use Rattle.fx_store_model.specs.Stored.{Stored}
 use Rattle.fx_stage_model.specs.Nodes.{with_row, with_rows}
 use Rattle.fx_stage_model.specs.Taking.{with_more}
-use Rattle.fx_stage_rows.specs.Passed.{IsPassed}
+use Rattle.fx_store.specs.Together.{AreFirstStored, with_all_declared}
+use Rattle.fx_stage_rows.specs.Passed.{IsPassed, declared_row, declared_rows}
 
 -- a class has few rows
 
@@ -95,62 +94,45 @@ pub passed : (class : Class) (more : List PropertyRow) (before now : Stored) →
 passed class more before now is =
     record { others = map (entry_of_row class) more; rest = is ∙ all_more class more before }
 
-pub counted : (class : Class) (more : List PropertyRow) (before now : Stored) → now ≡ with_rows class more before
-    → length now.entries ≡ length before.entries + length more
-counted class more before now is =
-    ap (λ (s : Stored). length s.entries) (is ∙ all_more class more before)
-    ∙ length-append before.entries (map (entry_of_row class) more)
-    ∙ ap (λ (n : ℕ). length before.entries + n) (length-map more (entry_of_row class))
+-- the rows as they are declared together
 
--- there is a number for a row that isn't declared yet
-pub room_left : (class : Class) (place : ℕ) (before now : Stored) → place < length (rows_of class)
-    → length before.entries + length (rows_of class) ≤ 4000000
-    → now ≡ with_rows class (take place (rows_of class)) before → length now.entries < 4000000
-room_left class place before now within room is =
-    let few = length-take-le place (rows_of class) (omega (arith, within)) in
-    let long = counted class (take place (rows_of class)) before now is in
-    omega (arith, few, long, within, room)
+pub same_rows : (class : Class) (more : List PropertyRow) (stored : Stored)
+    → with_all_declared (map (declared_row class) more) stored ≡ with_rows class more stored
+same_rows class [] stored = refl
+same_rows class (row ∷ more) stored = same_rows class more (with_row class stored row)
 
--- declaring the row at a place
+pub first_passed : (class : Class) (before now : Stored) → AreFirstStored (declared_rows class) before now
+    → IsPassed before now
+first_passed class before now first =
+    let more = take first.count (rows_of class) in
+    passed class more before now
+    (first.first
+    ∙ ap (λ (rows : List (Bool × Value)). with_all_declared rows before)
+    (take-map (declared_row class) first.count (rows_of class))
+    ∙ same_rows class more before)
 
-take_more : {X : Type 0} (xs : List X) (n : ℕ) (x : X) → n < length xs → slice_get xs n ≡ Some x
-    → take (n + 1) xs ≡ take n xs ++ x ∷ []
-take_more {X = X} xs n x within is =
-    let found : Some x ≡ Some (get_or xs n x) = sym is ∙ slice_get-get_or xs n x within in
-    let same : get_or xs n x ≡ x = cc in
-    ap (λ (m : ℕ). take m xs) (add-one n) ∙ take-suc xs n x within ∙ ap (λ (y : X). take n xs ++ y ∷ []) same
+pub count_declared : (class : Class) → length (declared_rows class) ≡ length (rows_of class)
+count_declared class = length-map (rows_of class) (declared_row class)
 
-pub next_row : (class : Class) (list : List Property) (place : ℕ) (d : Property) (v : Value) (before mid now : Stored)
+-- the row at a place of the code's list
+pub row_here : (class : Class) (list : List Property) (place : ℕ) (d : Property) (v : Value)
     → map listed_property list ≡ properties_of class → place < length list → initial_of class place ≡ Some v
-    → mid ≡ with_rows class (take place (rows_of class)) before
-    → now ≡ after_declared (kind_of v) (get_or list place d).read_only v mid
-    → now ≡ with_rows class (take (place + 1) (rows_of class)) before
-next_row class list place d v before mid now is within first mid_is now_is =
+    → slice_get (declared_rows class) place ≡ Some ((get_or list place d).read_only, v)
+row_here class list place d v is within first =
     let here : option_map listed (slice_get (rows_of class) place) ≡ Some (listed_property (get_or list place d)) =
     sym (slice_get-map listed (rows_of class) place) ∙ ap (λ (ps : List ListedProperty). slice_get ps place) (sym is)
     ∙ slice_get-map listed_property list place
     ∙ ap (option_map listed_property) (slice_get-get_or list place d within) in
-    by_row (slice_get (rows_of class) place) refl here first
+    slice_get-map (declared_row class) (rows_of class) place ∙ by_row (slice_get (rows_of class) place) here first
   where
-    by_row : (o : Option PropertyRow) → slice_get (rows_of class) place ≡ o
-        → option_map listed o ≡ Some (listed_property (get_or list place d))
+    by_row : (o : Option PropertyRow) → option_map listed o ≡ Some (listed_property (get_or list place d))
         → option_map (λ (row : PropertyRow). row.initial class) o ≡ Some v
-        → now ≡ with_rows class (take (place + 1) (rows_of class)) before
-    by_row None at e f = absurd (cc)
-    by_row (Some row) at e f =
+        → option_map (declared_row class) o ≡ Some ((get_or list place d).read_only, v)
+    by_row None e f = absurd (cc)
+    by_row (Some row) e f =
         let same : listed row ≡ listed_property (get_or list place d) = cc in
         let value : row.initial class ≡ v = cc in
         let fixed : row.read_only ≡ (get_or list place d).read_only =
         ap (λ (q : ListedProperty). q.read_only) same in
-        let inside : place < length (rows_of class) = omega (arith, within, as_long class list is) in
-        now_is ∙ ap (λ (r : Bool). after_declared (kind_of v) r v mid) (sym fixed)
-        ∙ ap (λ (u : Value). after_declared (kind_of u) row.read_only u mid) (sym value)
-        ∙ ap (λ (s : Stored). with_row class s row) mid_is
-        ∙ sym (fold-append (with_row class) before (take place (rows_of class)) (row ∷ []))
-        ∙ ap (λ (more : List PropertyRow). with_rows class more before)
-        (sym (take_more (rows_of class) place row inside at))
-
-pub all_rows : (class : Class) (place : ℕ) (before now : Stored) → length (rows_of class) ≤ place
-    → now ≡ with_rows class (take place (rows_of class)) before → now ≡ with_rows class (rows_of class) before
-all_rows class place before now last is =
-    is ∙ ap (λ (more : List PropertyRow). with_rows class more before) (take_all place (rows_of class) last)
+        ap (λ (r : Bool). Some (r, row.initial class)) fixed
+        ∙ ap (λ (u : Value). Some ((get_or list place d).read_only, u)) value

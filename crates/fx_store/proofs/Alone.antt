@@ -1,7 +1,6 @@
 -- A property in no pair is joined with itself alone.
-use Rattle.std.proofs.Common.{◌≡◌, ◌↔◌, ℕ, Bool, true, false, List, [], ◌∷◌, Contains, arith, refl, sym, subst, ap, ◌∙◌, ◌⊎◌, inl, inr}
+use Rattle.std.proofs.Common.{◌≡◌, ◌↔◌, ℕ, true, false, List, [], ◌∷◌, Contains, arith, refl, sym, subst, ap, ◌∙◌, ◌⊎◌, inl, inr}
 use Rattle.fx_base.specs.declared.keys.Name.{Name}
-use Rattle.fx_base.specs.Names.{numbers}
 use Rattle.fx_graph_model.proofs.Members.{contains_cases, contains_first, none_in_nil}
 use Rattle.fx_store_pairs.specs.Pairs.{is_paired, joined}
 use Rattle.fx_store_pairs.proofs.Joining.{joined-least, joined-refl}

@@ -1,6 +1,5 @@
 use Rattle.std.proofs.Common.{◌≡◌, true, [], ◌∷◌, None, arith, refl, sym, subst, ◌∙◌}
 use Rattle.std.proofs.lemmas.Result.{err_from_is_err_and}
-use Rattle.fx_store_model.specs.declared.changes.Change.TheVariants.{Set}
 use Rattle.fx_store_model.specs.Stored.{Stored}
 use Rattle.fx_graph_model.specs.Eager.{eager}
 use Rattle.fx_graph_model.specs.Equality.{same_value}
@@ -9,7 +8,7 @@ use Rattle.fx_store.specs.Groups.{AreJoinedWith}
 use Rattle.fx_store.proofs.Alone.{alone_joined}
 use Rattle.fx_store.proofs.Stepping.{step_unmade}
 use Rattle.fx_store.proofs.Twins.{set_settable}
-use Rattle.fx_store.proofs.UnderLemmas.{IsJoined, allowed_set, failed_made, joined_here, not_some, refused_set, set_known, set_unrefused, set_values, under_known, under_set}
+use Rattle.fx_store.proofs.UnderLemmas.{allowed_set, not_some, refused_set}
 use Rattle.fx_store.proofs.store.Store.set.Goals as goal
 
 pub returns-in-Some-clause-applied : goal.returns-in-Some-clause-applied

@@ -165,17 +165,17 @@ impl ClassPlaces {
 #[inline(never)]
 fn exchange(
     alloc: Global,
-    last: &mut ClassPlaces,
-    other: &mut ClassPlaces,
+    last: &mut Box<ClassPlaces>,
+    other: &mut Box<ClassPlaces>,
     class: Class,
 ) -> Result<(), AllocError>
-    ensures { OnOk result (last.new ≡ class) }
+    ensures { OnOk result (last.new.value ≡ class) }
 {
     swap(last, other);
     if last.is_of(class) {
         return Ok(());
     }
-    *last = ClassPlaces::of(alloc, class)?;
+    **last = ClassPlaces::of(alloc, class)?;
     Ok(())
 }
 
@@ -183,8 +183,8 @@ fn exchange(
 /// see the class that counts now.
 #[derive(Drop)]
 pub struct Places {
-    last: ClassPlaces,
-    other: ClassPlaces,
+    last: Box<ClassPlaces>,
+    other: Box<ClassPlaces>,
 }
 
 impl Model for Places {
@@ -192,7 +192,7 @@ impl Model for Places {
 
     ghost Value = { ClassName };
 
-    ghost view = { λ p. p.last };
+    ghost view = { λ p. p.last.value };
 }
 
 impl Places {
@@ -202,7 +202,10 @@ impl Places {
     {
         let last = ClassPlaces::of(alloc, Class::String)?;
         let other = ClassPlaces::of(alloc, Class::String)?;
-        Ok(Places { last, other })
+        Ok(Places {
+            last: Box::new(alloc, last)?,
+            other: Box::new(alloc, other)?,
+        })
     }
 
     /// The places for this class from now on. They are looked for only if neither of the last two classes was it.

@@ -1,6 +1,6 @@
 -- Sizes that stay are left out of what is published: a property that is given the value that it has already is as it
 -- was, and nobody is told.
-use Rattle.std.proofs.Common.{◌≡◌, ◌≢◌, ◌∙◌, ◌+◌, ◌||◌, ℕ, Bool, true, false, cond, not, List, [], ◌∷◌, Contains, filter, map, set, Some, None, refl, sym, ap, subst, inl, inr, true≢false}
+use Rattle.std.proofs.Common.{◌≡◌, ◌≢◌, ◌∙◌, ◌+◌, ◌||◌, ℕ, Bool, true, false, cond, not, List, [], ◌∷◌, Contains, filter, map, set, None, refl, sym, ap, subst, inl, inr, true≢false}
 use Rattle.std.proofs.lemmas.Bool.{cases_Bool, not-false, not_from_true}
 use Rattle.std.proofs.lemmas.List.{set-get_or}
 use Rattle.std.proofs.lemmas.List.Elements.{All-contains, All-filter}

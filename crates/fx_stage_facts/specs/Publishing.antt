@@ -46,6 +46,9 @@ size_named entries node property = option_and_then (size_if entries) (property_i
 abbrev pub sized_by : ℤ → Name → Name × Value
 sized_by length name = (name, value.Int length)
 
+abbrev pub pair_if : List Entry → ℤ → ℕ → List (Name × Value)
+pair_if entries length name = option_to_list (option_map (sized_by length) (size_if entries name))
+
 abbrev pub pair_of : List Entry → NodeData → List ℕ → ℤ → List (Name × Value)
 pair_of entries node property length = option_to_list (option_map (sized_by length) (size_named entries node property))
 

@@ -27,43 +27,29 @@ fn is_number(kind: Option<Kind>) -> bool
     }
 }
 
-/// The node's property, if it is such a number.
-fn size_named(store: &Store, places: &Places, node: &NodeData, asked: Asked) -> Option<Name>
-    requires class { places.now ≡ node.now.class }
-    requires low { node.now.first ≤ 4000000 }
-    ensures { result ≡ spec.size_named store.now.entries node.now (name_of asked) }
+/// Is the property a number that only the player writes?
+fn is_size(store: &Store, name: Name) -> bool
+    ensures { result ≡ spec.is_size store.now.entries name.0 }
 {
-    match name_in(places, node, asked) {
-        None => None,
-        Some(name) => if_size(store, name),
-    }
+    store.is_read_only(name) && is_number(store.kind(name))
 }
 
-/// The property, if it is a number that only the player writes.
-fn if_size(store: &Store, name: Name) -> Option<Name>
-    ensures { result ≡ spec.size_if store.now.entries name.0 }
-{
-    if !store.is_read_only(name) {
-        return None;
-    }
-    if !is_number(store.kind(name)) {
-        return None;
-    }
-    Some(name)
-}
-
-/// Puts the property behind the others, with this length, unless it has it already.
+/// Puts the property behind the others, with this length, if it is a number that only the player writes, unless it has
+/// the length already. Since most have it, that is looked at first.
 fn push_if_new(
     pairs: &mut Vec<(Name, Value)>,
     store: &Store,
     name: Name,
     length: i64,
 ) -> Result<(), AllocError>
-    ensures { OnOk result (pairs.new.items
-        ≡ pairs.old.items ++ differing store.now (spec.sized_by length name ∷ [])) }
+    ensures { OnOk result (pairs.new.items ≡ pairs.old.items
+        ++ differing store.now (spec.pair_if store.now.entries length name.0)) }
 {
     let value = Value::Int(length);
     if store.has_own_value(name, &value) {
+        return Ok(());
+    }
+    if !is_size(store, name) {
         return Ok(());
     }
     pairs.push((name, value))?;
@@ -84,7 +70,7 @@ fn push_pair(
     ensures { OnOk result (pairs.new.items ≡ pairs.old.items
         ++ differing store.now (spec.pair_of store.now.entries node.now (name_of asked) length)) }
 {
-    match size_named(store, places, node, asked) {
+    match name_in(places, node, asked) {
         None => Ok(()),
         Some(name) => push_if_new(pairs, store, name, length),
     }

@@ -2,6 +2,7 @@
 ghost use Rattle.std.specs.Prelude.{◌≡◌, ◌≤◌, ◌+◌, ◌++◌, ◌∷◌, [], IsTrue, OnOk, Some, false, length, option_to_list, slice_get};
 ghost use Rattle.fx_graph_model.specs.Uses.{unknown_in};
 ghost use Rattle.fx_graph_model.specs.Unread.{marked};
+ghost use Rattle.fx_base.specs.declared.values.Value.TheVariants as value;
 ghost use Rattle.fx_kinds.specs.Properties.{properties_of};
 ghost use Rattle.fx_stage_types.specs.declared.node_data.NodeData.{NodeData as Data};
 ghost use Rattle.fx_stage_facts.specs.Reads.{AreStyledRead, IsRead};
@@ -107,8 +108,45 @@ fn stands_at(
     }
 }
 
-/// Puts a value by code behind the others, unless the old one that stands there is the same. A number takes no memory,
-/// so it is put there at once.
+/// Makes the value by code this number. Only the number is written where it was one before.
+#[inline]
+fn put_number(code: &mut CodeValue, style: StyleName, number: i64, bound: bool)
+    ensures { code.new ≡ record { style = style; value = value.Int number; bound = bound } }
+{
+    code.style = style;
+    code.bound = bound;
+    match &mut code.value {
+        Value::Int(old) => *old = number,
+        other => *other = Value::Int(number),
+    }
+}
+
+/// Puts a number by code behind the others. It takes no memory where an old value stands there.
+#[inline]
+fn push_number(
+    codes: &mut Refill<CodeValue>,
+    style: StyleName,
+    number: i64,
+    bound: bool,
+) -> Result<(), AllocError>
+    ensures { OnOk result (codes.new
+        ≡ codes.old ++ record { style = style; value = value.Int number; bound = bound } ∷ []) }
+{
+    let place = codes.count;
+    if place == codes.items.len() {
+        let value = Value::Int(number);
+        return codes.push(CodeValue {
+            style,
+            value,
+            bound,
+        });
+    }
+    put_number(&mut codes.items[place], style, number, bound);
+    codes.count += 1;
+    Ok(())
+}
+
+/// Puts a value by code behind the others, unless the old one that stands there is the same.
 #[tactic(auto, using(crate::proofs::RefillLemmas::one_more))]
 fn push_value(
     alloc: Global,
@@ -120,14 +158,6 @@ fn push_value(
     ensures { OnOk result (codes.new
         ≡ codes.old ++ record { style = style; value = value.now; bound = bound } ∷ []) }
 {
-    if let Value::Int(number) = value {
-        let value = Value::Int(*number);
-        return codes.push(CodeValue {
-            style,
-            value,
-            bound,
-        });
-    }
     if stands_at(codes.items.as_slice(), codes.count, style, value, bound) {
         codes.count += 1;
         return Ok(());
@@ -162,6 +192,7 @@ fn push_code(
     };
     match store.value(name) {
         None => Ok(()),
+        Some(Value::Int(number)) => push_number(codes, style, *number, bound),
         Some(value) => push_value(alloc, codes, style, value, bound),
     }
 }

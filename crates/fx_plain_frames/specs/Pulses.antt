@@ -7,18 +7,13 @@ use Rattle.fx_frame_text.specs.Frames.{Image, frame_text, image_of, pixel_sum}
 use Rattle.fx_frame_text.specs.declared.forms.Form.{Form}
 use Rattle.fx_picture.specs.Pixels.{pixel}
 use Rattle.fx_picture.specs.Shapes.{whole}
+use Rattle.fx_plain_explain.specs.Facts.{Size, box_facts, disabled_flags, look_cost, looked, published, sheets_of, sized, style_facts}
 use Rattle.fx_plain_steps.specs.Courses.{Course}
 use Rattle.fx_plain_steps.specs.Lines.{heard_in}
 use Rattle.fx_plain_steps.specs.Told.{Told}
 use Rattle.fx_pulse_model.specs.Frames.{Framed, IsFrame, frame_damage}
 use Rattle.fx_pulse_model.specs.Scenes.{Scene}
-use Rattle.fx_stage_facts.specs.Attached.{look_cost, looked}
 use Rattle.fx_kinds.specs.declared.facts.BoxFacts.{BoxFacts}
-use Rattle.fx_stage_facts.specs.Boxes.{box_facts}
-use Rattle.fx_stage_facts.specs.Publishing.{Size, published, sized}
-use Rattle.fx_stage_facts.specs.Scenes.{disabled_flags}
-use Rattle.fx_stage_facts.specs.Sheets.{sheets_of}
-use Rattle.fx_stage_facts.specs.Styles.{style_facts}
 use Rattle.fx_stage_model.specs.World.{World}
 use Rattle.fx_stage_text.specs.Printing.{notice_lines}
 use Rattle.fx_store_model.specs.declared.changes.Notices.{Notices}

@@ -3,8 +3,7 @@
 use Rattle.std.specs.Prelude.{◌≡◌, ℕ, Bool, true, false, List, [], ◌∷◌, Result, Ok, Err}
 use Rattle.fx_base.specs.declared.positions.Place.{Place}
 use Rattle.fx_base.specs.declared.positions.Position.{Position}
-use Rattle.fx_scene_plan.specs.Plans.{Standing, roomy, stepped, unbuilt}
-use Rattle.fx_stage_model.specs.World.{World}
+use Rattle.fx_scene_plan.specs.Plans.{Standing, World, roomy, stepped, unbuilt}
 use Rattle.fx_stage_types.specs.declared.refusals.Refusal.{Refusal}
 use Rattle.fx_stage_types.specs.declared.refusals.Refusal.TheVariants as word
 use Rattle.fx_scene_acts.specs.declared.acts.Act.{Act}

@@ -16,7 +16,7 @@ use Rattle.fx_stage_types.specs.declared.steps.BuildStep.TheVariants as step
 use Rattle.fx_stage_model.specs.Answers.{Taken, and_then, or_word, unless}
 use Rattle.fx_stage_model.specs.Building.{built, living, node_made}
 use Rattle.fx_stage_model.specs.Looking.{property_in}
-use Rattle.fx_stage_model.specs.World.{World}
+pub use Rattle.fx_stage_model.specs.World.{World}
 use Rattle.fx_tree.specs.Scene.{path}
 use Rattle.fx_scene_plan.specs.declared.steps.PlannedProperty.{PlannedProperty}
 use Rattle.fx_scene_plan.specs.declared.steps.PlannedStep.{PlannedStep}

@@ -33,7 +33,8 @@ pub fn role_of(name: &str) -> Role
     searched_role(name)
 }
 
-/// Do the first letters say that it is a property or a constraint, by the dot in it? Where they don't, it may be one still.
+/// Do the first letters say that it is a property or a constraint, by the dot in it? Where they don't, it may be one
+/// still.
 #[tactic(auto, unfolding(crate::specs::Roles::role_of))]
 fn begins_plain(name: &[u8]) -> bool
     ensures { IsTrue result → spec.role_of name.now ≡ spec.dotted_role name.now }

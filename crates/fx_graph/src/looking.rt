@@ -146,12 +146,19 @@ fn is_any_unread(names: &[Name], unread: &[bool]) -> bool
     false
 }
 
-/// Whether one of the flags is set. All are looked at, since the compiler then takes many at a time.
+/// Whether one of the flags is set. Four are looked at in a turn: most lists are short, and the compiler takes longer
+/// to get ready for many at a time than to look at these.
 fn is_one_of(flags: &[bool]) -> bool
     ensures { result ≡ list_any (λ flag. flag) flags.now }
 {
     let mut any = false;
-    for flag in flags {
+    let mut rest = flags;
+    while rest.len() >= 4 {
+        any |= rest[0] | rest[1] | rest[2] | rest[3];
+        let (_, more) = rest.split_at(4);
+        rest = more;
+    }
+    for flag in rest {
         any |= *flag;
     }
     any

@@ -87,11 +87,11 @@ full_same total used more after within few sum =
     (λ e. lt-ltb (1000000 - (total - used)) more (omega (arith, ltb-true 1000000 after e)))
 
 -- the rows of users may have more room
-pub store_roomier : (es : List Entry) (users users' : List Row) (unread before : List Bool) (newly : List Name) (n : ℕ) (cache fresh : List Value) (work : List ℕ) (operands : ℕ)
-    (work' : List ℕ) → IsStore es users unread before newly n cache fresh work operands → Mirrors es users'
+pub store_roomier : (es : List Entry) (users users' : List Row) (unread before : List Bool) (newly : List Name) (n : ℕ) (cache : List Value) (work : List ℕ) (operands : ℕ)
+    (work' : List ℕ) → IsStore es users unread before newly n cache work operands → Mirrors es users'
     → length work' ≡ length es
-    → IsStore es users' unread before newly n cache fresh work' operands
-store_roomier es users users' unread before newly n cache fresh work operands work' s m w =
+    → IsStore es users' unread before newly n cache work' operands
+store_roomier es users users' unread before newly n cache work operands work' s m w =
     record {
       ranks = s.ranks;
       sound = s.sound;
@@ -100,7 +100,6 @@ store_roomier es users users' unread before newly n cache fresh work operands wo
       spare_unset = s.spare_unset;
       newly_length = s.newly_length;
       newly_few = s.newly_few;
-      fresh_length = s.fresh_length;
       work_length = w;
       few = s.few;
       counted = s.counted;
@@ -108,14 +107,14 @@ store_roomier es users users' unread before newly n cache fresh work operands wo
     }
 
 -- a binding was made
-pub store_bound : (es : List Entry) (users users' : List Row) (unread before : List Bool) (newly : List Name) (n : ℕ) (cache fresh : List Value) (work : List ℕ) (total : ℕ)
+pub store_bound : (es : List Entry) (users users' : List Row) (unread before : List Bool) (newly : List Name) (n : ℕ) (cache : List Value) (work : List ℕ) (total : ℕ)
     (name : ℕ) (expr : Tree) (operands : List ℕ) (newly' : List Name) (n' : ℕ) (work' : List ℕ) (total' : ℕ)
-    → IsStore es users unread before newly n cache fresh work total
+    → IsStore es users unread before newly n cache work total
     → Bindable es name expr operands → is_within expr (length operands) ≡ true → Mirrors (with_binding name expr operands es) users'
     → length newly' ≡ length es → n' ≤ length es → length work' ≡ length es
     → total' + length (uses es name) ≡ total + length operands
-    → IsStore (with_binding name expr operands es) users' (after_marking (with_binding name expr operands es) (name ∷ []) unread) before newly' n' cache fresh work' total'
-store_bound es users users' unread before newly n cache fresh work total name expr operands newly' n' work' total' s b places m l h w sum =
+    → IsStore (with_binding name expr operands es) users' (after_marking (with_binding name expr operands es) (name ∷ []) unread) before newly' n' cache work' total'
+store_bound es users users' unread before newly n cache work total name expr operands newly' n' work' total' s b places m l h w sum =
     let entry : Entry = bound_to expr operands (entry_of es name) in
     let long : length (with_binding name expr operands es) ≡ length es = length-set es name entry in
     let after = bind_ranked es s.ranks.0 s.ranks.1 name expr operands b in
@@ -129,7 +128,6 @@ store_bound es users users' unread before newly n cache fresh work total name ex
       spare_unset = s.spare_unset ∙ ap (λ n. replicate n false) (sym long);
       newly_length = l ∙ sym long;
       newly_few = omega (arith, h, long);
-      fresh_length = s.fresh_length ∙ sym long;
       work_length = w ∙ sym long;
       few = omega (arith, s.few, long);
       counted = counted;

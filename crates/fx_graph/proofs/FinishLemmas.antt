@@ -11,17 +11,16 @@ Ends l f = f ≡ record l { unread = f.unread; work = f.work; newly = f.newly; n
 
 pub store_finished : (l f : Lists) (names : List ℕ) (was : List Bool) → Ends l f → IsMarked names was f
     → IsStore l.entries.items l.users.items (after_marking l.entries.items names was) l.spare.items f.newly.items f.newly_count
-    l.cache.items l.fresh.items f.work.items l.operand_count
+    l.cache.items f.work.items l.operand_count
     → Holds f
 store_finished l f names was e m s =
     let entries : f.entries ≡ l.entries = ap (λ (x : Lists). x.entries) e in
     let users : f.users ≡ l.users = ap (λ (x : Lists). x.users) e in
     let spare : f.spare ≡ l.spare = ap (λ (x : Lists). x.spare) e in
     let cache : f.cache ≡ l.cache = ap (λ (x : Lists). x.cache) e in
-    let fresh : f.fresh ≡ l.fresh = ap (λ (x : Lists). x.fresh) e in
     let count : f.operand_count ≡ l.operand_count = ap (λ (x : Lists). x.operand_count) e in
     let unread : f.unread.items ≡ after_marking l.entries.items names was = rw entries at m.unread in
-    rw (entries, users, spare, cache, fresh, count, unread) s
+    rw (entries, users, spare, cache, count, unread) s
 
 pub shown_finished : (l f : Lists) (names : List ℕ) (was : List Bool) (state : State) → Ends l f → IsMarked names was f
     → state.unread ≡ was → shown f ≡ after_change l.entries.items names state

@@ -72,11 +72,11 @@ cleared_back es names was unread lent left newly given count loan gift marked li
     ∙ marks_cleared es names was
 
 -- another list of what became unread
-pub store_foreseen : (es : List Entry) (users : List Row) (unread before : List Bool) (newly : List Name) (n : ℕ) (cache fresh : List Value) (work : List ℕ) (operands : ℕ)
-    (newly' : List Name) (n' : ℕ) (work' : List ℕ) → IsStore es users unread before newly n cache fresh work operands
+pub store_foreseen : (es : List Entry) (users : List Row) (unread before : List Bool) (newly : List Name) (n : ℕ) (cache : List Value) (work : List ℕ) (operands : ℕ)
+    (newly' : List Name) (n' : ℕ) (work' : List ℕ) → IsStore es users unread before newly n cache work operands
     → length newly' ≡ length es → n' ≤ length es → length work' ≡ length es
-    → IsStore es users unread before newly' n' cache fresh work' operands
-store_foreseen es users unread before newly n cache fresh work operands newly' n' work' s long few places =
+    → IsStore es users unread before newly' n' cache work' operands
+store_foreseen es users unread before newly n cache work operands newly' n' work' s long few places =
     record {
       ranks = s.ranks;
       sound = s.sound;
@@ -85,7 +85,6 @@ store_foreseen es users unread before newly n cache fresh work operands newly' n
       spare_unset = s.spare_unset;
       newly_length = long;
       newly_few = few;
-      fresh_length = s.fresh_length;
       work_length = places;
       few = s.few;
       counted = s.counted;

@@ -67,12 +67,12 @@ reset_is [] cache = sym (reset-none cache)
 reset_is (name ∷ names) cache = reset_is names (set cache name no_value) ∙ sym (reset-more name names cache)
 
 -- names that no other name uses were forgotten
-pub store_forgotten : (es : List Entry) (users : List Row) (unread before : List Bool) (newly : List Name) (n : ℕ) (cache fresh : List Value) (work : List ℕ) (operands : ℕ)
+pub store_forgotten : (es : List Entry) (users : List Row) (unread before : List Bool) (newly : List Name) (n : ℕ) (cache : List Value) (work : List ℕ) (operands : ℕ)
     (names : List ℕ) (users' : List Row) (left : ℕ)
-    → IsStore es users unread before newly n cache fresh work operands → IsFree names es
+    → IsStore es users unread before newly n cache work operands → IsFree names es
     → Mirrors (forget_all names es) users' → left ≡ operand_count (forget_all names es) → left ≤ operands
-    → IsStore (forget_all names es) users' (clear_all names unread) before newly n (reset names cache) fresh work left
-store_forgotten es users unread before newly n cache fresh work operands names users' left s free m counted fewer =
+    → IsStore (forget_all names es) users' (clear_all names unread) before newly n (reset names cache) work left
+store_forgotten es users unread before newly n cache work operands names users' left s free m counted fewer =
     let long : length (forget_all names es) ≡ length es = length-forget names es in
     record {
       ranks = (s.ranks.0, ranked_forget names es s.ranks.0 s.ranks.1);
@@ -83,7 +83,6 @@ store_forgotten es users unread before newly n cache fresh work operands names u
       spare_unset = s.spare_unset ∙ ap (λ n. replicate n false) (sym long);
       newly_length = s.newly_length ∙ sym long;
       newly_few = omega (arith, s.newly_few);
-      fresh_length = s.fresh_length ∙ sym long;
       work_length = s.work_length ∙ sym long;
       few = omega (arith, s.few);
       counted = counted;

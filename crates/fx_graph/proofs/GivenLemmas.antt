@@ -1,13 +1,12 @@
 -- Values that are given to names one by one.
-use Rattle.std.proofs.Common.{◌≡◌, ◌≢◌, ◌<◌, ◌+◌, ℕ, Bool, true, false, cond, not, List, [], ◌∷◌, ◌++◌, length, get_or, set, take, drop, map, filter, All, AllPairs, Contains, refl, sym, ap, subst, ◌∙◌, inl, inr, arith}
-use Rattle.std.proofs.lemmas.List.{get_or_read, get_or-set_same, get_or-set_other, at_drop_more, take_more, map-append}
+use Rattle.std.proofs.Common.{◌≡◌, ◌<◌, ◌+◌, ℕ, Bool, true, false, cond, not, List, [], ◌∷◌, ◌++◌, length, get_or, set, take, drop, reverse, map, filter, All, Contains, refl, sym, ap, subst, ◌∙◌, inl, inr, arith}
+use Rattle.std.proofs.lemmas.List.{at_drop_more, take_more, map-append, append-nil, append_cancel_right, reverse-append}
 use Rattle.std.proofs.lemmas.List.Elements.{filter-append, Contains-append_left, Contains-append_right, Contains-append_cases}
-use Rattle.std.proofs.lemmas.Bool.{cases_lt, cases_Bool, cases_eq}
+use Rattle.std.proofs.lemmas.Bool.{cases_lt, cases_Bool}
 use Rattle.fx_base.specs.declared.keys.Name.{Name}
 use Rattle.fx_base.specs.declared.values.Value.{Value}
-use Rattle.fx_expr.specs.Meaning.{no_value}
+use Rattle.fx_base.specs.Printing.{is_plain}
 use Rattle.fx_graph_model.specs.declared.entries.Entry.{Entry}
-use Rattle.fx_base.specs.Names.{name_of}
 use Rattle.fx_graph_model.specs.Uses.{entry_of, Ranked}
 use Rattle.fx_graph_model.specs.Equality.{same_value}
 use Rattle.fx_graph_model.specs.Eager.{value_of_definition, eager}
@@ -15,23 +14,35 @@ use Rattle.fx_graph_model.specs.Unread.{marked}
 use Rattle.fx_graph_model.specs.Marking.{MarksAll, at}
 use Rattle.fx_graph_model.specs.Changes.{given, with_values, changed}
 use Rattle.fx_graph_model.proofs.Values.{eager-unfold}
-use Rattle.fx_graph.specs.Given.{ArePrepared}
+use Rattle.fx_graph.specs.Given.{texts_of, texts_in}
 
 -- an item that was read by its place has what all have
 pub at_item : {X : Type 0} (P : X → Type 0) (xs : List X) (k : ℕ) (x : X) → k < length xs → x ≡ get_or xs k x → All P xs → P x
 at_item P xs k x h e all = subst P (sym e) (all k x h)
 
-module _ (pairs : List (Name × Value)) (k : ℕ) (pair : Name × Value) (h : k < length pairs) (is : pair ≡ get_or pairs k pair) where
-  -- the prepared value of the next pair
-  pub prepared_at : (fresh : List Value) → ArePrepared k (length pairs) fresh pairs → get_or fresh pair.0.0 no_value ≡ pair.1
-  prepared_at fresh before =
-      subst (λ (p : Name × Value). get_or fresh p.0.0 no_value ≡ p.1) (sym is) (before k pair (omega arith) h)
+turned : (is : Bool) (value : Value) (rest : List Value)
+    → reverse (cond is (value ∷ rest) rest) ≡ reverse rest ++ cond is (value ∷ []) []
+turned true value rest = reverse-append (value ∷ []) rest
+turned false value rest = sym (append-nil (reverse rest))
 
+module _ (pairs : List (Name × Value)) (k : ℕ) (pair : Name × Value) (h : k < length pairs) (is : pair ≡ get_or pairs k pair) where
   pub given_more : (sets : Bool) (es : List Entry)
       → with_values sets (drop (k + 1) pairs) (set es pair.0.0 (given sets pair.1 (entry_of es pair.0.0))) ≡ with_values sets (drop k pairs) es
   given_more sets es =
       sym (subst (λ (p : Name × Value). with_values sets (drop k pairs) es ≡ with_values sets (p ∷ drop (k + 1) pairs) es) (sym is)
       (at_drop_more (λ (ps : List (Name × Value)). with_values sets ps es) pairs k pair h))
+
+  -- the text of the next pair, if it is one, stands last
+  pub texts_more : reverse (texts_in (drop k pairs)) ≡ reverse (texts_in (drop (k + 1) pairs)) ++ texts_of (pair.1 ∷ [])
+  texts_more =
+      subst (λ (p : Name × Value). reverse (texts_in (drop k pairs)) ≡ reverse (texts_in (p ∷ drop (k + 1) pairs))) (sym is)
+      (at_drop_more (λ (ps : List (Name × Value)). reverse (texts_in ps)) pairs k pair h)
+      ∙ turned (not (is_plain pair.1)) pair.1 (texts_in (drop (k + 1) pairs))
+
+  -- the other texts are left when it is taken
+  pub texts_less : (before now : List Value) → before ≡ reverse (texts_in (drop k pairs)) → before ≡ now ++ texts_of (pair.1 ∷ [])
+      → now ≡ reverse (texts_in (drop (k + 1) pairs))
+  texts_less before now all taken = append_cancel_right _ _ _ (sym taken ∙ all ∙ texts_more)
 
   pub changed_more : (es : List Entry) → changed (take (k + 1) pairs) es ≡ changed (take k pairs) es ++ changed (pair ∷ []) es
   changed_more es =
@@ -40,36 +51,6 @@ module _ (pairs : List (Name × Value)) (k : ℕ) (pair : Name × Value) (h : k 
       ap (λ (ps : List (Name × Value)). changed ps es) (take_more pairs k pair h)
       ∙ subst (λ (q : Name × Value). changed (take k pairs ++ q ∷ []) es ≡ changed (take k pairs) es ++ changed (pair ∷ []) es) is
       (ap (map f) (filter-append p (take k pairs) (pair ∷ [])) ∙ map-append f (filter p (take k pairs)) (filter p (pair ∷ [])))
-
-module _ (pairs : List (Name × Value)) (distinct : AllPairs (λ (one other : Name × Value). one.0 ≢ other.0) pairs) (k : ℕ) (pair : Name × Value) (h : k < length pairs) (is : pair ≡ get_or pairs k pair) where
-  apart : (i : ℕ) (d : Name × Value) → i < length pairs → i ≢ k → (get_or pairs i d).0.0 ≢ pair.0.0
-  apart i d low other e =
-      let here : pair ≡ get_or pairs k d = get_or_read pairs k pair h is d in
-      let same : (get_or pairs i d).0 ≡ (get_or pairs k d).0 = ap name_of e ∙ ap (λ (p : Name × Value). p.0) here in
-      elim (cases_lt i k) [
-        | inl q ↦ distinct i k d q h same
-        | inr q ↦ let r : k < i = omega arith in distinct k i d r low (sym same)
-      ]
-
-  pub prepared_more : (fresh : List Value) (value : Value) → pair.0.0 < length fresh → value ≡ pair.1 → ArePrepared 0 k fresh pairs
-      → ArePrepared 0 (k + 1) (set fresh pair.0.0 value) pairs
-  prepared_more fresh value within same before i d low high =
-      elim (cases_eq i k) [
-        | inl e ↦
-            let here : pair ≡ get_or pairs i d = get_or_read pairs k pair h is d ∙ ap (λ n. get_or pairs n d) (sym e) in
-            subst (λ (p : Name × Value). get_or (set fresh pair.0.0 value) p.0.0 no_value ≡ p.1) here
-            (get_or-set_same fresh pair.0.0 value no_value within ∙ same)
-        | inr e ↦
-            let there : i < length pairs = omega arith in
-            let below : i < k = omega (arith, e) in
-            get_or-set_other fresh pair.0.0 (get_or pairs i d).0.0 value no_value (apart i d there e) ∙ before i d low below
-      ]
-
-  pub prepared_less : (fresh : List Value) (value : Value) → ArePrepared k (length pairs) fresh pairs
-      → ArePrepared (k + 1) (length pairs) (set fresh pair.0.0 value) pairs
-  prepared_less fresh value before i d low high =
-      let e : i ≢ k = omega arith in
-      get_or-set_other fresh pair.0.0 (get_or pairs i d).0.0 value no_value (apart i d high e) ∙ before i d (omega arith) high
 
 -- whether the one pair is a change
 pub changed-one : (es : List Entry) (rank : ℕ → ℕ) → Ranked es rank → (pair : Name × Value)

@@ -241,7 +241,7 @@ looks_part_needed first now next names all name values cost cost' k within p =
 -- the flags are put back after some names were read
 pub looked_back : (first now : Lists) (flags : List Bool) → Holds first → Holds now → IsSomeRead (shown first) (shown now)
     → flags ≡ first.unread.items
-    → IsStore now.entries.items now.users.items flags now.spare.items now.newly.items now.newly_count now.cache.items now.fresh.items
+    → IsStore now.entries.items now.users.items flags now.spare.items now.newly.items now.newly_count now.cache.items
     now.work.items now.operand_count
 looked_back first now flags h k r same =
     let entries : now.entries.items ≡ first.entries.items = r.entries in
@@ -253,5 +253,5 @@ looked_back first now flags h k r same =
       closed = λ user name i on. old.closed user name (subst (λ (es : List Entry). Contains (uses es user) name) entries i) on;
       kept = λ name within off. k.settled.kept name within (not_marked (marked first.unread.items name) (marked now.unread.items name) (r.fewer name) off);
     } in
-    store_flags now.entries.items now.users.items now.unread.items now.spare.items now.newly.items now.newly_count now.cache.items now.fresh.items
+    store_flags now.entries.items now.users.items now.unread.items now.spare.items now.newly.items now.newly_count now.cache.items
     now.work.items now.operand_count flags k (subst (λ (f : List Bool). IsSettled now.entries.items f now.cache.items) (sym same) settled)

@@ -29,7 +29,7 @@ blank_more : (n : ℕ) → replicate n false ++ false ∷ [] ≡ replicate (suc 
 blank_more zero = refl
 blank_more (suc n) = ap (λ (l : List Bool). false ∷ l) (blank_more n)
 
-pub store_empty : IsStore [] [] [] [] [] 0 [] [] [] 0
+pub store_empty : IsStore [] [] [] [] [] 0 [] [] 0
 unfolding operand_count
 store_empty =
     record {
@@ -40,18 +40,17 @@ store_empty =
       spare_unset = refl;
       newly_length = refl;
       newly_few = omega arith;
-      fresh_length = refl;
       work_length = refl;
       few = omega arith;
       counted = refl;
       operands_few = omega arith;
     }
 
-pub store_declared : (es : List Entry) (users : List Row) (unread before : List Bool) (newly : List Name) (n : ℕ) (cache fresh : List Value) (work : List ℕ) (operands : ℕ)
-    (entry : Entry) (row : Row) (name : Name) (value kept spare : Value) (place : ℕ) → IsStore es users unread before newly n cache fresh work operands
+pub store_declared : (es : List Entry) (users : List Row) (unread before : List Bool) (newly : List Name) (n : ℕ) (cache : List Value) (work : List ℕ) (operands : ℕ)
+    (entry : Entry) (row : Row) (name : Name) (value kept : Value) (place : ℕ) → IsStore es users unread before newly n cache work operands
     → length es < 4000000 → entry.definition ≡ Base value → kind_of value ≡ entry.kind → row.items ≡ [] → kept ≡ value
-    → IsStore (es ++ entry ∷ []) (users ++ row ∷ []) (unread ++ false ∷ []) (before ++ false ∷ []) (newly ++ name ∷ []) n (cache ++ kept ∷ []) (fresh ++ spare ∷ []) (work ++ place ∷ []) operands
-store_declared es users unread before newly n cache fresh work operands entry row name value kept spare place s room base kind empty same =
+    → IsStore (es ++ entry ∷ []) (users ++ row ∷ []) (unread ++ false ∷ []) (before ++ false ∷ []) (newly ++ name ∷ []) n (cache ++ kept ∷ []) (work ++ place ∷ []) operands
+store_declared es users unread before newly n cache work operands entry row name value kept place s room base kind empty same =
     let none : operands_in entry.definition ≡ [] = ap operands_in base in
     let after = ranked_declared es s.ranks.0 s.ranks.1 entry none in
     let long : length (es ++ entry ∷ []) ≡ length es + 1 = length_push es entry in
@@ -65,39 +64,17 @@ store_declared es users unread before newly n cache fresh work operands entry ro
       spare_unset = ap (λ (l : List Bool). l ++ false ∷ []) s.spare_unset ∙ blank_more (length es) ∙ ap (λ n. replicate n false) more;
       newly_length = omega (arith, length_push newly name, s.newly_length);
       newly_few = omega (arith, s.newly_few);
-      fresh_length = omega (arith, length_push fresh spare, s.fresh_length);
       work_length = omega (arith, length_push work place, s.work_length);
       few = omega arith;
       counted = s.counted ∙ sym (operand_count-declared es entry none);
       operands_few = s.operands_few;
     }
 
--- the lists that no contract sees may hold anything
-pub store_kept : (es : List Entry) (users : List Row) (unread before : List Bool) (newly : List Name) (n : ℕ) (cache fresh : List Value) (work : List ℕ) (operands : ℕ)
-    (before' : List Bool) (fresh' : List Value) (work' : List ℕ) → IsStore es users unread before newly n cache fresh work operands
-    → before' ≡ replicate (length es) false → length fresh' ≡ length es → length work' ≡ length es
-    → IsStore es users unread before' newly n cache fresh' work' operands
-store_kept es users unread before newly n cache fresh work operands before' fresh' work' s b f w =
-    record {
-      ranks = s.ranks;
-      sound = s.sound;
-      settled = s.settled;
-      mirrors = s.mirrors;
-      spare_unset = b;
-      newly_length = s.newly_length;
-      newly_few = s.newly_few;
-      fresh_length = f;
-      work_length = w;
-      few = s.few;
-      counted = s.counted;
-      operands_few = s.operands_few;
-    }
-
 -- other flags, for which the kept values are right as well
-pub store_flags : (es : List Entry) (users : List Row) (unread before : List Bool) (newly : List Name) (n : ℕ) (cache fresh : List Value) (work : List ℕ) (operands : ℕ)
-    (unread' : List Bool) → IsStore es users unread before newly n cache fresh work operands → IsSettled es unread' cache
-    → IsStore es users unread' before newly n cache fresh work operands
-store_flags es users unread before newly n cache fresh work operands unread' s t =
+pub store_flags : (es : List Entry) (users : List Row) (unread before : List Bool) (newly : List Name) (n : ℕ) (cache : List Value) (work : List ℕ) (operands : ℕ)
+    (unread' : List Bool) → IsStore es users unread before newly n cache work operands → IsSettled es unread' cache
+    → IsStore es users unread' before newly n cache work operands
+store_flags es users unread before newly n cache work operands unread' s t =
     record {
       ranks = s.ranks;
       sound = s.sound;
@@ -106,7 +83,6 @@ store_flags es users unread before newly n cache fresh work operands unread' s t
       spare_unset = s.spare_unset;
       newly_length = s.newly_length;
       newly_few = s.newly_few;
-      fresh_length = s.fresh_length;
       work_length = s.work_length;
       few = s.few;
       counted = s.counted;
@@ -114,13 +90,13 @@ store_flags es users unread before newly n cache fresh work operands unread' s t
     }
 
 -- names were given values
-pub store_given : (es : List Entry) (users : List Row) (unread before : List Bool) (newly : List Name) (n : ℕ) (cache fresh : List Value) (work : List ℕ) (operands : ℕ)
-    (sets : Bool) (pairs : List (Name × Value)) (newly' : List Name) (n' : ℕ) (fresh' : List Value) (work' : List ℕ)
-    → IsStore es users unread before newly n cache fresh work operands
+pub store_given : (es : List Entry) (users : List Row) (unread before : List Bool) (newly : List Name) (n : ℕ) (cache : List Value) (work : List ℕ) (operands : ℕ)
+    (sets : Bool) (pairs : List (Name × Value)) (newly' : List Name) (n' : ℕ) (work' : List ℕ)
+    → IsStore es users unread before newly n cache work operands
     → AllPairs (λ (one other : Name × Value). one.0 ≢ other.0) pairs → AreBase es pairs
-    → length newly' ≡ length es → n' ≤ length es → length fresh' ≡ length es → length work' ≡ length es
-    → IsStore (with_values sets pairs es) users (after_marking (with_values sets pairs es) (changed pairs es) unread) before newly' n' cache fresh' work' operands
-store_given es users unread before newly n cache fresh work operands sets pairs newly' n' fresh' work' s distinct all w m f k =
+    → length newly' ≡ length es → n' ≤ length es → length work' ≡ length es
+    → IsStore (with_values sets pairs es) users (after_marking (with_values sets pairs es) (changed pairs es) unread) before newly' n' cache work' operands
+store_given es users unread before newly n cache work operands sets pairs newly' n' work' s distinct all w m k =
     let base : (p : Name × Value) → Contains pairs p → IsBase es p = λ p c. All-contains (IsBase es) pairs p all c in
     let long : length (with_values sets pairs es) ≡ length es = length-given sets pairs es in
     record {
@@ -131,7 +107,6 @@ store_given es users unread before newly n cache fresh work operands sets pairs 
       spare_unset = s.spare_unset ∙ ap (λ n. replicate n false) (sym long);
       newly_length = w ∙ sym long;
       newly_few = omega arith;
-      fresh_length = f ∙ sym long;
       work_length = k ∙ sym long;
       few = omega (arith, s.few);
       counted = s.counted ∙ sym (count_given sets pairs es base);

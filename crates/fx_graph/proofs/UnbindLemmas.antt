@@ -27,13 +27,13 @@ used_within es users m from to c =
     ]
 
 -- a bound name keeps its value for its own
-pub store_unbound : (es : List Entry) (users : List Row) (unread before : List Bool) (newly : List Name) (n : ℕ) (cache fresh : List Value) (work : List ℕ) (operands : ℕ)
+pub store_unbound : (es : List Entry) (users : List Row) (unread before : List Bool) (newly : List Name) (n : ℕ) (cache : List Value) (work : List ℕ) (operands : ℕ)
     (name : ℕ) (users' : List Row) (unread' : List Bool) (cache' : List Value) (work' : List ℕ) (left : ℕ)
-    → IsStore es users unread before newly n cache fresh work operands → bound_in es name ≡ true
+    → IsStore es users unread before newly n cache work operands → bound_in es name ≡ true
     → Mirrors (set es name (kept_entry es name)) users' → IsSettled (set es name (kept_entry es name)) unread' cache' → length work' ≡ length es
     → left + length (uses es name) ≡ operands
-    → IsStore (set es name (kept_entry es name)) users' unread' before newly n cache' fresh work' left
-store_unbound es users unread before newly n cache fresh work operands name users' unread' cache' work' left s bound m t w less =
+    → IsStore (set es name (kept_entry es name)) users' unread' before newly n cache' work' left
+store_unbound es users unread before newly n cache work operands name users' unread' cache' work' left s bound m t w less =
     let known = bound_known es name bound in
     let long : length (set es name (kept_entry es name)) ≡ length es = length-set es name (kept_entry es name) in
     let total : operand_count (set es name (kept_entry es name)) + length (uses es name) ≡ operand_count es + 0 =
@@ -46,7 +46,6 @@ store_unbound es users unread before newly n cache fresh work operands name user
       spare_unset = s.spare_unset ∙ ap (λ n. replicate n false) (sym long);
       newly_length = s.newly_length ∙ sym long;
       newly_few = omega (arith, s.newly_few);
-      fresh_length = s.fresh_length ∙ sym long;
       work_length = w ∙ sym long;
       few = omega (arith, s.few);
       counted = omega (arith, s.counted);

@@ -19,7 +19,7 @@ state_of entries unread newly count = record { entries = entries; unread = unrea
 -- the other lists have a place for each.
 pub record IsStore
     (entries : List Entry) (users : List Row) (unread spare : List Bool) (newly : List Name) (newly_count : ℕ)
-    (cache fresh : List Value) (work : List ℕ) (operands : ℕ)
+    (cache : List Value) (work : List ℕ) (operands : ℕ)
     : Type 0 where
   pub ranks : (rank : ℕ → ℕ) × Ranked entries rank
   pub sound : AreSound entries
@@ -28,7 +28,6 @@ pub record IsStore
   pub spare_unset : spare ≡ replicate (length entries) false
   pub newly_length : length newly ≡ length entries
   pub newly_few : newly_count ≤ length entries
-  pub fresh_length : length fresh ≡ length entries
   pub work_length : length work ≡ length entries
   pub few : length entries ≤ 4000000
   pub counted : operands ≡ operand_count entries
@@ -37,7 +36,7 @@ pub record IsStore
 abbrev pub Holds : Lists → Type 0
 Holds l =
     IsStore l.entries.items l.users.items l.unread.items l.spare.items l.newly.items l.newly_count l.cache.items
-    l.fresh.items l.work.items l.operand_count
+    l.work.items l.operand_count
 
 -- what contracts see of the lists
 abbrev pub shown : Lists → State

@@ -26,5 +26,4 @@ pub record HasRoom (more : ℕ) (l : Lists) : Type 0 where
   pub spare : vec_len l.spare + more ≤ vec_capacity l.spare
   pub newly : vec_len l.newly + more ≤ vec_capacity l.newly
   pub cache : vec_len l.cache + more ≤ vec_capacity l.cache
-  pub fresh : vec_len l.fresh + more ≤ vec_capacity l.fresh
   pub work : vec_len l.work + more ≤ vec_capacity l.work

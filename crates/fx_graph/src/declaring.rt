@@ -41,7 +41,7 @@ pub fn reserve_rows(lists: &mut Lists, more: usize) -> Result<(), AllocError>
     reserve_both(&mut lists.entries, &mut lists.users, more)?;
     reserve_both(&mut lists.unread, &mut lists.spare, more)?;
     reserve_both(&mut lists.newly, &mut lists.cache, more)?;
-    reserve_both(&mut lists.fresh, &mut lists.work, more)
+    lists.work.reserve(more)
 }
 
 /// Puts a property with this value behind the others, where all lists have room. It isn't unread.
@@ -74,7 +74,6 @@ pub fn push_row(
     lists.spare.push_reserved(false);
     lists.newly.push_reserved(Name(0));
     lists.cache.push_reserved(kept);
-    lists.fresh.push_reserved(Value::Bool(false));
     lists.work.push_reserved(0);
 }
 

@@ -1,9 +1,10 @@
-//! Values given to names, set by code or published by the player: all are copied before the first is given, so that
-//! wanting memory changes nothing. The names whose value is another one are marked, and all that reads them.
-ghost use Rattle.std.specs.Prelude.{ℕ, List, ◌≡◌, ◌≤◌, ◌<◌, ◌+◌, if◌then◌else◌, true, false, All, AllPairs, ◌≢◌, [], ◌∷◌, length, take, slice_set, slice_index_or, IfOk, OnOk, OnErr, IsOk};
+//! Values given to names, set by code or published by the player: the texts are copied before the first value is given,
+//! and other values take no memory, so that wanting memory changes nothing. The names whose value is another one are
+//! marked, and all that reads them.
+ghost use Rattle.std.specs.Prelude.{ℕ, List, ◌≡◌, ◌≤◌, ◌<◌, ◌+◌, ◌++◌, if◌then◌else◌, true, false, not, All, AllPairs, ◌≢◌, [], ◌∷◌, length, reverse, slice_set, IfOk, OnOk, OnErr, IsOk};
 ghost use Rattle.fx_base.specs.declared.keys.Name.{Name as Named};
 ghost use Rattle.fx_base.specs.declared.values.Value.{Value as Content};
-ghost use Rattle.fx_expr.specs.Meaning.{no_value};
+ghost use Rattle.fx_base.specs.Printing.{is_plain};
 ghost use Rattle.fx_graph_model.specs.declared.entries.Origin.{Origin as Source};
 ghost use Rattle.fx_graph_model.specs.declared.entries.Origin.TheVariants as source;
 ghost use Rattle.fx_base.specs.Names.{numbers};
@@ -14,7 +15,7 @@ ghost use Rattle.fx_graph_model.specs.Unread.{unmarked, after_marking, newly_mar
 ghost use Rattle.fx_graph_model.specs.Marking.{MarksAll};
 ghost use Rattle.fx_graph_model.specs.Users.{Mirrors};
 ghost use Rattle.fx_graph_model.specs.Changes.{given, with_values, changed, after_values};
-ghost use Rattle.fx_graph.specs.Given.{ArePlain, AreBase, ArePrepared};
+ghost use Rattle.fx_graph.specs.Given.{ArePlain, AreBase, texts_of, texts_in};
 ghost use Rattle.fx_graph.specs.Store.{Holds, shown};
 
 use crate::lists::Lists;
@@ -23,28 +24,51 @@ use fx_base::{Name, Value};
 use fx_graph_edges::mark_one;
 use fx_graph_model::{Definition, Entry, Origin, are_same};
 use std::alloc::{AllocError, Global};
-use std::mem;
 
-fn put(fresh: &mut [Value], place: usize, value: Value)
-    requires { place < length fresh.old }
-    ensures { fresh.new ≡ slice_set fresh.old place value }
+/// Puts a copy of the value behind the others, if it is a text.
+fn push_text(alloc: Global, texts: &mut Vec<Value>, value: &Value) -> Result<(), AllocError>
+    ensures ok { OnOk result (texts.new.items ≡ texts.old.items ++ texts_of (value.now ∷ [])) }
+    ensures firm { is_plain value.now ≡ true → IsOk result }
 {
-    fresh[place] = value;
+    match value {
+        Value::Text(_) => {
+            let text = value.copy(alloc)?;
+            texts.push(text)?;
+            Ok(())
+        }
+        _ => Ok(()),
+    }
 }
 
-/// Copies the values to the places of their names.
-fn prepare(alloc: Global, fresh: &mut [Value], pairs: &[(Name, Value)]) -> Result<(), AllocError>
-    requires known { All (λ (pair : Named × Content). pair.0.0 < length fresh.old) pairs.now }
-    requires distinct { AllPairs (λ (one other : Named × Content). one.0 ≢ other.0) pairs.now }
-    ensures places { length fresh.new ≡ length fresh.old }
-    ensures ok { OnOk result (ArePrepared 0 (length pairs.now) fresh.new pairs.now) }
+/// Copies the texts among the values. The first one stands last, to be taken first.
+fn prepare(alloc: Global, texts: &mut Vec<Value>, pairs: &[(Name, Value)]) -> Result<(), AllocError>
+    ensures ok { OnOk result (texts.new.items ≡ reverse (texts_in pairs.now)) }
     ensures firm { ArePlain pairs.now → IsOk result }
 {
+    texts.clear();
     for pair in pairs {
-        let value = pair.1.copy(alloc)?;
-        put(fresh, pair.0.0 as usize, value);
+        push_text(alloc, texts, &pair.1)?;
     }
+    texts.as_mut_slice().reverse();
     Ok(())
+}
+
+/// What is given for this value: of a text its copy, which is the last of those that were made.
+fn next_value(alloc: Global, texts: &mut Vec<Value>, value: &Value) -> Value
+    requires { (left : List Content) × (texts.old.items ≡ left ++ texts_of (value.now ∷ [])) }
+    ensures value { result ≡ value.now }
+    ensures left { texts.old.items ≡ texts.new.items ++ texts_of (value.now ∷ []) }
+{
+    match value {
+        Value::Text(_) => match texts.pop() {
+            Some(text) => text,
+            None => unreachable!(),
+        },
+        _ => match value.copy(alloc) {
+            Ok(copy) => copy,
+            Err(_) => unreachable!(),
+        },
+    }
 }
 
 fn origin_after(sets: bool, origin: Origin) -> Origin
@@ -70,28 +94,21 @@ pub fn write_value(entries: &mut [Entry], place: usize, value: Value, sets: bool
     };
 }
 
-/// Gives the name the value that was prepared.
-fn give_one(entries: &mut [Entry], fresh: &mut [Value], place: usize, sets: bool)
-    requires known { place < length entries.old }
-    requires prepared { place < length fresh.old }
-    ensures entries { entries.new ≡ slice_set entries.old place
-        (given sets (slice_index_or fresh.old place no_value) (entry_of entries.old place)) }
-    ensures fresh { fresh.new ≡ slice_set fresh.old place no_value }
-{
-    let value = mem::replace(&mut fresh[place], Value::Bool(false));
-    write_value(entries, place, value, sets);
-}
-
-fn give(entries: &mut [Entry], fresh: &mut [Value], pairs: &[(Name, Value)], sets: bool)
-    requires places { length fresh.old ≡ length entries.old }
+/// Gives the names their values, the texts those that were copied.
+fn give(
+    alloc: Global,
+    entries: &mut [Entry],
+    texts: &mut Vec<Value>,
+    pairs: &[(Name, Value)],
+    sets: bool,
+)
     requires known { All (λ (pair : Named × Content). pair.0.0 < length entries.old) pairs.now }
-    requires distinct { AllPairs (λ (one other : Named × Content). one.0 ≢ other.0) pairs.now }
-    requires prepared { ArePrepared 0 (length pairs.now) fresh.old pairs.now }
-    ensures entries { entries.new ≡ with_values sets pairs.now entries.old }
-    ensures places { length fresh.new ≡ length fresh.old }
+    requires prepared { texts.old.items ≡ reverse (texts_in pairs.now) }
+    ensures { entries.new ≡ with_values sets pairs.now entries.old }
 {
     for pair in pairs {
-        give_one(entries, fresh, pair.0.0 as usize, sets);
+        let value = next_value(alloc, texts, &pair.1);
+        write_value(entries, pair.0.0 as usize, value, sets);
     }
 }
 
@@ -160,12 +177,13 @@ fn mark_changed(
     end
 }
 
-/// Gives names the values that were prepared, marks what changed, and lists the names that became unread.
-fn apply_values(lists: &mut Lists, pairs: &[(Name, Value)], sets: bool)
+/// Gives names their values, the texts those that were copied, marks what changed, and lists the names that became
+/// unread.
+fn apply_values(alloc: Global, lists: &mut Lists, pairs: &[(Name, Value)], sets: bool)
     requires holds { Holds lists.old }
     requires base { AreBase lists.old.entries.items pairs.now }
     requires distinct { AllPairs (λ (one other : Named × Content). one.0 ≢ other.0) pairs.now }
-    requires prepared { ArePrepared 0 (length pairs.now) lists.old.fresh.items pairs.now }
+    requires prepared { lists.old.texts.items ≡ reverse (texts_in pairs.now) }
     ensures holds { Holds lists.new }
     ensures given { shown lists.new ≡ after_values sets pairs.now (shown lists.old) }
 {
@@ -176,8 +194,9 @@ fn apply_values(lists: &mut Lists, pairs: &[(Name, Value)], sets: bool)
         lists.work.as_mut_slice(),
     );
     give(
+        alloc,
         lists.entries.as_mut_slice(),
-        lists.fresh.as_mut_slice(),
+        &mut lists.texts,
         pairs,
         sets,
     );
@@ -199,7 +218,7 @@ pub fn change_values(
     ensures err { OnErr result (shown lists.new ≡ shown lists.old) }
     ensures firm { ArePlain pairs.now → IsOk result }
 {
-    prepare(alloc, lists.fresh.as_mut_slice(), pairs)?;
-    apply_values(lists, pairs, sets);
+    prepare(alloc, &mut lists.texts, pairs)?;
+    apply_values(alloc, lists, pairs, sets);
     Ok(())
 }

@@ -85,7 +85,7 @@ impl Graph {
                 newly: Vec::new(alloc),
                 newly_count: 0,
                 cache: Vec::new(alloc),
-                fresh: Vec::new(alloc),
+                texts: Vec::new(alloc),
                 work: Vec::new(alloc),
                 operand_count: 0,
             },

@@ -1,5 +1,5 @@
-//! The lists of a graph: each has a place for each name that was ever declared. Whoever changes several of them at once
-//! is handed all, and leaves them so that they fit one another.
+//! The lists of a graph: each but that of texts has a place for each name that was ever declared. Whoever changes
+//! several of them at once is handed all, and leaves them so that they fit one another.
 use fx_base::{Name, Value};
 use fx_graph_edges::Users;
 use fx_graph_model::Entry;
@@ -18,8 +18,8 @@ pub struct Lists {
     pub newly_count: usize,
     /// The value of each name when it was read.
     pub cache: Vec<Value>,
-    /// Room for the values of a change, so that they are all there before the first is given.
-    pub fresh: Vec<Value>,
+    /// Room for the texts of a change, which are copied before the first value is given.
+    pub texts: Vec<Value>,
     /// Room for places that are still to be looked at.
     pub work: Vec<usize>,
     /// How many operands all bindings have together.

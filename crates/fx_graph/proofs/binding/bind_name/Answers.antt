@@ -76,7 +76,6 @@ returns-clause-holds c =
     ap (λ (x : Lists). x.users.items) kept ∙ with_items_is l.users c.relink.new.users (c.relink.auto.users ∙ c.as_mut_slice.ensures.len) in
     let spare : f.spare ≡ l.spare = ap (λ (x : Lists). x.spare) kept in
     let cache : f.cache ≡ l.cache = ap (λ (x : Lists). x.cache) kept in
-    let fresh : f.fresh ≡ l.fresh = ap (λ (x : Lists). x.fresh) kept in
     let count = ap (λ (x : Lists). x.operand_count) kept in
     let written : f.entries.items ≡ with_binding c.args.name.0 c.args.expr names es = c.bind_linked.ensures.entries in
     let size : length f.entries.items ≡ length es = ap length written ∙ length-set es c.args.name.0 (bound_to c.args.expr names (entry_of es c.args.name.0)) in
@@ -87,8 +86,8 @@ returns-clause-holds c =
     rw c.as_slice-2.ensures.value at
     (c.in_ok-relink.ensures.ok (bound_to c.args.expr names (entry_of es c.args.name.0)) (ap numbers (sym c.as_slice-3.ensures.value))) in
     let unread = rw written at c.bind_linked.ensures.marked.unread in
-    rw (written, users, spare, cache, fresh, count, unread)
-    (store_bound es l.users.items c.relink.new.users l.unread.items l.spare.items l.newly.items l.newly_count l.cache.items l.fresh.items l.work.items l.operand_count
+    rw (written, users, spare, cache, count, unread)
+    (store_bound es l.users.items c.relink.new.users l.unread.items l.spare.items l.newly.items l.newly_count l.cache.items l.work.items l.operand_count
     c.args.name.0 c.args.expr names f.newly.items f.newly_count f.work.items _ h b places mirrors
     (c.bind_linked.ensures.roomy.newly ∙ size) c.bind_linked.ensures.few (c.bind_linked.ensures.roomy.work ∙ size)
     (omega (arith, long, used, c.len.ensures, operand_count-uses es c.args.name.0, h.counted)))

@@ -74,11 +74,10 @@ returns-clause-holds c =
     let users : f.users ≡ l.users = ap (λ (x : Lists). x.users) kept in
     let spare : f.spare ≡ l.spare = ap (λ (x : Lists). x.spare) kept in
     let cache : f.cache ≡ l.cache = ap (λ (x : Lists). x.cache) kept in
-    let fresh : f.fresh ≡ l.fresh = ap (λ (x : Lists). x.fresh) kept in
     let count : f.operand_count ≡ l.operand_count = ap (λ (x : Lists). x.operand_count) kept in
     let size : length f.entries.items ≡ length l.entries.items = ap (λ (x : Lists). length x.entries.items) kept in
-    rw (entries, users, spare, cache, fresh, count, back)
-    (store_foreseen l.entries.items l.users.items l.unread.items l.spare.items l.newly.items l.newly_count l.cache.items l.fresh.items
+    rw (entries, users, spare, cache, count, back)
+    (store_foreseen l.entries.items l.users.items l.unread.items l.spare.items l.newly.items l.newly_count l.cache.items
     l.work.items l.operand_count f.newly.items f.newly_count f.work.items h (c.finish.ensures.roomy.newly ∙ size) c.finish.ensures.few
     (c.finish.ensures.roomy.work ∙ size))
 

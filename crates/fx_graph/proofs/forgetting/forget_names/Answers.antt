@@ -31,8 +31,7 @@ returns-clause-holds c =
     let spare = ap (λ (x : Lists). x.spare) frame in
     let newly = ap (λ (x : Lists). x.newly) frame in
     let count = ap (λ (x : Lists). x.newly_count) frame in
-    let fresh = ap (λ (x : Lists). x.fresh) frame in
     let work = ap (λ (x : Lists). x.work) frame in
-    rw (entries, unread, cache, spare, newly, count, fresh, work)
-    (store_forgotten l.entries.items l.users.items l.unread.items l.spare.items l.newly.items l.newly_count l.cache.items l.fresh.items l.work.items l.operand_count
+    rw (entries, unread, cache, spare, newly, count, work)
+    (store_forgotten l.entries.items l.users.items l.unread.items l.spare.items l.newly.items l.newly_count l.cache.items l.work.items l.operand_count
     (numbers names) n.users.items n.operand_count c.requires.holds c.requires.free (rw entries at k.mirrors) (rw entries at k.counted) c.loop-name.invariant.5)

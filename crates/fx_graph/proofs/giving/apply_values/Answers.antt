@@ -25,7 +25,7 @@ finish-requires-clause-ranks c =
     let base : (p : Name × Value) → Contains pairs p → bound_in es p.0.0 ≡ false = λ p i. (All-contains (IsBase es) pairs p c.requires.base i).1 in
     let written : (with_items l.entries c.give.new.entries).items ≡ with_values c.args.sets pairs es =
     with_items_is l.entries c.give.new.entries (c.give.auto.entries ∙ c.as_mut_slice-3.ensures.len)
-    ∙ c.give.ensures.entries ∙ ap (λ (l : List Entry). with_values c.args.sets pairs l) c.as_mut_slice-3.ensures.value in
+    ∙ c.give.ensures ∙ ap (λ (l : List Entry). with_values c.args.sets pairs l) c.as_mut_slice-3.ensures.value in
     rw written (h.ranks.0, ranked_given c.args.sets pairs es h.ranks.0 h.ranks.1)
 
 pub finish-requires-clause-mirrors : goal.finish-requires-clause-mirrors
@@ -37,7 +37,7 @@ finish-requires-clause-mirrors c =
     let base : (p : Name × Value) → Contains pairs p → bound_in es p.0.0 ≡ false = λ p i. (All-contains (IsBase es) pairs p c.requires.base i).1 in
     let written : (with_items l.entries c.give.new.entries).items ≡ with_values c.args.sets pairs es =
     with_items_is l.entries c.give.new.entries (c.give.auto.entries ∙ c.as_mut_slice-3.ensures.len)
-    ∙ c.give.ensures.entries ∙ ap (λ (l : List Entry). with_values c.args.sets pairs l) c.as_mut_slice-3.ensures.value in
+    ∙ c.give.ensures ∙ ap (λ (l : List Entry). with_values c.args.sets pairs l) c.as_mut_slice-3.ensures.value in
     rw written (mirrors_given c.args.sets pairs es l.users.items h.mirrors base)
 
 pub finish-requires-clause-begun : goal.finish-requires-clause-begun
@@ -49,7 +49,7 @@ finish-requires-clause-begun c =
     let base : (p : Name × Value) → Contains pairs p → bound_in es p.0.0 ≡ false = λ p i. (All-contains (IsBase es) pairs p c.requires.base i).1 in
     let written : (with_items l.entries c.give.new.entries).items ≡ with_values c.args.sets pairs es =
     with_items_is l.entries c.give.new.entries (c.give.auto.entries ∙ c.as_mut_slice-3.ensures.len)
-    ∙ c.give.ensures.entries ∙ ap (λ (l : List Entry). with_values c.args.sets pairs l) c.as_mut_slice-3.ensures.value in
+    ∙ c.give.ensures ∙ ap (λ (l : List Entry). with_values c.args.sets pairs l) c.as_mut_slice-3.ensures.value in
     let flags = with_items_is l.unread c.mark_changed-count.new.unread (c.mark_changed-count.auto.unread ∙ c.as_mut_slice.ensures.len) in
     let work = with_items_is l.work c.mark_changed-count.new.work (c.mark_changed-count.auto.work ∙ c.as_mut_slice-2.ensures.len) in
     let marks : MarksAll (changed pairs es) l.unread.items l.work.items 0 c.mark_changed-count.new.unread c.mark_changed-count.new.work c.mark_changed-count.result =
@@ -67,7 +67,7 @@ returns-clause-holds c =
     let base : (p : Name × Value) → Contains pairs p → bound_in es p.0.0 ≡ false = λ p i. (All-contains (IsBase es) pairs p c.requires.base i).1 in
     let written : (with_items l.entries c.give.new.entries).items ≡ with_values c.args.sets pairs es =
     with_items_is l.entries c.give.new.entries (c.give.auto.entries ∙ c.as_mut_slice-3.ensures.len)
-    ∙ c.give.ensures.entries ∙ ap (λ (l : List Entry). with_values c.args.sets pairs l) c.as_mut_slice-3.ensures.value in
+    ∙ c.give.ensures ∙ ap (λ (l : List Entry). with_values c.args.sets pairs l) c.as_mut_slice-3.ensures.value in
     let flags = with_items_is l.unread c.mark_changed-count.new.unread (c.mark_changed-count.auto.unread ∙ c.as_mut_slice.ensures.len) in
     let work = with_items_is l.work c.mark_changed-count.new.work (c.mark_changed-count.auto.work ∙ c.as_mut_slice-2.ensures.len) in
     let marks : MarksAll (changed pairs es) l.unread.items l.work.items 0 c.mark_changed-count.new.unread c.mark_changed-count.new.work c.mark_changed-count.result =
@@ -75,16 +75,15 @@ returns-clause-holds c =
     let closed : IsClosedBut (with_values c.args.sets pairs es) l.unread.items (changed pairs es) =
     λ user name i on. inl (h.settled.closed user name (uses-given c.args.sets pairs es user name i) on) in
     let f = c.finish.new.lists in
-    let fresh = with_items_is l.fresh c.give.new.fresh (c.give.auto.fresh ∙ c.as_mut_slice-4.ensures.len) in
     let marked : IsMarked (changed pairs es) l.unread.items f = c.finish.ensures.marked (changed pairs es) l.work.items l.unread.items (rw written closed) (rw (flags, work) marks) in
     let long = length-given c.args.sets pairs es in
     let size : length f.entries.items ≡ length es = ap (λ (x : Lists). length x.entries.items) c.finish.ensures.kept ∙ ap length written ∙ long in
-    store_finished (record l { entries = with_items l.entries c.give.new.entries; fresh = with_items l.fresh c.give.new.fresh }) f (changed pairs es) l.unread.items c.finish.ensures.kept marked
-    (rw (written, fresh)
-    (store_given es l.users.items l.unread.items l.spare.items l.newly.items l.newly_count l.cache.items l.fresh.items l.work.items l.operand_count
-    c.args.sets pairs f.newly.items f.newly_count c.give.new.fresh f.work.items h c.requires.distinct c.requires.base
+    store_finished (record l { entries = with_items l.entries c.give.new.entries; texts = c.give.new.texts }) f (changed pairs es) l.unread.items c.finish.ensures.kept marked
+    (rw written
+    (store_given es l.users.items l.unread.items l.spare.items l.newly.items l.newly_count l.cache.items l.work.items l.operand_count
+    c.args.sets pairs f.newly.items f.newly_count f.work.items h c.requires.distinct c.requires.base
     (c.finish.ensures.roomy.newly ∙ size) (rw (ap length written ∙ long) at c.finish.ensures.few)
-    (c.give.auto.fresh ∙ ap length c.as_mut_slice-4.ensures.value ∙ h.fresh_length) (c.finish.ensures.roomy.work ∙ size)))
+    (c.finish.ensures.roomy.work ∙ size)))
 
 pub returns-clause-given : goal.returns-clause-given
 returns-clause-given c =
@@ -95,7 +94,7 @@ returns-clause-given c =
     let base : (p : Name × Value) → Contains pairs p → bound_in es p.0.0 ≡ false = λ p i. (All-contains (IsBase es) pairs p c.requires.base i).1 in
     let written : (with_items l.entries c.give.new.entries).items ≡ with_values c.args.sets pairs es =
     with_items_is l.entries c.give.new.entries (c.give.auto.entries ∙ c.as_mut_slice-3.ensures.len)
-    ∙ c.give.ensures.entries ∙ ap (λ (l : List Entry). with_values c.args.sets pairs l) c.as_mut_slice-3.ensures.value in
+    ∙ c.give.ensures ∙ ap (λ (l : List Entry). with_values c.args.sets pairs l) c.as_mut_slice-3.ensures.value in
     let flags = with_items_is l.unread c.mark_changed-count.new.unread (c.mark_changed-count.auto.unread ∙ c.as_mut_slice.ensures.len) in
     let work = with_items_is l.work c.mark_changed-count.new.work (c.mark_changed-count.auto.work ∙ c.as_mut_slice-2.ensures.len) in
     let marks : MarksAll (changed pairs es) l.unread.items l.work.items 0 c.mark_changed-count.new.unread c.mark_changed-count.new.work c.mark_changed-count.result =
@@ -104,4 +103,4 @@ returns-clause-given c =
     λ user name i on. inl (h.settled.closed user name (uses-given c.args.sets pairs es user name i) on) in
     let f = c.finish.new.lists in
     let marked : IsMarked (changed pairs es) l.unread.items f = c.finish.ensures.marked (changed pairs es) l.work.items l.unread.items (rw written closed) (rw (flags, work) marks) in
-    rw written at (shown_finished (record l { entries = with_items l.entries c.give.new.entries; fresh = with_items l.fresh c.give.new.fresh }) f (changed pairs es) l.unread.items (shown l) c.finish.ensures.kept marked refl)
+    rw written at (shown_finished (record l { entries = with_items l.entries c.give.new.entries; texts = c.give.new.texts }) f (changed pairs es) l.unread.items (shown l) c.finish.ensures.kept marked refl)

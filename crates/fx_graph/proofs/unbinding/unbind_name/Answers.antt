@@ -39,7 +39,7 @@ returns-clause-holds g c =
     let unlinked : Unlinks n (uses es n) r.users.items c.release_at.new.users = rw (c.as_slice-2.ensures.value, c.as_mut_slice.ensures.value) at c.release_at.ensures.unlinked in
     let used : c.operands_at.result ≡ length (uses es n) = rw c.as_slice.ensures.value at c.operands_at.ensures in
     rw (written, users)
-    (store_unbound es r.users.items r.unread.items r.spare.items r.newly.items r.newly_count r.cache.items r.fresh.items r.work.items r.operand_count
+    (store_unbound es r.users.items r.unread.items r.spare.items r.newly.items r.newly_count r.cache.items r.work.items r.operand_count
     n c.release_at.new.users r.unread.items r.cache.items r.work.items _ h bound
     (mirrors_plain es r.users.items c.release_at.new.users n kept h.mirrors unlinked refl within)
     (settled_unbound es h.ranks.0 h.ranks.1 n r.unread.items r.cache.items h.settled) h.work_length

@@ -1,5 +1,5 @@
 -- Paths as they are kept, and as contracts see them.
-use Rattle.std.proofs.Common.{◌≡◌, ◌∙◌, refl, sym, ap, cond, ℕ, List, [], ◌∷◌, ◌++◌, Bool, true, false, not, filter, Option, Some, None, Vec, map}
+use Rattle.std.proofs.Common.{◌≡◌, refl, ap, cond, ℕ, List, [], ◌∷◌, ◌++◌, Bool, true, false, not, filter, Some, Vec}
 use Rattle.std.specs.Global.{Global}
 use Rattle.std.specs.Map.{lookup}
 use Rattle.fx_base.specs.declared.keys.NodeKey.{NodeKey}

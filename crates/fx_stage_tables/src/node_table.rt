@@ -1,5 +1,5 @@
 //! What each living node has of its own, by its key.
-ghost use Rattle.std.specs.Prelude.{◌≡◌, ◌<◌, IsOk, OnOk, OnErr};
+ghost use Rattle.std.specs.Prelude.{◌≡◌, ◌<◌, IfSome, IsOk, OnOk, OnErr, Some};
 ghost use Rattle.std.specs.FinMap as map_of;
 ghost use Rattle.std.specs.Option.{option_copied};
 ghost use Rattle.fx_stage_types.specs.Edits.{edited, with_edge};
@@ -43,11 +43,25 @@ impl NodeTable {
         }
     }
 
-    /// What the node has.
+    /// What the node has. It is looked for first at the place of its slot, where it stands if no node has gone.
     pub fn get(&self, key: NodeKey) -> Option<&NodeData>
         ensures { option_copied result ≡ data_of self.now.map key }
     {
+        if let Some(node) = self.get_by_slot(key) {
+            return Some(node);
+        }
         self.nodes.get(&key)
+    }
+
+    /// What the node has, if it stands at the place of its slot.
+    #[inline]
+    fn get_by_slot(&self, key: NodeKey) -> Option<&NodeData>
+        ensures { IfSome result (λ node. data_of self.now.map key ≡ Some node.now) }
+    {
+        match self.nodes.get_index(key.slot) {
+            Some((other, node)) if *other == key => Some(node),
+            _ => None,
+        }
     }
 
     /// Makes room for one node more.

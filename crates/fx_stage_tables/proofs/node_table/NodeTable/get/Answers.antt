@@ -1,4 +1,4 @@
-use Rattle.std.proofs.Common.{◌∙◌, ap, sym}
+use Rattle.std.proofs.Common.{ap, sym}
 use Rattle.fx_stage_tables.proofs.TableLemmas.{at_key}
 use Rattle.fx_stage_tables.specs.Roomy.{Roomy}
 use Rattle.fx_stage_tables.proofs.node_table.NodeTable.get.Goals as goal

@@ -1,8 +1,6 @@
-use Rattle.std.proofs.Common.{◌∙◌, Some, ap, cond, refl}
+use Rattle.std.proofs.Common.{◌∙◌, ap}
 use Rattle.std.specs.FinMap.{insert}
-use Rattle.std.specs.Map.{lookup}
-use Rattle.fx_base.specs.declared.keys.NodeKey.{NodeKey}
-use Rattle.fx_events.proofs.Maps.{same_key, inserted}
+use Rattle.fx_events.proofs.Maps.{inserted}
 use Rattle.fx_stage_tables.specs.Roomy.{Roomy}
 use Rattle.fx_stage_tables.proofs.node_table.NodeTable.put.Goals as goal
 

@@ -1,4 +1,4 @@
-use Rattle.std.proofs.Common.{◌∙◌, ◌++◌, ◌∷◌, [], ap, List}
+use Rattle.std.proofs.Common.{◌∙◌, ◌++◌, ◌∷◌, [], ap}
 use Rattle.fx_stage_types.specs.Tables.{node_at}
 use Rattle.fx_stage_tables.specs.Given.{paths_of}
 use Rattle.fx_stage_tables.specs.Roomy.{RoomyPaths}

@@ -21,6 +21,7 @@ use fx_plain_runs::Manner;
 use fx_play_runs::{put_played, staged};
 use fx_port::{Shelf, Sink};
 use std::alloc::Global;
+use std::mem;
 
 /// Plays the demo of so many labels. Its files are made; none is fetched.
 pub(crate) fn play_demo<O: Sink, L: Ledgers>(
@@ -81,7 +82,8 @@ pub(crate) fn play_run<F: Shelf, O: Sink, L: Ledgers>(
     play_loaded(alloc, manner, loaded, out, work)
 }
 
-/// Plays a run whose files are loaded.
+/// Plays a run whose files are loaded. Its scene isn't taken apart behind it: the process ends with its run, and takes
+/// the memory back at once.
 fn play_loaded<O: Sink, L: Ledgers>(
     alloc: Global,
     manner: Manner,
@@ -107,7 +109,7 @@ fn play_loaded<O: Sink, L: Ledgers>(
         Ok(game) => game,
         Err(error) => return tell_unstaged(alloc, files.as_slice(), error, out),
     };
-    ended(
+    let status = ended(
         put_played(
             alloc,
             manner,
@@ -118,5 +120,7 @@ fn play_loaded<O: Sink, L: Ledgers>(
             work,
         ),
         Status::Done,
-    )
+    );
+    mem::forget(game);
+    status
 }

@@ -32,7 +32,7 @@ returns-clause-played g c =
     λ status. IsLoadedPlayed c.args.manner (loaded_of c.args.loaded)
     (sink.faults c.args.out.now) (sink.faults c.put_played.new.out) (sink.written c.args.out.now)
     (sink.written c.put_played.new.out) status in
-    subst Ends (sym c.ended.ensures)
+    subst Ends (sym c.ended-status.ensures)
     (lines_put c.args.manner (loaded_of c.args.loaded) (sink.faults c.args.out.now)
     (sink.faults c.put_played.new.out) (sink.written c.args.out.now) (sink.written c.put_played.new.out)
     (game_of c.in-Ok.game) c.put_played.result c.in-Ok.ensures.staged c.put_played.ensures.cause
@@ -60,7 +60,7 @@ returns-clause-work g c done =
     subst (Wrote (loaded_of c.args.loaded).warnings no_sight) (ap count c.in-Ok.ensures.others)
     (subst (λ (s : Sight). Wrote (loaded_of c.args.loaded).warnings s (count c.staged.new.work)) c.in-Ok.ensures.sight
     (subst (λ (w : List ℕ). Wrote w (sight_of c.in-Ok.game) (count c.staged.new.work)) c.as_slice-2.ensures.value
-    (done_put c.put_played.result (sym c.ended.ensures ∙ done) c.put_played.ensures.work))) in
+    (done_put c.put_played.result (sym c.ended-status.ensures ∙ done) c.put_played.ensures.work))) in
     let quiet : c.staged.new.work.evaluated ≤ c.args.work.now.evaluated = c.in-Ok.ensures.quiet in
     let few : c.put_played.new.work.evaluated ≤ c.staged.new.work.evaluated + so.cost = so.few in
     record {

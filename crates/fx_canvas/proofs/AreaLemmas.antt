@@ -1,5 +1,5 @@
 -- A shape that is cut to an area, and drawings over an area.
-use Rattle.std.proofs.Common.{◌≡◌, ◌<◌, ◌≤◌, ◌+◌, ◌-◌, ◌&&◌, ◌||◌, ◌≤ℤ◌, ◌<ℤ◌, ◌+ℤ◌, ℕ, ℤ, pos, suc, Bool, true, false, cond, List, [], ◌∷◌, ◌++◌, length, refl, sym, ap, subst, ◌∙◌, arith, inl, inr}
+use Rattle.std.proofs.Common.{◌≡◌, ◌<◌, ◌≤◌, ◌-◌, ◌&&◌, ◌||◌, ◌≤ℤ◌, ◌<ℤ◌, ℕ, ℤ, pos, Bool, true, false, cond, List, [], ◌∷◌, length, refl, sym, ap, subst, ◌∙◌, arith}
 use Rattle.std.specs.Prelude.{int_le, int_lt}
 use Rattle.std.specs.Int.{int_max, int_min}
 use Rattle.std.specs.List.{range_with_len, sum_by}
@@ -14,9 +14,8 @@ use Rattle.fx_canvas.specs.declared.blocks.Block.{Block}
 use Rattle.fx_canvas.proofs.CountLemmas.{points_none}
 use Rattle.fx_canvas.proofs.DrawingLemmas.{drawn-none, drawn-same}
 use Rattle.fx_pens.specs.Dots.{count_in, is_in}
-use Rattle.fx_picture.proofs.BoundsLemmas.{InRange, Within, both_true, within-meet, within-some, within_from, within_tells}
+use Rattle.fx_picture.proofs.BoundsLemmas.{InRange, both_true, within-meet, within-some, within_from, within_tells}
 use Rattle.fx_picture.specs.Bounds.{bounds_of, in_range, is_empty, meet, within}
-use Rattle.fx_picture.specs.Pixels.{laid, over}
 use Rattle.fx_picture.specs.Shapes.{bounds, color_of, holds, whole}
 use Rattle.fx_picture.specs.declared.edges.Bounds.{Bounds}
 use Rattle.fx_picture.specs.declared.shapes.Shape.{Shape}

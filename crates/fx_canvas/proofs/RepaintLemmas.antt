@@ -1,7 +1,6 @@
 -- Shapes laid over an area one after another, and rectangles painted anew one after another.
-use Rattle.std.proofs.Common.{◌≡◌, ◌<◌, ◌≤◌, ◌+◌, ◌-◌, ◌&&◌, ◌||◌, ◌≤ℤ◌, ◌+ℤ◌, ℕ, ℤ, pos, Bool, true, false, cond, List, [], ◌∷◌, ◌++◌, length, take, get_or, refl, sym, ap, subst, ◌∙◌, arith, append-nil}
-use Rattle.std.specs.Prelude.{All}
-use Rattle.std.specs.List.{list_any, sum_by, flat_map}
+use Rattle.std.proofs.Common.{◌≡◌, ◌<◌, ◌+◌, ◌||◌, ◌≤ℤ◌, ◌+ℤ◌, ℕ, pos, Bool, true, false, cond, List, [], ◌∷◌, ◌++◌, length, take, get_or, refl, sym, ap, subst, ◌∙◌, arith, append-nil}
+use Rattle.std.specs.List.{sum_by}
 use Rattle.std.proofs.lemmas.Grind.{common_steps, flat_map-append}
 use Rattle.std.proofs.lemmas.List.Folds.{list_any-append}
 use Rattle.std.proofs.lemmas.List.Sums.{sum_by-append, sum_by_push}
@@ -16,9 +15,8 @@ use Rattle.fx_canvas.proofs.CountLemmas.{meet_same, points_all}
 use Rattle.fx_canvas.proofs.DrawingLemmas.{drawn-none, drawn-same, drawn-then}
 use Rattle.fx_pens.proofs.SpanLemmas.{blended-opaque}
 use Rattle.fx_picture.proofs.PixelLemmas.{over-append}
-use Rattle.fx_picture.specs.Bounds.{bounds_of, in_range, meet, within}
-use Rattle.fx_picture.specs.Pixels.{covered, laid, over, pixel, shapes_of}
-use Rattle.fx_picture.specs.Shapes.{bounds, color_of, holds}
+use Rattle.fx_picture.specs.Bounds.{bounds_of, in_range, within}
+use Rattle.fx_picture.specs.Pixels.{covered, over, pixel, shapes_of}
 use Rattle.fx_picture.specs.declared.edges.Bounds.{Bounds}
 use Rattle.fx_picture.specs.declared.entries.Entry.{Entry}
 use Rattle.fx_picture.specs.declared.shapes.Shape.{Shape}

@@ -1,6 +1,5 @@
 -- one rectangle more
-use Rattle.std.proofs.Common.{get_or, arith}
-use Rattle.fx_canvas.proofs.RepaintLemmas.{next_rect, no_rect}
+use Rattle.fx_canvas.proofs.RepaintLemmas.{next_rect}
 use Rattle.fx_canvas.proofs.painting.repaint.Goals as goal
 
 pub loop-rect-preserved : goal.loop-rect-preserved

@@ -180,6 +180,69 @@ row_more pen top bottom at d old mid row p q r low high within small drawn laid 
         twice (is_in top at y) (y == at) (is_in pen.left pen.right x && d x y) (blended pen.color) c (rows_apart top at y)
         ∙ ap (λ t. cond (t && (is_in pen.left pen.right x && d x y)) (blended pen.color c) c) (rows_more top at y low)
 
+-- ---- many rows more
+sum_then : (f : ℕ → ℕ) (top m n : ℕ)
+    → sum_by f (range_with_len top m) + sum_by f (range_with_len (top + m) n) ≡ sum_by f (range_with_len top (m + n))
+sum_then f top zero n =
+    let same : top + 0 ≡ top = omega arith in
+    let none : 0 + n ≡ n = omega arith in
+    let here : sum_by f (range_with_len (top + 0) n) ≡ sum_by f (range_with_len top n) = ap (λ k. sum_by f (range_with_len k n)) same in
+    let long : sum_by f (range_with_len top (0 + n)) ≡ sum_by f (range_with_len top n) = ap (λ k. sum_by f (range_with_len top k)) none in
+    let blank : sum_by f (range_with_len top 0) ≡ 0 = refl in
+    omega (arith, here, long, blank)
+sum_then f top (suc m) n =
+    let same : (top + 1) + m ≡ top + suc m = omega arith in
+    let more : suc m + n ≡ suc (m + n) = omega arith in
+    let here : sum_by f (range_with_len ((top + 1) + m) n) ≡ sum_by f (range_with_len (top + suc m) n) = ap (λ k. sum_by f (range_with_len k n)) same in
+    let long : sum_by f (range_with_len top (suc m + n)) ≡ sum_by f (range_with_len top (suc (m + n))) = ap (λ k. sum_by f (range_with_len top k)) more in
+    let rest = sum_then f (top + 1) m n in
+    let one = sum_by-cons f top (range_with_len (top + 1) m) in
+    let two = sum_by-cons f top (range_with_len (top + 1) (m + n)) in
+    omega (arith, here, long, rest, one, two)
+
+sum_parts : (f : ℕ → ℕ) (top from to : ℕ) → top ≤ from → from ≤ to
+    → sum_by f (range_with_len top (from - top)) + sum_by f (range_with_len from (to - from)) ≡ sum_by f (range_with_len top (to - top))
+sum_parts f top from to low high =
+    let at : top + (from - top) ≡ from = omega (arith, low) in
+    let long : (from - top) + (to - from) ≡ to - top = omega (arith, low, high) in
+    ap (λ k. sum_by f (range_with_len top (from - top)) + sum_by f (range_with_len k (to - from))) (sym at)
+    ∙ (sum_then f top (from - top) (to - from) ∙ ap (λ k. sum_by f (range_with_len top k)) long)
+
+parts_apart : (top from to y : ℕ) → (is_in top from y && is_in from to y) ≡ false
+parts_apart top from to y = grind (arith, nat_tests)
+
+parts_joined : (top from to y : ℕ) → top ≤ from → from ≤ to → (is_in top from y || is_in from to y) ≡ is_in top to y
+parts_joined top from to y low high = grind (arith, nat_tests)
+
+part_of : (top from to bottom y : ℕ) → top ≤ from → to ≤ bottom → is_in top bottom y ≡ false → is_in from to y ≡ false
+part_of top from to bottom y low high none = grind (arith, nat_tests)
+
+-- the rows behind those so far
+pub rows_then : (pen : Pen) (top from to bottom : ℕ) (d e : ℕ → ℕ → Bool) (old mid new : List Line) (p q r : ℕ)
+    → pen.left ≤ pen.right → top ≤ from → from ≤ to → to ≤ bottom → InBlock pen from to (λ x y. d x y ≡ e x y)
+    → AreDotted pen top bottom from e old mid p q → AreDotted pen from to to d mid new q r → AreDotted pen top bottom to e old new p r
+rows_then pen top from to bottom d e old mid new p q r rises low high within same one two =
+    drawn-same (dots_above pen top to e) (dots_above pen top to e) (is_in top bottom) (is_in top bottom)
+    (count_above pen top from e + count_above pen from to e) (count_above pen top to e) old new p r (λ x y c. refl) (λ y f. f)
+    (sum_parts (λ y. count_in (λ x. e x y) pen.left pen.right) top from to low high)
+    (drawn-then (dots_above pen top from e) (dots_above pen from to e) (dots_above pen top to e) (is_in top bottom) (is_in from to) (is_in top bottom)
+    (count_above pen top from e) (count_above pen from to e) old mid new p q r
+    change (λ y f. (f, part_of top from to bottom y low within f)) one
+    (dotted-same pen from to d e mid new q r rises high same two))
+  where
+    change : (x y c : ℕ) → dots_above pen from to e x y (dots_above pen top from e x y c) ≡ dots_above pen top to e x y c
+    change x y c =
+        twice (is_in top from y) (is_in from to y) (is_in pen.left pen.right x && e x y) (blended pen.color) c (parts_apart top from to y)
+        ∙ ap (λ t. cond (t && (is_in pen.left pen.right x && e x y)) (blended pen.color c) c) (parts_joined top from to y low high)
+
+-- and none of those that are left has a dot
+pub rows_rest : (pen : Pen) (top from bottom : ℕ) (d : ℕ → ℕ → Bool) (old new : List Line) (p q : ℕ)
+    → pen.left ≤ pen.right → top ≤ from → from ≤ bottom → InBlock pen from bottom (λ x y. d x y ≡ false)
+    → AreDotted pen top bottom from d old new p q → AreDotted pen top bottom bottom d old new p q
+rows_rest pen top from bottom d old new p q rises low high none one =
+    rows_then pen top from bottom bottom d d old new new p q q rises low high (omega arith) (λ x y s t u v. refl) one
+    (dotted-none pen from bottom d new q rises high none)
+
 -- ---- rows in which a pen stands
 pub rows-same : (pen : Pen) (top bottom : ℕ) (old new : List Line) → HaveOneSize old new → HasRows pen top bottom old → HasRows pen top bottom new
 rows-same pen top bottom old new same has =
@@ -190,6 +253,21 @@ rows-same pen top bottom old new same has =
       down = omega (arith, long, low);
       rises = has.rises;
       across = λ y l. (let wide = same.across y in let most = has.across y (omega (arith, long, l)) in omega (arith, wide, most));
+      some = has.some;
+      narrow = has.narrow;
+      near = has.near;
+      bytes = has.bytes;
+    }
+
+-- some of those rows
+pub rows_of : (pen : Pen) (top bottom from to : ℕ) (rows : List Line) → from ≤ to → to ≤ bottom → HasRows pen top bottom rows → HasRows pen from to rows
+rows_of pen top bottom from to rows falls within has =
+    let down = has.down in
+    record {
+      falls = falls;
+      down = omega (arith, within, down);
+      rises = has.rises;
+      across = has.across;
       some = has.some;
       narrow = has.narrow;
       near = has.near;

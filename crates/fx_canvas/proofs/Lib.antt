@@ -3,6 +3,7 @@ pub mod ByteLemmas
 pub mod DrawingLemmas
 pub mod BlockLemmas
 pub mod DottedLemmas
+pub mod LineTops
 pub mod OpaqueLemmas
 pub mod CountLemmas
 pub mod AreaLemmas

@@ -1,11 +1,11 @@
 -- What repainting does to the rows of a window, and how many pixels it writes.
-use Rattle.std.specs.Prelude.{◌≡◌, ◌<◌, ◌≤◌, ℕ, ℤ, pos, Bool, true, false, ◌&&◌, ◌+◌, ◌-◌, ◌*◌, ◌==◌, ◌-ℤ◌, ◌≤ℤ◌, List, length, if◌then◌else◌}
+use Rattle.std.specs.Prelude.{◌≡◌, ◌<◌, ◌≤◌, ℕ, ℤ, pos, Bool, true, false, ◌&&◌, ◌+◌, ◌-◌, ◌*◌, ◌-ℤ◌, ◌≤ℤ◌, List, length, min, if◌then◌else◌}
 use Rattle.std.specs.List.{list_any, range_with_len, sum_by}
 use Rattle.fx_base.specs.Pixel.{blended}
 use Rattle.fx_base.specs.Rectangle.{in_span}
 use Rattle.fx_base.specs.declared.color.Color.{Color}
 use Rattle.fx_base.specs.declared.geometry.Rect.{Rect}
-use Rattle.fx_picture.specs.Bounds.{bounds_of, in_range, meet, within}
+use Rattle.fx_picture.specs.Bounds.{bounds_of, meet, within}
 use Rattle.fx_picture.specs.Pixels.{covered, over, pixel, shapes_of}
 use Rattle.fx_picture.specs.Shapes.{bounds, color_of, holds, whole}
 use Rattle.fx_picture.specs.declared.edges.Bounds.{Bounds}
@@ -73,6 +73,11 @@ dots_above pen top end dots x y under =
 abbrev pub count_above : Pen → ℕ → ℕ → (ℕ → ℕ → Bool) → ℕ
 count_above pen top end dots =
     sum_by (λ y. count_in (λ x. dots x y) pen.left pen.right) (range_with_len top (end - top))
+
+-- of the rows from one on and before another, the first one that lies in this line of a glyph or below it, where the
+-- pen stands in the first of them
+abbrev pub line_top : Pen → ℕ → ℕ → ℕ → ℕ
+line_top pen top bottom line = min bottom (top + (line * pen.scale - pen.below))
 
 -- the row before which nothing of a shape shows
 abbrev pub first_row : Shape → ℤ

@@ -1,14 +1,14 @@
 //! Rows of pixels, each with its printed text, which is kept as long as nothing is written to the row.
-ghost use Rattle.std.specs.Prelude.{◌≡◌, ◌≤◌, ◌/◌, IfOk, OnOk, false};
+ghost use Rattle.std.specs.Prelude.{◌≡◌, ◌≤◌, IfOk, OnOk, false};
 ghost use Rattle.fx_canvas.specs.Surfaces.{white_line};
-ghost use Rattle.fx_pens.specs.Dots.{IsInk, IsLaid, IsPen, IsStamp, is_in, stamp_dots};
+ghost use Rattle.fx_pens.specs.Dots.{IsInk, IsLaid, IsPen, is_in};
 ghost use Rattle.fx_pens.specs.Shapes.{AreColumns, LieWithin, plain_pen};
 ghost use Rattle.fx_picture.specs.Shapes.{bounds, color_of, holds};
 ghost use Rattle.fx_row_text.specs.Rows.{row_text};
 
 use fx_base::Steps;
 use fx_lanes::equal;
-use fx_pens::{Brush, Columns, Pen, Stamp, lay_span, lay_stamp};
+use fx_pens::{Brush, Columns, Pen, lay_span};
 use fx_row_text::print_row;
 use std::alloc::{AllocError, Global};
 use std::marker::Model;
@@ -71,44 +71,31 @@ impl Row {
         brush.lay(self.pixels.as_mut_slice(), part, y, painted);
     }
 
-    /// Paints all of the pen's columns in an opaque colour.
+    /// Paints some of the pen's columns in an opaque colour.
     #[inline(always)]
-    pub(crate) fn fill<P: Ledger>(&mut self, pen: &Pen, pixel: u32, painted: &mut Steps<P>)
+    pub(crate) fn fill<P: Ledger>(
+        &mut self,
+        pen: &Pen,
+        pixel: u32,
+        run: Columns,
+        painted: &mut Steps<P>,
+    )
         requires pen { IsPen pen.now self.old.pixels }
         requires ink { IsInk pen.now.color pixel }
-        ensures { IsLaid pen.now (is_in pen.now.left pen.now.right) self.old.pixels self.new.pixels
-            painted.old painted.new }
+        requires left { pen.now.left ≤ run.left }
+        requires rises { run.left ≤ run.right }
+        requires right { run.right ≤ pen.now.right }
+        ensures { IsLaid pen.now (is_in run.left run.right) self.old.pixels self.new.pixels painted.old painted.new }
     {
         self.stale = true;
         lay_span(
             self.pixels.as_mut_slice(),
             pen,
             Some(pixel),
-            pen.left,
-            pen.right,
+            run.left,
+            run.right,
             painted,
         );
-    }
-
-    /// Paints the row of a stamp's glyph in which the pen stands, in an opaque colour.
-    #[inline(always)]
-    pub(crate) fn draw_stamp<P: Ledger>(
-        &mut self,
-        pen: &Pen,
-        pixel: u32,
-        stamp: &Stamp,
-        painted: &mut Steps<P>,
-    )
-        requires pen { IsPen pen.now self.old.pixels }
-        requires ink { IsInk pen.now.color pixel }
-        requires narrow { pen.now.scale ≤ 65536 }
-        requires low { pen.now.below ≤ 400000 }
-        requires stamp { IsStamp pen.now.left pen.now.right stamp.now }
-        ensures { IsLaid pen.now (stamp_dots stamp.now (pen.now.below / pen.now.scale)) self.old.pixels self.new.pixels
-            painted.old painted.new }
-    {
-        self.stale = true;
-        lay_stamp(self.pixels.as_mut_slice(), pen, pixel, stamp, painted);
     }
 
     /// Makes the text anew where it is stale. Want of memory leaves it stale.

@@ -9,10 +9,11 @@ use Rattle.fx_picture.specs.Bounds.{in_range}
 use Rattle.fx_picture.specs.Shapes.{has_dot}
 use Rattle.fx_pens.specs.declared.runs.Bits.{Bits}
 use Rattle.fx_pens.specs.declared.spans.Pen.{Pen}
+use Rattle.fx_pens.specs.declared.stamps.Runs.{Runs}
 use Rattle.fx_pens.specs.declared.stamps.Stamp.{Stamp}
-use Rattle.fx_pens.specs.Dots.{IsStamp, bit_dots, bits_between, char_dots, is_in, stamp_dots}
+use Rattle.fx_pens.specs.Dots.{AreApart, IsStamp, bit_dots, bits_between, char_dots, is_in, joined_runs, runs_beside, runs_dots, stamp_dots}
 use Rattle.fx_pens.proofs.CutLemmas.{bit_span}
-use Rattle.fx_pens.proofs.LetterLemmas.{and_false, bits_are, char_none, row_blank, three_false}
+use Rattle.fx_pens.proofs.LetterLemmas.{bits_are, char_none, row_blank, three_false}
 
 -- ---- a column that is cut to others
 abbrev pub clipped : ℕ → ℕ → ℤ → ℤ
@@ -112,6 +113,10 @@ row_none stamp line x h =
     let d2 = row_blank stamp.glyph 2 line h in
     rw (d0, d1, d2) refl
 
+or_none : (a : Bool) → (a || false) ≡ a
+or_none true = refl
+or_none false = refl
+
 one_run : (f s t e x : ℕ) (l r : Bool) → f ≤ s → s ≤ t → t ≤ e
     → is_in (cond l f s) (cond r e t) x ≡ (((l && is_in f s x) || is_in s t x) || (r && is_in t e x))
 one_run f s t e x true true a b c = grind (arith, nat_tests)
@@ -119,23 +124,49 @@ one_run f s t e x true false a b c = grind (arith, nat_tests)
 one_run f s t e x false true a b c = grind (arith, nat_tests)
 one_run f s t e x false false a b c = grind (arith, nat_tests)
 
-pub joined_between : (low high : ℕ) (stamp : Stamp) (bits : Bits) (from to x : ℕ) → IsStamp low high stamp → bits.middle ≡ true
-    → from ≡ cond bits.left stamp.first stamp.second → to ≡ cond bits.right stamp.end stamp.third → is_in from to x ≡ bits_between stamp bits x
-unfolding bits_between
-joined_between low high stamp bits from to x is m p q =
-    rw (p, q, m) (one_run stamp.first stamp.second stamp.third stamp.end x bits.left bits.right is.left is.middle is.right)
-
-pub beside_apart : (f s t e x : ℕ) (l r : Bool) → s ≤ t → ((l && is_in f s x) && (r && is_in t e x)) ≡ false
-beside_apart f s t e x true true h = grind (arith, nat_tests)
-beside_apart f s t e x true false h = and_false (is_in f s x)
-beside_apart f s t e x false r h = refl
-
-pub beside_between : (stamp : Stamp) (bits : Bits) (x : ℕ) → bits.middle ≡ false
-    → ((bits.left && is_in stamp.first stamp.second x) || (bits.right && is_in stamp.third stamp.end x)) ≡ bits_between stamp bits x
-unfolding bits_between
-beside_between stamp bits x m =
-    rw m (ap (λ (u : Bool). u || (bits.right && is_in stamp.third stamp.end x)) (sym (or_none (bits.left && is_in stamp.first stamp.second x))))
+pub joined_edges : (low high : ℕ) (stamp : Stamp) (bits : Bits) → IsStamp low high stamp → AreApart low high (joined_runs stamp bits)
+joined_edges low high stamp bits is = edges bits.left bits.right stamp.first stamp.second stamp.third stamp.end is.from is.left is.middle is.right is.to
   where
-    or_none : (a : Bool) → (a || false) ≡ a
-    or_none true = refl
-    or_none false = refl
+    edges : (l r : Bool) (f s t e : ℕ) → low ≤ f → f ≤ s → s ≤ t → t ≤ e → e ≤ high
+        → AreApart low high (record { left = record { left = cond l f s; right = cond r e t }; right = record { left = e; right = e } })
+    edges true true f s t e a b c d g = record { from = omega (arith, a); left = omega (arith, b, c, d); apart = omega arith; right = omega arith; to = g }
+    edges true false f s t e a b c d g = record { from = omega (arith, a); left = omega (arith, b, c); apart = d; right = omega arith; to = g }
+    edges false true f s t e a b c d g = record { from = omega (arith, a, b); left = omega (arith, c, d); apart = omega arith; right = omega arith; to = g }
+    edges false false f s t e a b c d g = record { from = omega (arith, a, b); left = c; apart = d; right = omega arith; to = g }
+
+pub joined_dots : (low high : ℕ) (stamp : Stamp) (bits : Bits) (x : ℕ) → IsStamp low high stamp → bits.middle ≡ true
+    → runs_dots (joined_runs stamp bits) x ≡ bits_between stamp bits x
+unfolding bits_between
+joined_dots low high stamp bits x is m =
+    ap (λ (t : Bool). is_in (cond bits.left stamp.first stamp.second) (cond bits.right stamp.end stamp.third) x || t) (in_none stamp.end x)
+    ∙ (or_none (is_in (cond bits.left stamp.first stamp.second) (cond bits.right stamp.end stamp.third) x)
+    ∙ rw m (one_run stamp.first stamp.second stamp.third stamp.end x bits.left bits.right is.left is.middle is.right))
+
+pub beside_edges : (low high : ℕ) (stamp : Stamp) (bits : Bits) → IsStamp low high stamp → AreApart low high (runs_beside stamp bits)
+beside_edges low high stamp bits is = edges bits.left bits.right stamp.first stamp.second stamp.third stamp.end is.from is.left is.middle is.right is.to
+  where
+    edges : (l r : Bool) (f s t e : ℕ) → low ≤ f → f ≤ s → s ≤ t → t ≤ e → e ≤ high
+        → AreApart low high (record { left = record { left = f; right = cond l s f }; right = record { left = t; right = cond r e t } })
+    edges true true f s t e a b c d g = record { from = a; left = b; apart = c; right = d; to = g }
+    edges true false f s t e a b c d g = record { from = a; left = b; apart = c; right = omega arith; to = omega (arith, d, g) }
+    edges false true f s t e a b c d g = record { from = a; left = omega arith; apart = omega (arith, b, c); right = d; to = g }
+    edges false false f s t e a b c d g = record { from = a; left = omega arith; apart = omega (arith, b, c); right = omega arith; to = omega (arith, d, g) }
+
+set_run : (from to x : ℕ) (set : Bool) → is_in from (cond set to from) x ≡ (set && is_in from to x)
+set_run from to x true = refl
+set_run from to x false = in_none from x
+
+pub beside_dots : (stamp : Stamp) (bits : Bits) (x : ℕ) → bits.middle ≡ false → runs_dots (runs_beside stamp bits) x ≡ bits_between stamp bits x
+unfolding bits_between
+beside_dots stamp bits x m =
+    ap (λ (t : Bool). t || is_in stamp.third (cond bits.right stamp.end stamp.third) x) (set_run stamp.first stamp.second x bits.left)
+    ∙ (ap (λ (t : Bool). (bits.left && is_in stamp.first stamp.second x) || t) (set_run stamp.third stamp.end x bits.right)
+    ∙ rw m (ap (λ (u : Bool). u || (bits.right && is_in stamp.third stamp.end x)) (sym (or_none (bits.left && is_in stamp.first stamp.second x)))))
+
+-- a run holds no column of the one behind it
+pub runs_apart : (low high : ℕ) (runs : Runs) (x : ℕ) → AreApart low high runs
+    → (is_in runs.left.left runs.left.right x && is_in runs.right.left runs.right.right x) ≡ false
+runs_apart low high runs x is = no_two runs.left.left runs.left.right runs.right.left runs.right.right x is.apart
+  where
+    no_two : (f s t e x : ℕ) → s ≤ t → (is_in f s x && is_in t e x) ≡ false
+    no_two f s t e x h = grind (arith, nat_tests)

@@ -6,6 +6,7 @@ use Rattle.fx_base.specs.declared.color.Color.{Color}
 use Rattle.fx_pens.specs.declared.parts.Edges.{Edges}
 use Rattle.fx_pens.specs.declared.runs.Bits.{Bits}
 use Rattle.fx_pens.specs.declared.spans.Pen.{Pen}
+use Rattle.fx_pens.specs.declared.stamps.Runs.{Runs}
 use Rattle.fx_pens.specs.declared.stamps.Stamp.{Stamp}
 use Rattle.fx_cells.specs.Columns.{cell_width, cells_of}
 use Rattle.fx_cells.specs.Font.{glyph_of}
@@ -75,6 +76,35 @@ pub record IsStamp (low high : ℕ) (stamp : Stamp) : Type 0 where
   pub middle : stamp.second ≤ stamp.third
   pub right : stamp.third ≤ stamp.end
   pub to : stamp.end ≤ high
+
+-- one run that goes over the middle bit, and an empty one behind it
+abbrev pub joined_runs : Stamp → Bits → Runs
+joined_runs stamp bits = record {
+  left = record {
+    left = if bits.left then stamp.first else stamp.second;
+    right = if bits.right then stamp.end else stamp.third;
+  };
+  right = record { left = stamp.end; right = stamp.end };
+}
+
+-- a run for each bit beside the middle one, empty where the bit isn't set
+abbrev pub runs_beside : Stamp → Bits → Runs
+runs_beside stamp bits = record {
+  left = record { left = stamp.first; right = if bits.left then stamp.second else stamp.first };
+  right = record { left = stamp.third; right = if bits.right then stamp.end else stamp.third };
+}
+
+-- what two runs hold
+abbrev pub runs_dots : Runs → ℕ → Bool
+runs_dots runs x = is_in runs.left.left runs.left.right x || is_in runs.right.left runs.right.right x
+
+-- one run lies before the other, from one column on and before another
+pub record AreApart (low high : ℕ) (runs : Runs) : Type 0 where
+  pub from : low ≤ runs.left.left
+  pub left : runs.left.left ≤ runs.left.right
+  pub apart : runs.left.right ≤ runs.right.left
+  pub right : runs.right.left ≤ runs.right.right
+  pub to : runs.right.right ≤ high
 
 -- the same pen so many rows further down
 abbrev pub lowered : Pen → ℕ → Pen

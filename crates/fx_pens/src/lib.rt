@@ -15,4 +15,4 @@ mod stamps;
 pub use brushes::{Brush, near_pen};
 pub use near::behind;
 pub use spans::{Columns, Pen, ink, lay_span};
-pub use stamps::{Stamp, lay_stamp, stamp_of};
+pub use stamps::{Runs, Stamp, runs_of, stamp_of};

@@ -1,15 +1,13 @@
 //! A glyph at its place: where the columns of its bits lie is worked out once for all of its rows.
-ghost use Rattle.std.specs.Prelude.{◌≡◌, ◌≤◌, ◌<◌, ◌&&◌, ◌+◌, ◌*◌, ◌/◌, ◌^◌, ◌≤ℤ◌, ◌+ℤ◌, ℕ, pos, negsuc, true};
+ghost use Rattle.std.specs.Prelude.{◌≡◌, ◌≤◌, ◌<◌, ◌*◌, ◌/◌, ◌^◌, ◌≤ℤ◌, ◌+ℤ◌, ℕ, pos, negsuc};
 ghost use Rattle.std.specs.Int.{int_max, int_min};
-ghost use Rattle.fx_pens.specs.Dots.{IsInk, IsLaid, IsPen, IsStamp, bits_between, char_dots, is_in, stamp_dots};
+ghost use Rattle.fx_pens.specs.Dots.{AreApart, IsStamp, bits_between, char_dots, joined_runs, runs_beside, runs_dots, stamp_dots};
 
 use crate::characters::{bits_of, width_of};
 use crate::parts::{cut, further};
 use crate::runs::{Bits, choose};
-use crate::spans::{Pen, lay_span};
-use fx_base::Steps;
+use crate::spans::{Columns, Pen};
 use fx_cells::glyph;
-use std::sync::ledger::Ledger;
 
 /// A glyph, and the edges of its three columns of bits, cut to the columns that are painted.
 #[derive(Clone, Copy)]
@@ -78,101 +76,67 @@ fn column(pen: &Pen, start: i64, count: u64) -> usize
     cut(pen, further(start, pen.scale, count))
 }
 
-/// Paints the row of a stamp's glyph in which the pen stands, in an opaque colour.
-#[inline(always)]
-pub fn lay_stamp<P: Ledger>(
-    row: &mut [u32],
-    pen: &Pen,
-    pixel: u32,
-    stamp: &Stamp,
-    painted: &mut Steps<P>,
-)
-    requires pen { IsPen pen.now row.old }
-    requires ink { IsInk pen.now.color pixel }
-    requires narrow { pen.now.scale ≤ 65536 }
-    requires low { pen.now.below ≤ 400000 }
-    requires stamp { IsStamp pen.now.left pen.now.right stamp.now }
-    ensures { IsLaid pen.now (stamp_dots stamp.now (pen.now.below / pen.now.scale)) row.old row.new
-        painted.old painted.new }
-{
-    let line = (pen.below as u32 / pen.scale as u32) as u64;
-    if line >= 5 {
-        return;
-    }
-    lay_bits(row, pen, pixel, stamp, bits_of(stamp.glyph, line), painted);
+/// The columns of the bits of a line of a glyph: bits that stand side by side are one run. Where there are no two runs,
+/// one is empty, or both are.
+#[derive(Clone, Copy)]
+pub struct Runs {
+    pub left: Columns,
+    pub right: Columns,
 }
 
-/// Paints three bits between the edges of a stamp.
+/// The runs of a line of a stamp's glyph.
 #[inline(always)]
-fn lay_bits<P: Ledger>(
-    row: &mut [u32],
-    pen: &Pen,
-    pixel: u32,
-    stamp: &Stamp,
-    bits: Bits,
-    painted: &mut Steps<P>,
-)
-    requires pen { IsPen pen.now row.old }
-    requires ink { IsInk pen.now.color pixel }
-    requires stamp { IsStamp pen.now.left pen.now.right stamp.now }
-    ensures { IsLaid pen.now (bits_between stamp.now bits) row.old row.new painted.old painted.new }
+pub fn runs_of(stamp: &Stamp, line: u64) -> Runs
+    requires { line < 5 }
+    ensures edges { (low high : ℕ) → IsStamp low high stamp.now → AreApart low high result }
+    ensures dots { (low high x : ℕ) → IsStamp low high stamp.now → runs_dots result x ≡ stamp_dots stamp.now line x }
+{
+    runs_between(stamp, bits_of(stamp.glyph, line))
+}
+
+/// The runs of three bits between the edges of a stamp.
+#[inline(always)]
+fn runs_between(stamp: &Stamp, bits: Bits) -> Runs
+    ensures edges { (low high : ℕ) → IsStamp low high stamp.now → AreApart low high result }
+    ensures dots { (low high x : ℕ) → IsStamp low high stamp.now → runs_dots result x ≡ bits_between stamp.now bits x }
 {
     if bits.middle {
-        lay_joined(row, pen, pixel, stamp, bits, painted);
+        joined(stamp, bits)
     } else {
-        lay_set(
-            row,
-            pen,
-            pixel,
-            stamp.first,
-            stamp.second,
-            bits.left,
-            painted,
-        );
-        lay_set(row, pen, pixel, stamp.third, stamp.end, bits.right, painted);
+        beside(stamp, bits)
     }
 }
 
-/// Paints the one run that goes over the middle bit, which is set.
+/// The one run that goes over the middle bit, which is set.
 #[inline(always)]
-fn lay_joined<P: Ledger>(
-    row: &mut [u32],
-    pen: &Pen,
-    pixel: u32,
-    stamp: &Stamp,
-    bits: Bits,
-    painted: &mut Steps<P>,
-)
-    requires pen { IsPen pen.now row.old }
-    requires ink { IsInk pen.now.color pixel }
-    requires stamp { IsStamp pen.now.left pen.now.right stamp.now }
-    requires middle { bits.middle ≡ true }
-    ensures { IsLaid pen.now (bits_between stamp.now bits) row.old row.new painted.old painted.new }
+fn joined(stamp: &Stamp, bits: Bits) -> Runs
+    ensures { result ≡ joined_runs stamp.now bits }
 {
-    let from = choose(bits.left, stamp.first, stamp.second);
-    let to = choose(bits.right, stamp.end, stamp.third);
-    lay_span(row, pen, Some(pixel), from, to, painted);
+    Runs {
+        left: Columns {
+            left: choose(bits.left, stamp.first, stamp.second),
+            right: choose(bits.right, stamp.end, stamp.third),
+        },
+        right: Columns {
+            left: stamp.end,
+            right: stamp.end,
+        },
+    }
 }
 
-/// Paints a bit from one column on and before another, if it is set.
+/// The bits beside the middle one, which isn't set.
 #[inline(always)]
-fn lay_set<P: Ledger>(
-    row: &mut [u32],
-    pen: &Pen,
-    pixel: u32,
-    from: usize,
-    to: usize,
-    set: bool,
-    painted: &mut Steps<P>,
-)
-    requires pen { IsPen pen.now row.old }
-    requires ink { IsInk pen.now.color pixel }
-    requires left { pen.now.left ≤ from }
-    requires rises { from ≤ to }
-    requires right { to ≤ pen.now.right }
-    ensures { IsLaid pen.now (λ x. set && is_in from to x) row.old row.new painted.old painted.new }
+fn beside(stamp: &Stamp, bits: Bits) -> Runs
+    ensures { result ≡ runs_beside stamp.now bits }
 {
-    if set {
-        lay_span(row, pen, Some(pixel), from, to, painted);
+    Runs {
+        left: Columns {
+            left: stamp.first,
+            right: choose(bits.left, stamp.second, stamp.first),
+        },
+        right: Columns {
+            left: stamp.third,
+            right: choose(bits.right, stamp.end, stamp.third),
+        },
     }
 }

@@ -19,7 +19,7 @@ use Rattle.fx_shapes.specs.Drawings.{IsDrawing}
 use Rattle.fx_pulse_model.specs.Lines.{path_of}
 use Rattle.fx_pulse_model.specs.Pictures.{Drawn, IsEntry, IsPicture, is_disabled, shown_places, shows, text_of}
 use Rattle.fx_pulse.specs.Drawing.{shown_below}
-use Rattle.fx_pulse.specs.Editing.{AreLast, IsEditedUpTo}
+use Rattle.fx_pulse.specs.Editing.{AreLast, IsAdded, IsEditedUpTo}
 use Rattle.fx_pulse_touched.specs.Marks.{told}
 use Rattle.fx_pulse_touched.proofs.ToldLemmas.{told_at}
 use Rattle.fx_pulse.proofs.EntryLemmas.{below_more}
@@ -218,6 +218,13 @@ edit_put d olds k es next f less shown so there at made =
             made)))
       ];
     }
+
+pub edit_added : (d : Drawn) (olds : List Entry) (k : ℕ) (es : List Edit) (next : ℕ) (more : List Edit) → k < length d.boxes
+    → shows d k ≡ true → IsEditedUpTo d olds k es next → next < length olds → IsAdded d k next es more
+    → IsEditedUpTo d olds (k + 1) more (next + 1)
+edit_added d olds k es next more less shown so there one =
+    subst (λ l. IsEditedUpTo d olds (k + 1) l (next + 1)) (sym one.added)
+    (edit_put d olds k es next (record { place = next; entry = one.entry }) less shown so there refl one.is)
 
 pub edit_all : (d : Drawn) (olds : List Entry) (es : List Edit) (next : ℕ) → length olds ≡ length (shown_places d)
     → IsEditedUpTo d olds (length d.boxes) es next

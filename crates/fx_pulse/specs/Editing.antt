@@ -1,5 +1,5 @@
 -- The next picture, whole or by edits of the last one.
-use Rattle.std.specs.Prelude.{◌≡◌, ℕ, ◌<◌, Bool, false, List, length, slice_index_or, Option, Some, None, IfSome}
+use Rattle.std.specs.Prelude.{◌≡◌, ℕ, ◌<◌, ◌++◌, ◌∷◌, [], Bool, false, List, length, slice_index_or, Option, Some, None, IfSome}
 use Rattle.fx_base.specs.declared.geometry.Rect.{Rect}
 use Rattle.fx_damage.specs.Edits.{AreEdits, edited}
 use Rattle.fx_damage.specs.declared.edits.Edit.{Edit}
@@ -57,16 +57,22 @@ pub record IsEditedUpTo (d : Drawn) (olds : List Entry) (place : ℕ) (edits : L
   pub made : (i : ℕ) → i < count → (e : Entry)
       → IsEntry d (slice_index_or (shown_places d) i 0) (slice_index_or (edited edits olds) i e)
 
+-- one edit was added: the entry of a node, for this place of the picture
+pub record IsAdded (d : Drawn) (k at : ℕ) (before after : List Edit) : Type 0 where
+  pub entry : Entry
+  pub is : IsEntry d k entry
+  pub added : after ≡ before ++ record { place = at; entry = entry } ∷ []
+
 -- ---- the next picture
 -- its entries, where these are those of the last one
 abbrev pub entries_after : Next → List Entry → List Entry
 entries_after (next.Whole picture) olds = picture.entries
-entries_after (next.Edited edits) olds = edited edits.items olds
+entries_after (next.Edited edits) olds = edited edits olds
 
 -- edits are of entries that the last picture has
 abbrev pub IsOver : List Entry → Next → Type 0
 IsOver olds (next.Whole picture) = Unit {0}
-IsOver olds (next.Edited edits) = AreEdits edits.items (length olds)
+IsOver olds (next.Edited edits) = AreEdits edits (length olds)
 
 -- edits are only of a frame of the same size
 abbrev pub IsOfSize : Option Before → ℕ → ℕ → Next → Type 0

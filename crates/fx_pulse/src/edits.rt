@@ -11,9 +11,10 @@ ghost use Rattle.fx_pulse.specs.Editing.{AreLast, IsEditedUpTo};
 ghost use Rattle.fx_pulse_touched.specs.Marks.{told};
 ghost use Rattle.fx_shapes.specs.Rects.{IsNear};
 
-use crate::entries::{Laid, Notes, Room, entry_of};
+use crate::edit_lists::Edits;
+use crate::entries::{Laid, Notes};
 use crate::flags::flag_at;
-use fx_base::{List, Rect};
+use fx_base::Rect;
 use fx_damage::Edit;
 use fx_picture::Entry;
 use std::alloc::{AllocError, Global};
@@ -26,53 +27,40 @@ pub(crate) struct Last<'a> {
     pub marks: &'a [bool],
 }
 
-/// The edits so far, how many entries of the last picture were passed, and entries that are gone, in whose memory the
-/// next ones are made.
+/// The edits so far, and how many entries of the last picture were passed.
 #[derive(Drop)]
 struct Editing {
-    edits: Vec<Edit>,
+    edits: Edits,
     count: usize,
-    gone: Vec<Entry>,
 }
 
-/// The edits that make the picture of this scene of the last one, in the memory of entries that are gone.
+/// The edits that make the picture of this scene of the last one, in the memory of edits that are gone.
 pub(crate) fn edits_of(
     alloc: Global,
     laid: Laid<'_>,
     notes: Notes<'_>,
     last: Last<'_>,
-    gone: &mut Vec<Entry>,
-) -> Result<Vec<Edit>, AllocError>
+    gone: &mut Vec<Edit>,
+) -> Result<Edits, AllocError>
     requires looks { length laid.looks.now ≡ length laid.boxes.now }
     requires rects { length laid.rects.now ≡ length laid.boxes.now }
     requires near { (k : ℕ) → IsNear (rect_at laid.rects.now k) }
     requires shown { notes.shown.now ≡ told (shows (drawn laid)) (length laid.boxes.now) }
     requires disabled { notes.disabled.now ≡ told (is_disabled (drawn laid)) (length laid.boxes.now) }
     requires last { AreLast (drawn laid) last.marks.now last.entries.now }
-    ensures edits { IfOk result (λ edits. AreEdits edits.items (length last.entry.entries.now)) }
+    ensures edits { IfOk result (λ edits. AreEdits edits (length last.entry.entries.now)) }
     ensures picture { IfOk result (λ edits.
-        IsPicture (drawn laid.entry) (edited edits.items last.entry.entries.now)) }
+        IsPicture (drawn laid.entry) (edited edits last.entry.entries.now)) }
 {
     let mut editing = Editing {
-        edits: Vec::with_capacity(alloc, count_of(last.marks))?,
+        edits: Edits::over(replace(gone, Vec::new(alloc))),
         count: 0,
-        gone: replace(gone, Vec::new(alloc)),
     };
     for place in 0..laid.boxes.len() {
         edit_next(alloc, laid, notes, last, place, &mut editing)?;
     }
-    let Editing {
-        edits,
-        gone: left,
-        ..
-    } = editing;
-    *gone = left;
+    let Editing { edits, .. } = editing;
     Ok(edits)
-}
-
-/// How many nodes are marked.
-fn count_of(marks: &[bool]) -> usize {
-    marks.iter().filter(|mark| **mark).count()
 }
 
 /// Passes a node: where it shows, its entry stays, or is made anew if it may be another.
@@ -91,9 +79,9 @@ fn edit_next(
     requires shown { notes.shown.now ≡ told (shows (drawn laid)) (length laid.boxes.now) }
     requires disabled { notes.disabled.now ≡ told (is_disabled (drawn laid)) (length laid.boxes.now) }
     requires last { AreLast (drawn laid) last.marks.now last.entries.now }
-    requires before { IsEditedUpTo (drawn laid) last.entries.now place editing.old.edits.items editing.old.count }
+    requires before { IsEditedUpTo (drawn laid) last.entries.now place editing.old.edits editing.old.count }
     ensures { OnOk result (IsEditedUpTo (drawn laid.entry) last.entry.entries.now (place + 1)
-        editing.new.edits.items editing.new.count) }
+        editing.new.edits editing.new.count) }
 {
     if !flag_at(notes.shown, place) {
         return Ok(());
@@ -104,9 +92,8 @@ fn edit_next(
     if stays(laid, notes, last.marks, place, old) {
         return Ok(());
     }
-    let room = room_in(alloc, &mut editing.gone, old)?;
-    let entry = entry_of(alloc, laid, notes, place, room)?;
-    editing.edits.push(Edit { place: at, entry })?;
+    let path = old.path.as_slice();
+    editing.edits.add(alloc, laid, notes, place, at, path)?;
     Ok(())
 }
 
@@ -141,28 +128,4 @@ fn is_same_rect(one: Rect, other: Rect) -> bool
     ensures { IsTrue result → one ≡ other }
 {
     one == other
-}
-
-/// The path of an entry, and memory for shapes: those of an entry that is gone, if any is left.
-fn room_in(alloc: Global, gone: &mut Vec<Entry>, old: &Entry) -> Result<Room, AllocError>
-    ensures { IfOk result (λ room. room.path ≡ old.now.path) }
-{
-    let (path, shapes) = match gone.pop() {
-        Some(Entry { path, shapes, .. }) => (path.into_vec(), shapes.into_vec()),
-        None => (Vec::new(alloc), Vec::new(alloc)),
-    };
-    Ok(Room {
-        path: path_in(path, old)?,
-        shapes,
-    })
-}
-
-/// The path of an entry, in the memory of another.
-fn path_in(room: Vec<u32>, entry: &Entry) -> Result<List<u32>, AllocError>
-    ensures { IfOk result (λ path. path ≡ entry.now.path) }
-{
-    let mut path = room;
-    path.clear();
-    path.extend_from_slice(entry.path.as_slice())?;
-    Ok(List::from_vec(path))
 }

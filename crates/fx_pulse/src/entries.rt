@@ -12,10 +12,10 @@ ghost use Rattle.fx_shapes.specs.Rects.{IsNear};
 
 use crate::flags::flag_at;
 use crate::paths::paths_of;
-use fx_base::{List, Rect, Text};
+use fx_base::{List, NodeKey, Rect, Text};
 use fx_kinds::{BoxFacts, is_control};
 use fx_look::Look;
-use fx_picture::{Entry, Picture, Shape};
+use fx_picture::{Entry, Picture};
 use fx_shapes::shapes_in;
 use std::alloc::{AllocError, Global};
 use std::mem::replace;
@@ -113,50 +113,57 @@ fn add_shown(
     if !flag_at(notes.shown, place) {
         return Ok(());
     }
-    let room = Room {
-        path,
-        shapes: Vec::new(alloc),
-    };
-    let entry = entry_of(alloc, laid, notes, place, room)?;
+    let mut entry = blank_entry(alloc, path);
+    fill(alloc, laid, notes, place, &mut entry)?;
     entries.push(entry)?;
     Ok(())
 }
 
-/// The path of a node, and memory for its shapes. What stands in that doesn't matter.
-#[derive(Drop)]
-pub(crate) struct Room {
-    pub path: List<u32>,
-    pub shapes: Vec<Shape>,
+/// An entry of this path that is to be filled.
+pub(crate) fn blank_entry(alloc: Global, path: List<u32>) -> Entry
+    ensures { result.path ≡ path }
+{
+    Entry {
+        key: NodeKey { slot: 0, birth: 0 },
+        path,
+        rect: Rect {
+            x: 0,
+            y: 0,
+            w: 0,
+            h: 0,
+        },
+        shapes: List::new(alloc),
+        disabled: false,
+        focusable: false,
+    }
 }
 
-/// The entry of a node of this path, with its shapes in this memory.
-pub(crate) fn entry_of(
+/// Makes an entry that of a node, whose path it has, in the memory of the shapes that it held.
+pub(crate) fn fill(
     alloc: Global,
     laid: Laid<'_>,
     notes: Notes<'_>,
     place: usize,
-    room: Room,
-) -> Result<Entry, AllocError>
+    entry: &mut Entry,
+) -> Result<(), AllocError>
     requires there { place < length laid.boxes.now }
     requires looks { length laid.looks.now ≡ length laid.boxes.now }
     requires rects { length laid.rects.now ≡ length laid.boxes.now }
     requires near { (k : ℕ) → IsNear (rect_at laid.rects.now k) }
-    requires path { room.path ≡ path_of (parents laid.boxes.now) place }
+    requires path { entry.old.path ≡ path_of (parents laid.boxes.now) place }
     requires disabled { notes.disabled.now ≡ told (is_disabled (drawn laid)) (length laid.boxes.now) }
-    ensures { IfOk result (λ entry. IsEntry (drawn laid.entry) place entry) }
+    ensures { OnOk result (IsEntry (drawn laid.entry) place entry.new) }
 {
     let node = &laid.boxes[place];
     let rect = laid.rects[place];
-    let Room { path, shapes } = room;
-    let shapes = shapes_in(alloc, shapes, &laid.looks[place], rect, text_of(node))?;
-    Ok(Entry {
-        key: node.key,
-        path,
-        rect,
-        shapes: List::from_vec(shapes),
-        disabled: flag_at(notes.disabled, place),
-        focusable: node.focus_traversable,
-    })
+    let room = replace(&mut entry.shapes, List::new(alloc)).into_vec();
+    let shapes = shapes_in(alloc, room, &laid.looks[place], rect, text_of(node))?;
+    entry.key = node.key;
+    entry.rect = rect;
+    entry.shapes = List::from_vec(shapes);
+    entry.disabled = flag_at(notes.disabled, place);
+    entry.focusable = node.focus_traversable;
+    Ok(())
 }
 
 /// The text of a node, if its class shows one.

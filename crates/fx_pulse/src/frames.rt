@@ -17,12 +17,13 @@ ghost use Rattle.fx_pulse.specs.Editing.{AreLast, IsEditable, IsOfSize, IsOver, 
 ghost use Rattle.fx_shapes.specs.Rects.{IsNear};
 
 use crate::copies::copied;
+use crate::edit_lists::Edits;
 use crate::edits::{Last, edits_of};
 use crate::entries::{Laid, Notes, picture_of};
 use crate::flags::{disabled_flags, shown_flags};
 use fx_base::{Ledgers, Rect, Work};
 use fx_damage::Edit;
-use fx_picture::{Entry, Picture};
+use fx_picture::Picture;
 use fx_pulse_kept::{Brought, KeptScene};
 use fx_pulse_touched::{Compared, Scene, SceneLists};
 use std::alloc::{AllocError, Global};
@@ -32,7 +33,7 @@ use std::alloc::{AllocError, Global};
 pub(crate) enum Next {
     Whole(Picture),
     /// Edits that make it of the last one.
-    Edited(Vec<Edit>),
+    Edited(Edits),
 }
 
 /// The frame before: its size in pixels, and whether each node of its scene shows.
@@ -78,7 +79,7 @@ pub(crate) fn made_of<L: Ledgers>(
     window: Option<(u32, u32)>,
     kept: &mut KeptScene,
     past: Past<'_>,
-    gone: &mut Vec<Entry>,
+    gone: &mut Vec<Edit>,
     work: &mut Work<L>,
 ) -> Result<Made, AllocError>
     requires scene { IsScene (scene_of following.scene) }
@@ -135,7 +136,7 @@ fn made_by(
     brought: Brought,
     kept: &KeptScene,
     past: Past<'_>,
-    gone: &mut Vec<Entry>,
+    gone: &mut Vec<Edit>,
 ) -> Result<Made, AllocError>
     requires looks { kept.now.styles.looks ≡ looks_of (seen scene) }
     requires kept { AreOf (seen scene) kept.now.styles kept.now.layout }
@@ -203,14 +204,14 @@ fn are_same(flags: &[bool], others: &[bool]) -> bool
     flags == others
 }
 
-/// The next picture, by edits of the last one in the memory of entries that are gone, or whole.
+/// The next picture, by edits of the last one in the memory of those that are gone, or whole.
 fn next_picture(
     alloc: Global,
     laid: Laid<'_>,
     notes: Notes<'_>,
     last: Last<'_>,
     edits: bool,
-    gone: &mut Vec<Entry>,
+    gone: &mut Vec<Edit>,
 ) -> Result<Next, AllocError>
     requires tree { IsTree (parents laid.boxes.now) }
     requires few { length laid.boxes.now ≤ 4096 }

@@ -4,6 +4,7 @@
 
 mod checking;
 mod copies;
+mod edit_lists;
 mod edits;
 mod entries;
 mod flags;

@@ -1,15 +1,16 @@
 //! The next picture in the place of the last one, and what it damages of it.
-ghost use Rattle.std.specs.Prelude.{◌≡◌, IfOk, List as ListOf, Some, slice_set};
+ghost use Rattle.std.specs.Prelude.{◌≡◌, IfOk, List as ListOf, Some};
 ghost use Rattle.fx_damage.specs.Damage.{damage as damage_of};
 ghost use Rattle.fx_damage.specs.Edits.{edited};
 ghost use Rattle.fx_picture.specs.Entries.{HasDistinctBirths};
 ghost use Rattle.fx_picture.specs.declared.entries.Entry.{Entry as EntryValue};
 ghost use Rattle.fx_pulse.specs.Editing.{IsOver, IsWhole, entries_after};
 
+use crate::edit_lists::Edits;
 use crate::frames::Next;
 use fx_base::{List, Rect};
 use fx_damage::{Edit, damage, damage_of_edits};
-use fx_picture::{Entry, Picture};
+use fx_picture::Picture;
 use std::alloc::{AllocError, Global};
 use std::mem::replace;
 
@@ -33,43 +34,25 @@ pub(crate) fn damage_by(
     }
 }
 
-/// Puts the next picture in the place of the last one, for which no memory is wanted. Entries that are edited are gone:
-/// they are kept for their memory, where there is room for them.
-pub(crate) fn follow(alloc: Global, picture: &mut Picture, next: Next, gone: &mut Vec<Entry>)
+/// Puts the next picture in the place of the last one, for which no memory is wanted. Edits that were made are gone,
+/// with the entries that they took: they are kept for their memory.
+pub(crate) fn follow(alloc: Global, picture: &mut Picture, next: Next, gone: &mut Vec<Edit>)
     ensures { picture.new.entries ≡ entries_after next picture.old.entries }
 {
     match next {
         Next::Whole(whole) => *picture = whole,
-        Next::Edited(edits) => edit(alloc, picture, edits, gone),
+        Next::Edited(edits) => *gone = edit(alloc, picture, edits),
     }
 }
 
-fn edit(alloc: Global, picture: &mut Picture, edits: Vec<Edit>, gone: &mut Vec<Entry>)
-    ensures { picture.new.entries ≡ edited edits.items picture.old.entries }
+fn edit(alloc: Global, picture: &mut Picture, edits: Edits) -> Vec<Edit>
+    ensures { picture.new.entries ≡ edited edits picture.old.entries }
 {
     let last = replace(picture, Picture::new(alloc));
     let mut entries = last.entries.into_vec();
-    put_all(&mut entries, edits, gone);
+    let gone = edits.put(&mut entries);
     picture.entries = List::from_vec(entries);
-}
-
-/// Makes each edit.
-fn put_all(entries: &mut Vec<Entry>, edits: Vec<Edit>, gone: &mut Vec<Entry>)
-    ensures { entries.new.items ≡ edited edits.items entries.old.items }
-{
-    for edit in edits {
-        put(entries, edit, gone);
-    }
-}
-
-fn put(entries: &mut Vec<Entry>, edit: Edit, gone: &mut Vec<Entry>)
-    ensures { entries.new.items ≡ slice_set entries.old.items edit.place edit.entry }
-{
-    let Edit { place, entry } = edit;
-    if place < entries.len() {
-        let old = replace(&mut entries[place], entry);
-        let _kept = gone.push(old);
-    }
+    gone
 }
 
 /// The next picture, which is whole.

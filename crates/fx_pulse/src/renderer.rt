@@ -24,8 +24,8 @@ use crate::frames::{Before, Following, Made, Past, made_of};
 use crate::pictures::{damage_by, follow, whole};
 use fx_base::{Ledgers, Rect, Work};
 use fx_canvas::Canvas;
-use fx_damage::damage;
-use fx_picture::{Entry, Picture};
+use fx_damage::{Edit, damage};
+use fx_picture::Picture;
 use fx_pulse_kept::KeptScene;
 use fx_pulse_touched::SceneLists;
 use std::alloc::{AllocError, Global};
@@ -42,8 +42,8 @@ pub struct Renderer {
     kept: KeptScene,
     /// How the picture was drawn, unless it isn't that of the scene that is kept.
     drawn: Option<Drawing>,
-    /// Entries that are gone: only their memory serves again.
-    gone: Vec<Entry>,
+    /// Edits that are gone: only their memory serves again.
+    gone: Vec<Edit>,
 }
 
 /// The window in which a picture was drawn, and whether each node of its scene shows.

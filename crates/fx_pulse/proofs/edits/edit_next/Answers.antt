@@ -1,17 +1,16 @@
 -- a node that shows keeps its entry, or has it made anew
-use Rattle.std.proofs.Common.{◌∙◌, ◌+◌, ◌++◌, ◌∷◌, [], ap, false, refl, subst, sym, true}
-use Rattle.fx_damage.specs.declared.edits.Edit.{Edit}
+use Rattle.std.proofs.Common.{◌∙◌, ◌+◌, ap, false, refl, subst, sym, true}
 use Rattle.fx_picture.specs.declared.entries.Entry.{Entry}
 use Rattle.fx_pulse.specs.Drawing.{drawn}
 use Rattle.fx_pulse.specs.Editing.{IsEditedUpTo}
-use Rattle.fx_pulse.proofs.EditLemmas.{disabled_at, edit_put, edit_skip, edit_stays, old_at, old_path, shown_at}
+use Rattle.fx_pulse.proofs.EditLemmas.{disabled_at, edit_added, edit_skip, edit_stays, old_at, old_path, shown_at}
 use Rattle.fx_pulse.proofs.edits.edit_next.Goals as goal
 
 pub returns-then-not-flag_at : goal.returns-then-not-flag_at
 returns-then-not-flag_at c =
     let d = drawn c.args.laid in
     let k = c.args.place in
-    edit_skip d c.args.last.entries.now k c.args.editing.now.edits.items c.args.editing.now.count
+    edit_skip d c.args.last.entries.now k c.args.editing.now.edits c.args.editing.now.count
     (shown_at d c.args.notes.shown.now k false c.requires.there c.requires.shown
     (sym c.flag_at.ensures ∙ c.if-not-flag_at.true))
     c.requires.before
@@ -20,7 +19,7 @@ pub entry_at-old-requires : goal.entry_at-old-requires
 entry_at-old-requires c =
     let d = drawn c.args.laid in
     let k = c.args.place in
-    (old_at d c.args.last.marks.now c.args.last.entries.now k c.args.editing.now.edits.items c.args.editing.now.count
+    (old_at d c.args.last.marks.now c.args.last.entries.now k c.args.editing.now.edits c.args.editing.now.count
     c.requires.there
     (shown_at d c.args.notes.shown.now k true c.requires.there c.requires.shown
     (sym c.flag_at.ensures ∙ c.if-not-flag_at.false))
@@ -30,7 +29,7 @@ pub behind-editing-requires : goal.behind-editing-requires
 behind-editing-requires c =
     let d = drawn c.args.laid in
     let k = c.args.place in
-    (old_at d c.args.last.marks.now c.args.last.entries.now k c.args.editing.now.edits.items c.args.editing.now.count
+    (old_at d c.args.last.marks.now c.args.last.entries.now k c.args.editing.now.edits c.args.editing.now.count
     c.requires.there
     (shown_at d c.args.notes.shown.now k true c.requires.there c.requires.shown
     (sym c.flag_at.ensures ∙ c.if-not-flag_at.false))
@@ -42,7 +41,7 @@ returns-then-stays c =
     let k = c.args.place in
     let olds = c.args.last.entries.now in
     let marks = c.args.last.marks.now in
-    let es = c.args.editing.now.edits.items in
+    let es = c.args.editing.now.edits in
     let count = c.args.editing.now.count in
     let old = c.entry_at-old.result.now in
     let shown =
@@ -55,19 +54,19 @@ returns-then-stays c =
     (disabled_at d c.args.notes.disabled.now k old.disabled c.requires.there c.requires.disabled
     (c.if-stays.ensures.disabled refl)))
 
-pub entry_of-requires-clause-path : goal.entry_of-requires-clause-path
-entry_of-requires-clause-path c =
+pub add-requires-clause-path : goal.add-requires-clause-path
+add-requires-clause-path c =
     let d = drawn c.args.laid in
     let k = c.args.place in
     let olds = c.args.last.entries.now in
     let marks = c.args.last.marks.now in
-    let es = c.args.editing.now.edits.items in
+    let es = c.args.editing.now.edits in
     let count = c.args.editing.now.count in
     let old = c.entry_at-old.result.now in
     let shown =
     shown_at d c.args.notes.shown.now k true c.requires.there c.requires.shown
     (sym c.flag_at.ensures ∙ c.if-not-flag_at.false) in
-    c.in_ok-room.ensures
+    c.as_slice-path.ensures
     ∙ (ap (λ (e : Entry). e.path) (c.entry_at-old.ensures old)
     ∙ old_path d marks olds k count old
     (old_at d marks olds k es count c.requires.there shown c.requires.last c.requires.before))
@@ -78,14 +77,12 @@ returns c =
     let k = c.args.place in
     let olds = c.args.last.entries.now in
     let marks = c.args.last.marks.now in
-    let es = c.args.editing.now.edits.items in
+    let es = c.args.editing.now.edits in
     let count = c.args.editing.now.count in
-    let edit : Edit = record { place = count; entry = c.in_ok-entry.entry } in
     let shown =
     shown_at d c.args.notes.shown.now k true c.requires.there c.requires.shown
     (sym c.flag_at.ensures ∙ c.if-not-flag_at.false) in
-    subst (λ l. IsEditedUpTo d olds (k + 1) l c.behind-editing.result) (sym c.in_ok-push.ensures.items)
-    (subst (IsEditedUpTo d olds (k + 1) (es ++ edit ∷ [])) (sym c.behind-editing.ensures)
-    (edit_put d olds k es count edit c.requires.there shown c.requires.before
-    (old_at d marks olds k es count c.requires.there shown c.requires.last c.requires.before).within refl
-    c.in_ok-entry.ensures))
+    subst (IsEditedUpTo d olds (k + 1) c.add.new.self) (sym c.behind-editing.ensures)
+    (edit_added d olds k es count c.add.new.self c.requires.there shown c.requires.before
+    (old_at d marks olds k es count c.requires.there shown c.requires.last c.requires.before).within
+    c.in_ok-add.ensures)

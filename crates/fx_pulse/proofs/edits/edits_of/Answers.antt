@@ -9,7 +9,7 @@ pub returns-clause-edits : goal.returns-clause-edits
 returns-clause-edits c =
     let d = drawn c.args.laid in
     let olds = c.args.last.entries.now in
-    let es = c.loop-place.editing.edits.items in
+    let es = c.loop-place.editing.edits in
     let count = c.loop-place.editing.count in
     let all : c.loop-place.place ≡ length c.args.laid.boxes.now =
     omega (arith, c.loop-place-test.false, c.loop-place.auto.place-end) in
@@ -20,7 +20,7 @@ pub returns-clause-picture : goal.returns-clause-picture
 returns-clause-picture c =
     let d = drawn c.args.laid in
     let olds = c.args.last.entries.now in
-    let es = c.loop-place.editing.edits.items in
+    let es = c.loop-place.editing.edits in
     let count = c.loop-place.editing.count in
     let all : c.loop-place.place ≡ length c.args.laid.boxes.now =
     omega (arith, c.loop-place-test.false, c.loop-place.auto.place-end) in

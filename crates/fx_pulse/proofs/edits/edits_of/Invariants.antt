@@ -5,4 +5,4 @@ use Rattle.fx_pulse.proofs.edits.edits_of.Given as goal
 
 abbrev pub invariant-loop-place : goal.invariant-loop-place
 invariant-loop-place l =
-    IsEditedUpTo (drawn l.laid) l.last.entries.now l.place l.editing.edits.items l.editing.count
+    IsEditedUpTo (drawn l.laid) l.last.entries.now l.place l.editing.edits l.editing.count

@@ -20,7 +20,7 @@ returns c =
     let d = drawn c.args.laid in
     let k = c.args.place in
     subst (λ es. AllZip (IsEntry d) (shown_below d (k + 1)) es) (sym c.in_ok-push.ensures.items)
-    (entries_more d k c.args.entries.now.items c.in_ok-entry.entry
+    (entries_more d k c.args.entries.now.items c.fill.new.entry
     (sym (told_at (shows d) (length d.boxes) k false c.requires.there)
     ∙ (ap (λ l. slice_index_or l k false) (sym c.requires.shown) ∙ (sym c.flag_at.ensures ∙ c.if-not-flag_at.false)))
-    c.requires.before c.in_ok-entry.ensures)
+    c.requires.before c.in_ok-fill.ensures)

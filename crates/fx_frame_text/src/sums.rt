@@ -1,5 +1,5 @@
 //! Adding up the pixels of a frame that isn't written.
-ghost use Rattle.std.specs.Prelude.{◌≡◌, ◌≤◌, ◌<◌, ◌*◌, ◌^◌, All, length, sum};
+ghost use Rattle.std.specs.Prelude.{◌≡◌, ◌≤◌, ◌<◌, ◌+◌, ◌*◌, ◌^◌, All, length, sum};
 ghost use Rattle.fx_frame_text.specs.Canvases.{image_on};
 ghost use Rattle.fx_frame_text.specs.Frames.{pixel_sum};
 
@@ -38,16 +38,44 @@ fn row_sum(row: &[u32]) -> u64
     total
 }
 
-/// The pixels of a part of a row added up.
+/// The pixels of a part of a row added up, its halves side by side.
 fn part_sum(part: &[u32]) -> u32
     requires few { length part.now ≤ 256 }
     requires bytes { All (λ pixel. pixel < 2 ^ 24) part.now }
     ensures sum { result ≡ sum part.now }
     ensures small { result ≤ length part.now * 16777215 }
 {
+    let half = part.len() / 2;
+    let (front, behind) = part.split_at(half);
+    let (beside, last) = behind.split_at(half);
+    sum_beside(front, beside) + last_of(last)
+}
+
+/// The pixels of two equally long parts added up, two at a time.
+fn sum_beside(one: &[u32], other: &[u32]) -> u32
+    requires long { length other.now ≡ length one.now }
+    requires few { length one.now ≤ 128 }
+    requires bytes { All (λ pixel. pixel < 2 ^ 24) one.now }
+    requires others { All (λ pixel. pixel < 2 ^ 24) other.now }
+    ensures sum { result ≡ sum one.now + sum other.now }
+    ensures small { result ≤ length one.now * 33554430 }
+{
     let mut total = 0u32;
-    for pixel in part {
-        total += *pixel;
+    for at in 0..one.len() {
+        total += one[at] + other[at];
     }
     total
+}
+
+/// The pixel, if there is one.
+fn last_of(last: &[u32]) -> u32
+    requires few { length last.now ≤ 1 }
+    requires bytes { All (λ pixel. pixel < 2 ^ 24) last.now }
+    ensures sum { result ≡ sum last.now }
+    ensures small { result ≤ length last.now * 16777215 }
+{
+    match last.first() {
+        Some(pixel) => *pixel,
+        None => 0,
+    }
 }

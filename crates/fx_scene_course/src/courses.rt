@@ -41,6 +41,7 @@ pub fn place_in(file: u32, position: Position) -> Place
 }
 
 /// Adds a task.
+#[inline]
 pub fn add_task(course: &mut Course, place: Place, doing: Doing) -> Result<(), AllocError>
     ensures ok { OnOk result (course_view course.new ≡ spec.with_task (course_view course.old) place doing) }
 {
@@ -49,6 +50,7 @@ pub fn add_task(course: &mut Course, place: Place, doing: Doing) -> Result<(), A
 }
 
 /// Adds a step, if there is one.
+#[inline(always)]
 pub fn add_step(
     course: &mut Course,
     place: Place,

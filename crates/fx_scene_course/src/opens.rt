@@ -43,6 +43,7 @@ pub fn scope_in<'a>(here: &Open<'a>, settled: &'a [Settled]) -> Scope<'a>
 
 /// A step that the document asks for, as it is taken.
 #[tactic(auto, unfolding(crate::specs::Opens::step_in))]
+#[inline(always)]
 pub fn step_in(
     alloc: Global,
     here: &Open<'_>,
@@ -51,7 +52,7 @@ pub fn step_in(
     ensures { IfOk result (λ taken. taken ≡ spec.step_in (open_view here.now) step) }
 {
     match step {
-        PlannedStep::Named(node, path) => named_in(alloc, here, node, path.as_slice()),
+        PlannedStep::Named(node, path) => named_in(alloc, here, node, path),
         PlannedStep::Root(node) => Ok(stand_step(here.stand, node)),
         other => Ok(Some(other)),
     }
@@ -62,17 +63,27 @@ fn named_in(
     alloc: Global,
     here: &Open<'_>,
     node: usize,
-    path: &[Text],
+    path: List<Text>,
 ) -> Result<Option<PlannedStep>, AllocError>
-    ensures { IfOk result (λ taken. taken ≡ spec.named_in node path.now (open_view here.now).path) }
+    ensures { IfOk result (λ taken. taken ≡ spec.named_in node path (open_view here.now).path) }
 {
     match &here.path {
         Some(front) => {
-            let path = List::from_vec(joined(alloc, front.as_slice(), path)?);
+            let path = path_in(alloc, front.as_slice(), path)?;
             Ok(Some(PlannedStep::Named(node, path)))
         }
         None => Ok(None),
     }
+}
+
+/// A path behind another one. Behind none it is taken as it is.
+fn path_in(alloc: Global, front: &[Text], path: List<Text>) -> Result<List<Text>, AllocError>
+    ensures { IfOk result (λ all. all ≡ front.now ++ path) }
+{
+    if front.is_empty() {
+        return Ok(path);
+    }
+    Ok(List::from_vec(joined(alloc, front, path.as_slice())?))
 }
 
 fn joined(alloc: Global, front: &[Text], back: &[Text]) -> Result<Vec<Text>, AllocError>

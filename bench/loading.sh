@@ -1,7 +1,7 @@
 #!/bin/bash
 # Counts the instructions that loading a scene takes for each byte of its files: a scene of 1,000 and of 3,600 labels, in
 # boxes of ten, each with an id, a text and a width that is bound to that of the label before it, as demos have them, and
-# a style sheet of two rules. All is counted, from the words to the end of the stage, but what the program takes for a
+# a style sheet of two rules. All is counted, from the words to the end of the process, but what the program takes for a
 # scene without labels. At last it tells by how much a byte of the larger scene takes more than one of the smaller.
 set -euo pipefail
 source "$(dirname "$0")/counting.sh"

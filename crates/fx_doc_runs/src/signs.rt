@@ -1,6 +1,7 @@
 //! What begins with a sign in the text of an element, taken whole: references, tags, and both ends of a comment.
 //! Every fault is left to the reader's steps.
 ghost use Rattle.std.specs.Prelude.{◌≡◌, ◌∷◌, ◌+◌, ◌<◌, ◌^◌, length, IfSome, IfOk, IfErr};
+ghost use Rattle.fx_text.specs.Characters.{less_than_sign, slash};
 ghost use Rattle.fx_doc_grammar.specs.declared.Entity.TheVariants.{Begun};
 ghost use Rattle.fx_doc_drafts.specs.Ahead.{is_flat};
 ghost use Rattle.fx_doc_runs.specs.Reached.{TookFlat};
@@ -120,7 +121,7 @@ impl Reader {
         behind: &'a str,
     ) -> Result<&'a str, DocError>
         requires inside { self.old.mode ≡ kind.Inside }
-        requires begun { rest.now ≡ 60 ∷ (47 ∷ behind.now) }
+        requires begun { rest.now ≡ less_than_sign ∷ (slash ∷ behind.now) }
         ensures took { (p : Position) → IfOk result (λ left. TookFlat rest.now p (view self.old) left.now
             (view self.new)) }
         ensures memory { IfErr result (λ e. e ≡ fault.Memory) }
@@ -152,7 +153,7 @@ impl Reader {
         behind: &'a str,
     ) -> Result<&'a str, DocError>
         requires inside { self.old.mode ≡ kind.Inside }
-        requires begun { rest.now ≡ 60 ∷ behind.now }
+        requires begun { rest.now ≡ less_than_sign ∷ behind.now }
         ensures took { IfOk result (λ left. TookFlat rest.now position (view self.old) left.now (view self.new)) }
         ensures memory { IfErr result (λ e. e ≡ fault.Memory) }
     {

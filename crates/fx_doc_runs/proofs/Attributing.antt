@@ -136,11 +136,11 @@ value_none text x = λ h p l. record { part = []; split = refl; flat = refl; cal
 
 -- a value with its quote ---------------------------------------------------------------------------
 
-pub value_whole : (r : Reader) (m : Mode) (x y z : Valued) (d : Head) (text left rest : List ℕ) (code : ℕ)
+pub value_whole : (r : Reader) (x y z : Valued) (d : Head) (text left rest : List ℕ) (code : ℕ)
     (p : Position) → r.mode ≡ v.Quoted x → TookValue text x left y → code ≡ quote_code y.quote → left ≡ code ∷ rest
-    → m ≡ v.Quoted y → m ≡ v.Quoted z → head_view d ≡ with_attribute (head_view z.head) z.position
+    → v.Quoted y ≡ v.Quoted z → head_view d ≡ with_attribute (head_view z.head) z.position
     (string_bytes z.key.text) (string_bytes z.value.text) → TookFlat text p (view r) rest (in_mode r (v.Tight d))
-value_whole r m x y z d text left rest code p e t c f g i w =
+value_whole r x y z d text left rest code p e t c f i w =
     let same : z ≡ y = Prim.cc in
     let h = held_view r.held in
     let goal : HeadView → State = λ k. as_state h (Tight k) in

@@ -6,15 +6,14 @@ use Rattle.std.specs.List.{list_all}
 use Rattle.std.specs.String.{string_bytes}
 use Rattle.fx_base.specs.declared.positions.Position.{Position}
 use Rattle.fx_doc_grammar.specs.Grammar.{Level as LevelView}
-use Rattle.fx_doc_grammar.specs.Machine.{State, Held as HeldView, Inside, is_open, level_long}
+use Rattle.fx_doc_grammar.specs.Machine.{State, Inside, is_open}
 use Rattle.fx_doc_grammar.proofs.Marks.{as_state}
 use Rattle.fx_text.specs.Classes.{is_white}
 use Rattle.fx_base.specs.Positions.{after_all}
 use Rattle.fx_doc_drafts.specs.Ahead.{is_text, is_calm}
-use Rattle.fx_doc_runs.specs.Reached.{Calm, Took, TookFlat, IsPast, IsRun, run_level, quoted_at}
+use Rattle.fx_doc_runs.specs.Reached.{Calm, Took, TookFlat, IsPast, IsRun, run_level}
 use Rattle.fx_doc_runs.specs.Views.{view, head_view, held_view, level_view, stack_view, mode_view, inside_view}
 use Rattle.fx_doc_drafts.specs.declared.drafts.Word.{Word}
-use Rattle.fx_doc_runs.specs.declared.modes.Valued.{Valued}
 use Rattle.fx_doc_runs.specs.declared.modes.Head.{Head}
 use Rattle.fx_doc_runs.specs.declared.modes.Held.{Held}
 use Rattle.fx_doc_runs.specs.declared.modes.Mode.{Mode}
@@ -52,15 +51,16 @@ instruction_taken r n x y text part rest p e k w =
     subst (λ (m : Mode). TookFlat text p (in_mode r m) rest (in_mode r (v.Instructed n y))) (sym e)
     (instruction_took (held_view r.held) (string_bytes n.text) (string_bytes x) (string_bytes y) text part rest p (level_short r) k w)
 
-pub value_kept : (r : Reader) (x y : Valued) (text rest : List ℕ) (p : Position) → r.mode ≡ v.Quoted x → ((h : HeldView) (q : Position) → level_long h ≡ false → TookFlat text q (quoted_at h x) rest (quoted_at h y))
-    → TookFlat text p (view r) rest (in_mode r (v.Quoted y))
-value_kept r x y text rest p e t =
-    subst (λ (m : Mode). TookFlat text p (in_mode r m) rest (in_mode r (v.Quoted y))) (sym e) (t (held_view r.held) p (level_short r))
-
 pub spaced_kept : (r : Reader) (head : Head) (part : List ℕ) (p : Position) → r.mode ≡ v.Spaced head
     → list_all is_white part ≡ true → Calm p (view r) part (view r)
 spaced_kept r head part p e g = subst (λ (m : Mode). Calm p (in_mode r m) part (in_mode r m)) (sym e) (spaced_calm
     (held_view r.held) (head_view head) part p (level_short r) g)
+
+-- what holds of the reader in a mode, where that mode was put in
+pub turned : (P : State → Type 0) (x : Held) (m n : Mode) → n ≡ m
+    → P (as_state (held_view x) (mode_view (stack_view x.stack.items) m))
+    → P (as_state (held_view x) (mode_view (stack_view x.stack.items) n))
+turned P x m n e t = subst (λ (y : Mode). P (as_state (held_view x) (mode_view (stack_view x.stack.items) y))) (sym e) t
 
 -- a part that code finds not to be empty
 pub filled : (gap : List ℕ) (b : Bool) → b ≡ eqb (length gap) 0 → b ≡ false → gap ≡ [] → ⊥

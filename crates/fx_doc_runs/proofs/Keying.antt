@@ -120,13 +120,16 @@ key_took h head rest name behind u p l k f = record {
   calm = key_calm h head u name k.before k.after p l k.begins k.named k.short k.white_before k.white_after f;
 }
 
-pub key_taken : (r : Reader) (m : ModeHere) (a b : Head) (x : Valued) (rest name behind key : List ℕ) (u : Quote) (p : Position) → r.mode ≡ v.Spaced a → m ≡ r.mode → m ≡ v.Spaced b → IsKey rest name u behind → key ≡ name → is_fresh key (head_view a) ≡ true
-    → x.head ≡ b → x.position ≡ p → string_bytes x.key.text ≡ key → x.quote ≡ u → string_bytes x.value.text ≡ [] → x.value.count ≡ 0 → TookFlat rest p (view r) behind (in_mode r (v.Quoted x))
-key_taken r m a b x rest name behind key u p e f g k j n xh xp xk xq xv xn =
+pub key_taken : (r : Reader) (a b : Head) (x : Valued) (rest name behind key : List ℕ) (u : Quote) (p : Position)
+    → r.mode ≡ v.Spaced a → r.mode ≡ v.Spaced b → IsKey rest name u behind → key ≡ name
+    → is_fresh key (head_view a) ≡ true → x.head ≡ b → x.position ≡ p → string_bytes x.key.text ≡ key → x.quote ≡ u
+    → string_bytes x.value.text ≡ [] → x.value.count ≡ 0 → TookFlat rest p (view r) behind (in_mode r (v.Quoted x))
+key_taken r a b x rest name behind key u p e g k j n xh xp xk xq xv xn =
     let h = held_view r.held in
-    let fresh : is_fresh name (head_view b) ≡ true = ap (λ y. is_fresh y (head_view b)) (sym j) ∙ (same_fresh r key r.mode a b e (sym f ∙ g) ∙ n) in
+    let fresh : is_fresh name (head_view b) ≡ true = ap (λ y. is_fresh y (head_view b)) (sym j)
+    ∙ (same_fresh r key r.mode a b e g ∙ n) in
     let whole : quoting h (head_view b) p name u [] 0 ≡ in_mode r (v.Quoted x) =
     λ i. as_state h (Quoted (head_view (sym xh i)) (sym xp i) (sym (xk ∙ j) i) (sym xq i) (sym xv i) (sym xn i)) in
     subst (λ (y : State). TookFlat rest p (view r) behind y) whole
-    (subst (λ (y : ModeHere). TookFlat rest p (in_mode r y) behind (quoting h (head_view b) p name u [] 0)) (sym (sym
-    f ∙ g)) (key_took h (head_view b) rest name behind u p (level_short r) k fresh))
+    (subst (λ (y : ModeHere). TookFlat rest p (in_mode r y) behind (quoting h (head_view b) p name u [] 0)) (sym g)
+    (key_took h (head_view b) rest name behind u p (level_short r) k fresh))

@@ -157,10 +157,10 @@ inside_then r r1 r2 text left more rest p q z t u g l w =
     (flat_took left more rest q z (view r1) (view r2) u g l w)
 
 -- an attribute that stands in white
-pub attribute_taken : (r : Reader) (m : Mode) (a d b : Head) (text left rest : List ℕ) (p q : Position) → r.mode
-    ≡ v.Spaced a → TookWhole text p a left d → m ≡ v.Spaced d → m ≡ v.Spaced b → rest ≡ left → q.line ≡ p.line
+pub attribute_taken : (r : Reader) (a d b : Head) (text left rest : List ℕ) (p q : Position) → r.mode ≡ v.Spaced a
+    → TookWhole text p a left d → v.Spaced d ≡ v.Spaced b → rest ≡ left → q.line ≡ p.line
     → q.column ≡ p.column + (length text - length left) → Took text p (view r) rest q (in_mode r (v.Tight b))
-attribute_taken r m a d b text left rest p q e t f g k l w =
+attribute_taken r a d b text left rest p q e t f k l w =
     let same : d ≡ b = Prim.cc in
     subst (λ (y : Head). Took text p (view r) rest q (in_mode r (v.Tight y))) same
     (subst (λ (y : Mode). Took text p (in_mode r y) rest q (in_mode r (v.Tight d))) (sym e)
@@ -189,14 +189,15 @@ further_taken r a d text left more rest p q z e k n t g l w =
 
 -- white behind an attribute, and what begins there
 pub behind_white : (r r' : Reader) (m : Mode) (a d b : Head) (text left more rest : List ℕ) (p q z : Position) → r.mode
-    ≡ v.Tight a → IsPast is_white text p left q → (length left ≡ length text → ⊥) → d ≡ a → m ≡ v.Tight d
-    → m ≡ v.Tight b → TookFlat left q (in_mode r (v.Spaced b)) more (view r') → rest ≡ more → z.line ≡ q.line
+    ≡ v.Tight a → IsPast is_white text p left q → (length left ≡ length text → ⊥) → d ≡ a → v.Tight d ≡ v.Tight b
+    → m ≡ v.Spaced b → TookFlat left q (in_mode r m) more (view r') → rest ≡ more → z.line ≡ q.line
     → z.column ≡ q.column + (length left - length more) → Took text p (view r) rest z (view r')
 behind_white r r' m a d b text left more rest p q z e k n i f g t j l w =
     let same : b ≡ a = Prim.cc in
     took_then text left rest p q z (view r) (in_mode r (v.Spaced a)) (view r') (white_tight r a text left p q e k n)
     (flat_took left more rest q z (in_mode r (v.Spaced a)) (view r')
-    (subst (λ (y : Head). TookFlat left q (in_mode r (v.Spaced y)) more (view r')) same t) j l w)
+    (subst (λ (y : Mode). TookFlat left q (in_mode r y) more (view r')) (g ∙ ap (λ (y : Head). v.Spaced y) same) t)
+    j l w)
 
 -- what is left behind an attribute that is taken whole is no longer
 pub whole_shorter : (r : Reader) (a d : Head) (text left : List ℕ) (p : Position) → TookWhole text p a left d

@@ -24,7 +24,7 @@ use Rattle.fx_doc_runs.proofs.Calm.{one_calm, short_or, if_fresh}
 use Rattle.fx_doc_runs.proofs.Flowing.{gap_class, gap_all_flat, gap_all_white, spaced_calm}
 use Rattle.fx_doc_runs.proofs.Whole.{all_flat, named_flat}
 use Rattle.fx_doc_runs.proofs.Shorts.{not_past, level_short}
-use Rattle.fx_doc_runs.proofs.Carried.{in_mode}
+use Rattle.fx_doc_runs.proofs.Carried.{in_mode, turned}
 
 both : (a b : Bool) → (a && b) ≡ true → (a ≡ true) × (b ≡ true)
 both true b e = (refl, e)
@@ -156,29 +156,23 @@ ending_calm h (c ∷ cs) p l =
 
 -- over the reader's own values ---------------------------------------------------------------------
 
--- the reader behind a tag
-inside_at : (g : Held) (n : Mode) (text rest : List ℕ) (p : Position) (s : State) → n ≡ v.Inside
-    → TookFlat text p s rest (inside_view g) → TookFlat text p s rest
-    (as_state (held_view g) (mode_view (stack_view g.stack.items) n))
-inside_at g n text rest p s e t = subst (λ (y : Mode). TookFlat text p s rest
-    (as_state (held_view g) (mode_view (stack_view g.stack.items) y))) (sym e) t
-
-pub leaf_taken : (r : Reader) (m n : Mode) (b : Head) (g : Held) (text one rest : List ℕ) (p : Position) → m ≡ r.mode
-    → m ≡ v.Tight b → n ≡ v.Inside → held_view g ≡ with_leaf (held_view r.held) (head_view b) → text ≡ 47 ∷ one → one
-    ≡ 62 ∷ rest
+pub leaf_taken : (r : Reader) (n : Mode) (b : Head) (g : Held) (text one rest : List ℕ) (p : Position)
+    → r.mode ≡ v.Tight b → n ≡ v.Inside → held_view g ≡ with_leaf (held_view r.held) (head_view b) → text ≡ 47 ∷ one
+    → one ≡ 62 ∷ rest
     → TookFlat text p (view r) rest (as_state (held_view g) (mode_view (stack_view g.stack.items) n))
-leaf_taken r m n b g text one rest p f k i w s t =
-    inside_at g n text rest p (view r) i
-    (subst (λ (y : Mode). TookFlat text p (in_mode r y) rest (inside_view g)) (sym (sym f ∙ k))
+leaf_taken r n b g text one rest p k i w s t =
+    turned (TookFlat text p (view r) rest) g v.Inside n i
+    (subst (λ (y : Mode). TookFlat text p (in_mode r y) rest (inside_view g)) (sym k)
     (leaf_took (held_view r.held) (held_view g) (head_view b) text one rest p (level_short r)
     (not_past g.level.run.count g.level.run.short) w s t))
 
-pub open_taken : (r : Reader) (m n : Mode) (b : Head) (g : Held) (text rest : List ℕ) (p : Position) → m ≡ r.mode → m
-    ≡ v.Tight b → n ≡ v.Inside → held_view g ≡ open_element (held_view r.held) (head_view b) → text ≡ 62 ∷ rest
+pub open_taken : (r : Reader) (n : Mode) (b : Head) (g : Held) (text rest : List ℕ) (p : Position)
+    → r.mode ≡ v.Tight b → n ≡ v.Inside → held_view g ≡ open_element (held_view r.held) (head_view b)
+    → text ≡ 62 ∷ rest
     → TookFlat text p (view r) rest (as_state (held_view g) (mode_view (stack_view g.stack.items) n))
-open_taken r m n b g text rest p f k i w s =
-    inside_at g n text rest p (view r) i
-    (subst (λ (y : Mode). TookFlat text p (in_mode r y) rest (inside_view g)) (sym (sym f ∙ k))
+open_taken r n b g text rest p k i w s =
+    turned (TookFlat text p (view r) rest) g v.Inside n i
+    (subst (λ (y : Mode). TookFlat text p (in_mode r y) rest (inside_view g)) (sym k)
     (open_took (held_view r.held) (held_view g) (head_view b) text rest p
     (not_past g.level.run.count g.level.run.short) w s))
 

@@ -13,7 +13,6 @@ use crate::rests::Rest;
 use crate::runs::run_ahead;
 use fx_doc_drafts::{behind_byte, quote_byte};
 use std::alloc::Global;
-use std::mem;
 
 impl Reader {
     /// Takes what stands ahead and isn't left to a step, and gives what is left behind it.
@@ -82,13 +81,11 @@ impl Reader {
         let Some(behind) = behind_byte(left, quote_byte(valued.quote)) else {
             return Ok(left);
         };
-        let Mode::Quoted(valued) = mem::replace(&mut self.mode, Mode::Ended) else {
-            unreachable!()
-        };
+        let valued = self.mode.take_valued();
         let Ok(head) = valued.into_head(alloc) else {
             return Err(DocError::Memory);
         };
-        self.mode = Mode::Tight(head);
+        self.mode.turn(Mode::Tight(head));
         Ok(behind)
     }
 
@@ -110,10 +107,8 @@ impl Reader {
         if let Some(behind) = head.take(alloc, left.position, left.text)? {
             return Ok(left.along(behind));
         }
-        let Mode::Tight(head) = mem::replace(&mut self.mode, Mode::Ended) else {
-            unreachable!()
-        };
-        self.mode = Mode::Spaced(head);
+        let head = self.mode.take_tight();
+        self.mode.turn(Mode::Spaced(head));
         Ok(left.along(self.take_key(alloc, left.position, left.text)?))
     }
 
@@ -132,9 +127,7 @@ impl Reader {
         let Some(behind) = behind_byte(one, b'>') else {
             return Ok(rest);
         };
-        let Mode::Tight(head) = mem::replace(&mut self.mode, Mode::Inside) else {
-            unreachable!()
-        };
+        let head = self.mode.take_tight();
         match self.held.add_leaf(alloc, head) {
             Ok(()) => Ok(behind),
             Err(_) => Err(DocError::Memory),
@@ -153,9 +146,7 @@ impl Reader {
         let Some(behind) = behind_byte(rest, b'>') else {
             return Ok(rest);
         };
-        let Mode::Tight(head) = mem::replace(&mut self.mode, Mode::Inside) else {
-            unreachable!()
-        };
+        let head = self.mode.take_tight();
         match self.held.open(alloc, head) {
             Ok(()) => Ok(behind),
             Err(_) => Err(DocError::Memory),
@@ -175,10 +166,8 @@ impl Reader {
         let Some(behind) = head.take(alloc, at.position, at.text)? else {
             return Ok(at.along(self.take_key(alloc, at.position, at.text)?));
         };
-        let Mode::Spaced(head) = mem::replace(&mut self.mode, Mode::Ended) else {
-            unreachable!()
-        };
-        self.mode = Mode::Tight(head);
+        let head = self.mode.take_spaced();
+        self.mode.turn(Mode::Tight(head));
         Ok(at.along(behind))
     }
 }

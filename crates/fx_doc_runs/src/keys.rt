@@ -17,7 +17,6 @@ use fx_base::Position;
 use fx_doc_drafts::{Draft, Word, begins_name, behind_byte, name_length, quote_ahead, quote_byte};
 use fx_doc_grammar::Quote;
 use std::alloc::{AllocError, Global};
-use std::mem;
 
 /// The greatest number of characters of a name or a value.
 const TEXT_LIMIT: usize = 4096;
@@ -128,16 +127,14 @@ impl Reader {
         if !head.is_fresh(&key) {
             return Ok(rest);
         }
-        let Mode::Spaced(head) = mem::replace(&mut self.mode, Mode::Ended) else {
-            unreachable!()
-        };
-        self.mode = Mode::Quoted(Valued {
+        let head = self.mode.take_spaced();
+        self.mode.turn(Mode::Quoted(Valued {
             head,
             position,
             key,
             quote: ahead.quote,
             value: Draft::new(alloc),
-        });
+        }));
         Ok(ahead.behind)
     }
 }

@@ -15,6 +15,7 @@ mod modes;
 mod rests;
 mod runs;
 mod signs;
+mod turning;
 
 pub use absorbing::shown;
 pub use document::{Attribute, Content, DocError, Document, Element};

@@ -80,7 +80,7 @@ impl Reader {
             return self.take_reference(position, rest);
         };
         if let Some(left) = behind_three(behind, b'!', b'-', b'-') {
-            self.mode = Mode::Commented;
+            self.mode.turn(Mode::Commented);
             return Ok(left);
         }
         match behind_byte(behind, b'/') {
@@ -137,7 +137,7 @@ impl Reader {
         }
         match self.held.close(alloc) {
             Ok(Some(mode)) => {
-                self.mode = mode;
+                self.mode.turn(mode);
                 Ok(left)
             }
             _ => Err(DocError::Memory),
@@ -173,7 +173,8 @@ impl Reader {
         let Ok(name) = Text::from_str(alloc, name) else {
             return Err(DocError::Memory);
         };
-        self.mode = Mode::Spaced(Head::named(alloc, position, name));
+        self.mode
+            .turn(Mode::Spaced(Head::named(alloc, position, name)));
         Ok(left)
     }
 
@@ -185,7 +186,7 @@ impl Reader {
         let (_, left) = run_ahead(rest, b'-', b'-', rest.len());
         match behind_three(left, b'-', b'-', b'>') {
             Some(behind) => {
-                self.mode = Mode::Inside;
+                self.mode.turn(Mode::Inside);
                 behind
             }
             None => left,

@@ -1,0 +1,8 @@
+use Rattle.std.proofs.Common.{sym, ◌∙◌}
+use Rattle.fx_doc_runs.proofs.modes.Mode.take_tight.Goals as goal
+
+pub unreachable-requires : goal.unreachable-requires
+unreachable-requires c = c.in_default.not-Tight c.requires.0 (c.replace.ensures.value ∙ c.requires.1)
+
+pub returns-clause-tag : goal.returns-clause-tag
+returns-clause-tag c = sym c.replace.ensures.value ∙ c.in-Tight.is

@@ -7,10 +7,11 @@ use std::alloc::{AllocError, Global};
 use std::marker::Model;
 
 /// An expression, of which contracts see the tree, wherever its parts lie in memory. So two bindings of one tree are
-/// one definition.
+/// one definition. It stands in memory of its own, since few properties are bound, and the graph's entry of every other
+/// property would have room for it.
 #[derive(Drop)]
 pub struct Formula {
-    expr: Expr,
+    expr: Box<Expr>,
 }
 
 impl Model for Formula {
@@ -21,15 +22,17 @@ impl Model for Formula {
 
     ghost coded = { coded_tree };
 
-    ghost view = { λ f. tree f.expr };
+    ghost view = { λ f. tree f.expr.value };
 }
 
 impl Formula {
     /// The formula of this expression.
-    pub fn new(expr: Expr) -> Formula
-        ensures { result ≡ tree expr }
+    pub fn new(alloc: Global, expr: Expr) -> Result<Formula, AllocError>
+        ensures { IfOk result (λ formula. formula ≡ tree expr) }
     {
-        Formula { expr }
+        Ok(Formula {
+            expr: Box::new(alloc, expr)?,
+        })
     }
 
     /// Lends the expression.
@@ -43,8 +46,6 @@ impl Formula {
     pub fn copy(&self, alloc: Global) -> Result<Formula, AllocError>
         ensures { IfOk result (λ copy. copy ≡ self.now) }
     {
-        Ok(Formula {
-            expr: self.expr.copy(alloc)?,
-        })
+        Formula::new(alloc, self.as_expr().copy(alloc)?)
     }
 }

@@ -37,7 +37,8 @@ fn bound(
         return Err(GraphError::Unknown(name));
     }
     let operands = Vec::from_slice(alloc, operands)?;
-    graph.bind(alloc, name, Formula::new(parsed.expr), operands)
+    let formula = Formula::new(alloc, parsed.expr)?;
+    graph.bind(alloc, name, formula, operands)
 }
 
 /// Reads the property twice. At most each name is evaluated once, and none again.

@@ -16,7 +16,8 @@ fn declared(alloc: Global, graph: &mut Graph, value: i64) -> Result<Name, GraphE
 /// Binds the one name to the other.
 fn bind_to(alloc: Global, graph: &mut Graph, name: Name, other: Name) -> Result<(), GraphError> {
     let operands = Vec::from_slice(alloc, &[other])?;
-    graph.bind(alloc, name, Formula::new(Expr::Operand(0)), operands)
+    let formula = Formula::new(alloc, Expr::Operand(0))?;
+    graph.bind(alloc, name, formula, operands)
 }
 
 /// Binds the second to the first, ends that, and asks the same of the first, which isn't bound.

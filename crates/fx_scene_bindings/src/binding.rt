@@ -138,10 +138,11 @@ fn bound_to(
     ensures { IfOk result (λ doing. doing
         ≡ spec.bound_to node (listed_property property.now) (tree expr) (map operand_view operands.now)) }
 {
-    let formula = formula_of(alloc, property.kind, expr, operands)?;
+    let expr = formula_of(alloc, property.kind, expr, operands)?;
+    let formula = Formula::new(alloc, expr)?;
     let property = planned_property(alloc, node, property.name)?;
     let planned = planned_of(alloc, operands)?;
-    Ok(Doing::Step(PlannedStep::Bind(property, Formula::new(formula), planned)))
+    Ok(Doing::Step(PlannedStep::Bind(property, formula, planned)))
 }
 
 /// The expression of the kind that is wanted: a number or a truth is printed where a text is wanted.

@@ -10,7 +10,7 @@ ghost use Rattle.fx_stage.specs.Finding.{found_last_first, names_found};
 
 use crate::stage::Stage;
 use fx_base::{Ledgers, List, Name, Text, Work};
-use fx_expr::Parsed;
+use fx_expr::{Expr, Parsed};
 use fx_graph_model::Formula;
 use fx_stage_parts::{both, earlier};
 use fx_stage_types::{Outcome, Refusal, StageError};
@@ -57,13 +57,13 @@ impl Stage {
         let Ok(operands) = self.find_all(alloc, parsed.paths.as_slice()) else {
             return Err(StageError::Memory);
         };
-        let Ok(expr) = parsed.expr.copy(alloc) else {
+        let Ok(formula) = formula_of(alloc, &parsed.expr) else {
             return Err(StageError::Memory);
         };
         match both(self.find_property(path), operands) {
             Ok((name, operands)) => self.change_store(
                 alloc,
-                Change::Bind(name, Formula::new(expr), List::from_vec(operands)),
+                Change::Bind(name, formula, List::from_vec(operands)),
                 work,
             ),
             Err(word) => Err(StageError::Refused(word)),
@@ -115,4 +115,11 @@ impl Stage {
             },
         }
     }
+}
+
+/// A formula of the same tree.
+fn formula_of(alloc: Global, expr: &Expr) -> Result<Formula, AllocError>
+    ensures { IfOk result (λ formula. formula ≡ tree expr.now) }
+{
+    Formula::new(alloc, expr.copy(alloc)?)
 }

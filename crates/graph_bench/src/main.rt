@@ -129,11 +129,8 @@ fn bind(alloc: Global, graph: &mut Graph, name: Name, operand: Name) -> anyhow::
     if operands.len() != next.paths.as_slice().len() {
         bail!("the expression reads one name");
     }
-    Ok(
-        graph
-            .bind(alloc, name, Formula::new(next.expr), operands)
-            .is_ok(),
-    )
+    let formula = Formula::new(alloc, next.expr)?;
+    Ok(graph.bind(alloc, name, formula, operands).is_ok())
 }
 
 fn set_and_read<L: Ledgers>(

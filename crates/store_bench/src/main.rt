@@ -189,7 +189,8 @@ fn bound<L: Ledgers>(
     if operands.len() != parsed.paths.as_slice().len() {
         bail!("each path has one operand");
     }
-    let change = Change::Bind(name, Formula::new(parsed.expr), List::from_vec(operands));
+    let formula = Formula::new(alloc, parsed.expr)?;
+    let change = Change::Bind(name, formula, List::from_vec(operands));
     told(alloc, store, change, work)?;
     Ok(name)
 }

@@ -255,7 +255,8 @@ fn bind<L: Ledgers>(
     if operands.len() != parsed.paths.as_slice().len() {
         bail!("each path has one operand");
     }
-    let change = Change::Bind(bound, Formula::new(parsed.expr), List::from_vec(operands));
+    let formula = Formula::new(alloc, parsed.expr)?;
+    let change = Change::Bind(bound, formula, List::from_vec(operands));
     applied(alloc, run, change, work)
 }
 

@@ -13,7 +13,7 @@ change_store-requires-clause-fit g c =
     let many =
     operands_as_many c.args.self.now c.args.parsed.now.paths c.find_property.result c.in-Ok.operands c.in-Ok-both.name
     c.in-Ok-both.operands found (sym c.both.ensures ∙ c.in-Ok-both.is) in
-    ap (λ (t : Tree). is_within t (length c.from_vec.result)) (c.new.ensures ∙ c.in-Ok-copy.ensures)
+    ap (λ (t : Tree). is_within t (length c.from_vec.result)) c.in-Ok-formula_of.ensures
     ∙ ap (is_within (tree c.args.parsed.now.expr)) (ap length c.from_vec.ensures ∙ many) ∙ c.requires.places
 
 pub returns-in-Err-clause-taken : goal.returns-in-Err-clause-taken

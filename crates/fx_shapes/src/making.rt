@@ -25,11 +25,11 @@ pub fn shapes(
     requires { IsNear rect }
     ensures { IfOk result (λ shapes. IsDrawing look.now rect (option_copied text.entry) shapes.items) }
 {
-    let room = Vec::with_capacity(alloc, room_for(look, text))?;
-    shapes_in(alloc, room, look, rect, text)
+    shapes_in(alloc, Vec::new(alloc), look, rect, text)
 }
 
-/// The same, in the memory of other shapes, which are let go of.
+/// The same, in the memory of other shapes, which are let go of. A list that is too short gets no more room than these
+/// shapes can want, since most nodes have one or two.
 pub fn shapes_in(
     alloc: Global,
     room: Vec<Shape>,
@@ -42,6 +42,7 @@ pub fn shapes_in(
 {
     let mut shapes = room;
     shapes.clear();
+    shapes.reserve_exact(room_for(look, text))?;
     add_backgrounds(&mut shapes, look, rect)?;
     add_borders(&mut shapes, look, rect)?;
     match text {

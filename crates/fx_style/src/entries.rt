@@ -49,6 +49,14 @@ impl Entries {
         self.all.truncate(most);
     }
 
+    /// Makes room for so many entries, and no more.
+    pub fn reserve(&mut self, count: usize) -> Result<(), AllocError>
+        ensures { self.new ≡ self.old }
+    {
+        let more = count.saturating_sub(self.all.len());
+        self.all.reserve_exact(more)
+    }
+
     pub fn len(&self) -> usize
         ensures { result ≡ length self.now }
     {

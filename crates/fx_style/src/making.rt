@@ -347,6 +347,16 @@ fn is_still(old: Old<'_>, facts: &[StyleFacts], restyle: &[usize]) -> bool
     restyle.is_empty() && old.stay && all_stand(old.rest, facts)
 }
 
+/// Makes room for an entry of each of so many nodes, if what is kept may not stay in its places.
+fn reserve_all(fresh: &mut Entries, stay: bool, count: usize) -> Result<(), AllocError>
+    ensures { fresh.new ≡ fresh.old }
+{
+    if stay {
+        return Ok(());
+    }
+    fresh.reserve(count)
+}
+
 /// The entries that an update makes anew, in the order of their places. Where what is kept may not stay in its places,
 /// every place gets one.
 pub(crate) fn made<L: Ledgers>(
@@ -381,6 +391,7 @@ pub(crate) fn made<L: Ledgers>(
     if is_still(old, facts, restyle) {
         return Ok(fresh);
     }
+    reserve_all(&mut fresh, old.stay, facts.len())?;
     let marks = marked(alloc, restyle, facts.len())?;
     let mut steps = vec![in alloc; None; facts.len()]?;
     let mut guess = 0;

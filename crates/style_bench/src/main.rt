@@ -11,35 +11,35 @@ mod sheets;
 
 use anyhow::bail;
 use fx_base::{Ledgers, Work};
-use nodes::{buttons, labels};
-use rounds::{Rounds, Task, play, play_labels};
+use rounds::{Rounds, Task, play};
 use sheets::sheets;
-use std::alloc::Global;
 use std::env;
 use std::marker::Brand;
+use std::mem::forget;
 use std::sync::ledger::Blank;
 
 fn main(rt: HostRuntime) -> anyhow::Result<()> {
-    let mut words = env::args(&rt)?;
-    let _program = words.next();
-    let (Some(task), Some(count), Some(rounds)) = (words.next(), words.next(), words.next()) else {
+    let words = env::args(&rt)?.collect::<Vec<String>>(rt.alloc())?;
+    start::<Brand, HostRuntime>(
+        &rt,
+        words.as_slice(),
+        Blank::new(1),
+        Blank::new(1),
+        Blank::new(1),
+        Blank::new(1),
+    )
+}
+
+/// What the words of the command line ask for.
+fn rounds_of(words: &[String]) -> anyhow::Result<Rounds> {
+    let [_, task, nodes, count, ..] = words else {
         bail!("usage: style_bench search|style|mixed|keep|labels NODES ROUNDS");
     };
-    let rounds = Rounds {
+    Ok(Rounds {
         task: task_of(task.as_str()),
-        nodes: count.as_str().parse::<u32>()?,
-        count: rounds.as_str().parse::<u64>()?,
-    };
-    let sum = start::<Brand>(
-        rt.alloc(),
-        rounds,
-        Blank::new(1),
-        Blank::new(1),
-        Blank::new(1),
-        Blank::new(1),
-    )?;
-    println!(rt; "{sum}")?;
-    Ok(())
+        nodes: nodes.as_str().parse::<u32>()?,
+        count: count.as_str().parse::<u64>()?,
+    })
 }
 
 fn task_of(word: &str) -> Task {
@@ -52,41 +52,35 @@ fn task_of(word: &str) -> Task {
     }
 }
 
-fn is_mixed(task: Task) -> bool {
-    match task {
-        Task::Search | Task::Mixed => true,
-        _ => false,
-    }
-}
-
-fn start<L: Ledgers>(
-    alloc: Global,
-    rounds: Rounds,
+fn start<L: Ledgers, R: Print + AllocGlobal>(
+    rt: &R,
+    words: &[String],
     evaluated: Blank,
     styled: Blank,
     laid: Blank,
     painted: Blank,
-) -> anyhow::Result<usize>
+) -> anyhow::Result<()>
     requires evaluated { (evaluated.name ≡ L.evaluated_name) × (evaluated.parts ≡ 1) }
     requires styled { (styled.name ≡ L.styled_name) × (styled.parts ≡ 1) }
     requires laid { (laid.name ≡ L.laid_name) × (laid.parts ≡ 1) }
     requires painted { (painted.name ≡ L.painted_name) × (painted.parts ≡ 1) }
 {
     let mut work: Work<L> = Work::new(evaluated, styled, laid, painted);
-    let sheets = sheets(alloc)?;
-    let sheets = sheets.as_slice();
-    if let Task::Labels = rounds.task {
-        let narrow = labels(alloc, rounds.nodes, 20)?;
-        let wide = labels(alloc, rounds.nodes, 40)?;
-        return play_labels(
-            alloc,
-            sheets,
-            narrow.as_slice(),
-            wide.as_slice(),
-            rounds.count,
-            &mut work,
-        );
-    }
-    let facts = buttons(alloc, rounds.nodes, is_mixed(rounds.task))?;
-    play(alloc, sheets, facts.as_slice(), rounds, &mut work)
+    tell(rt, words, &mut work)
+}
+
+/// Does what the words of the command line ask for, and prints the checksum.
+fn tell<L: Ledgers, R: Print + AllocGlobal>(
+    rt: &R,
+    words: &[String],
+    work: &mut Work<L>,
+) -> anyhow::Result<()> {
+    let rounds = rounds_of(words)?;
+    let sheets = sheets(rt.alloc())?;
+    let played = play(rt.alloc(), sheets.as_slice(), rounds, work);
+    // The process ends right after this, so nothing of the sheet is freed.
+    forget(sheets);
+    let sum = played?;
+    println!(rt; "{sum}")?;
+    Ok(())
 }

@@ -4,25 +4,35 @@ ghost use Rattle.std.specs.Prelude.{◌≤◌};
 use fx_base::{List, NodeKey, Text, Value};
 use fx_kinds::{Class, StyleFacts};
 use fx_look::{CodeValue, StyleKey, StyleName};
-use std::alloc::Global;
+use std::alloc::{AllocError, Global};
 
 /// The facts of so many nodes, each of four classes that rules name. Every second one is of a further class, if they
 /// are to be unlike, so that none is like the one before it. The VBox lists the sheet.
 pub fn buttons(alloc: Global, count: u32, unlike: bool) -> anyhow::Result<Vec<StyleFacts>> {
-    let all = ["a", "b", "c", "d", "even"];
     let mut facts = Vec::new(alloc);
-    facts.push(root(alloc, &all)?)?;
+    put_buttons(alloc, &mut facts, count, unlike)?;
+    Ok(facts)
+}
+
+fn put_buttons(
+    alloc: Global,
+    facts: &mut Vec<StyleFacts>,
+    count: u32,
+    unlike: bool,
+) -> anyhow::Result<()> {
+    let all = ["a", "b", "c", "d", "even"];
+    put(facts, root(alloc, &all)?)?;
     let mut row = 0;
     for birth in 1..count {
         let names = &all[..named(birth, unlike)];
         if birth % 10 == 1 {
             row = facts.len();
-            facts.push(node(alloc, birth, Some(0), Class::HBox, names)?)?;
+            put(facts, node(alloc, birth, Some(0), Class::HBox, names)?)?;
         } else {
-            facts.push(node(alloc, birth, Some(row), Class::Button, names)?)?;
+            put(facts, node(alloc, birth, Some(row), Class::Button, names)?)?;
         }
     }
-    Ok(facts)
+    Ok(())
 }
 
 /// Of how many of the five classes a button is.
@@ -36,22 +46,48 @@ fn named(birth: u32, unlike: bool) -> usize
 /// lists the sheet.
 pub fn labels(alloc: Global, count: u32, width: i64) -> anyhow::Result<Vec<StyleFacts>> {
     let mut facts = Vec::new(alloc);
-    facts.push(root(alloc, &[])?)?;
+    put_labels(alloc, &mut facts, count, width)?;
+    Ok(facts)
+}
+
+fn put_labels(
+    alloc: Global,
+    facts: &mut Vec<StyleFacts>,
+    count: u32,
+    width: i64,
+) -> anyhow::Result<()> {
+    put(facts, root(alloc, &[])?)?;
     let mut row = 0;
     for birth in 1..count {
         if birth % 11 == 1 {
             row = facts.len();
-            facts.push(node(alloc, birth, Some(0), Class::HBox, &[])?)?;
+            put(facts, node(alloc, birth, Some(0), Class::HBox, &[])?)?;
         } else {
-            let mut label = node(alloc, birth, Some(row), Class::Label, &["label"])?;
-            label.codes = widths(alloc, width)?;
-            facts.push(label)?;
+            put(facts, label(alloc, birth, row, width)?)?;
         }
     }
-    Ok(facts)
+    Ok(())
 }
 
-fn widths(alloc: Global, width: i64) -> anyhow::Result<List<CodeValue>> {
+fn put(facts: &mut Vec<StyleFacts>, node: StyleFacts) -> Result<(), AllocError> {
+    Ok(facts.push(node)?)
+}
+
+fn root(alloc: Global, names: &[&str]) -> anyhow::Result<StyleFacts> {
+    let sheets = Vec::from_slice(alloc, &[0usize])?;
+    let mut root = node(alloc, 0, None, Class::VBox, names)?;
+    root.sheets = List::from_vec(sheets);
+    Ok(root)
+}
+
+fn label(alloc: Global, birth: u32, row: usize, width: i64) -> anyhow::Result<StyleFacts> {
+    let codes = widths(alloc, width)?;
+    let mut label = node(alloc, birth, Some(row), Class::Label, &["label"])?;
+    label.codes = codes;
+    Ok(label)
+}
+
+fn widths(alloc: Global, width: i64) -> Result<List<CodeValue>, AllocError> {
     let mut codes = Vec::new(alloc);
     codes.push(CodeValue {
         style: StyleName(StyleKey::PrefWidth as u32),
@@ -61,14 +97,6 @@ fn widths(alloc: Global, width: i64) -> anyhow::Result<List<CodeValue>> {
     Ok(List::from_vec(codes))
 }
 
-fn root(alloc: Global, names: &[&str]) -> anyhow::Result<StyleFacts> {
-    let mut sheets = Vec::new(alloc);
-    sheets.push(0usize)?;
-    let mut root = node(alloc, 0, None, Class::VBox, names)?;
-    root.sheets = List::from_vec(sheets);
-    Ok(root)
-}
-
 fn node(
     alloc: Global,
     birth: u32,
@@ -76,10 +104,7 @@ fn node(
     class: Class,
     names: &[&str],
 ) -> anyhow::Result<StyleFacts> {
-    let mut classes = Vec::new(alloc);
-    for name in names {
-        classes.push(Text::from_str(alloc, name)?)?;
-    }
+    let classes = classes_of(alloc, names)?;
     Ok(StyleFacts {
         key: NodeKey {
             slot: birth as usize,
@@ -88,10 +113,19 @@ fn node(
         parent,
         class,
         id: Text::new(alloc),
-        classes: List::from_vec(classes),
+        classes,
         pseudos: List::new(alloc),
         inline: None,
         sheets: List::new(alloc),
         codes: List::new(alloc),
     })
+}
+
+/// The classes of these names.
+fn classes_of(alloc: Global, names: &[&str]) -> anyhow::Result<List<Text>> {
+    let mut classes = Vec::new(alloc);
+    for name in names {
+        classes.push(Text::from_str(alloc, name)?)?;
+    }
+    Ok(List::from_vec(classes))
 }

@@ -5,6 +5,7 @@ ghost use Rattle.fx_select.specs.Chains.{ParentsStandBefore};
 ghost use Rattle.fx_style.specs.Kept.{AreDifferent};
 ghost use Rattle.fx_style.specs.Rules.{AreIndexed, HaveRows};
 
+use crate::nodes::{buttons, labels};
 use anyhow::bail;
 use fx_base::{Ledgers, Work};
 use fx_css_types::{SheetAt, sheets_within_limits_are_short};
@@ -13,6 +14,7 @@ use fx_select::RuleIndex;
 use fx_style::{Scene, Styles};
 use fx_style_checks::can_be_styled;
 use std::alloc::{AllocError, Global};
+use std::mem::forget;
 
 /// What is done with each node: its rules are searched, it is styled anew, among nodes that are like each other or not,
 /// its look is kept, or it is a label whose width changes.
@@ -33,25 +35,50 @@ pub struct Rounds {
     pub count: u64,
 }
 
-/// Does it, and gives a checksum.
-pub fn play<'a, L: Ledgers>(
+/// Does it over these sheets, and gives a checksum.
+pub fn play<L: Ledgers>(
     alloc: Global,
-    sheets: &'a [SheetAt],
-    facts: &'a [StyleFacts],
+    sheets: &[SheetAt],
     rounds: Rounds,
     work: &mut Work<L>,
 ) -> anyhow::Result<usize>
     requires { AreWithinLimits sheets.now }
 {
-    if !can_be_styled(facts) {
-        bail!("the nodes aren't those of a scene");
-    }
     let index = RuleIndex::build(alloc, sheets)?;
-    let scene = scene_of(&index, sheets, facts);
-    match rounds.task {
-        Task::Search => Ok(search(alloc, scene, rounds.count)?),
-        Task::Style | Task::Mixed => Ok(style(alloc, scene, rounds.count, work)?),
-        _ => Ok(keep(alloc, scene, rounds.count, work)?),
+    let mut styles = Styles::new(alloc);
+    let sum = play_nodes(alloc, &index, sheets, rounds, &mut styles, work);
+    // The process ends right after this, so nothing of the index and the styles is freed.
+    forget(index);
+    forget(styles);
+    sum
+}
+
+/// Makes the nodes of the task, and does it with them.
+fn play_nodes<L: Ledgers>(
+    alloc: Global,
+    index: &RuleIndex,
+    sheets: &[SheetAt],
+    rounds: Rounds,
+    styles: &mut Styles,
+    work: &mut Work<L>,
+) -> anyhow::Result<usize>
+    requires { AreIndexed index.now sheets.now }
+{
+    if let Task::Labels = rounds.task {
+        let narrow = labels(alloc, rounds.nodes, 20)?;
+        let wide = labels(alloc, rounds.nodes, 40)?;
+        let scene = scene_of(index, sheets, narrow.as_slice());
+        return play_labels(alloc, scene, wide.as_slice(), rounds, styles, work);
+    }
+    let facts = buttons(alloc, rounds.nodes, is_mixed(rounds.task))?;
+    let scene = scene_of(index, sheets, facts.as_slice());
+    play_buttons(alloc, scene, rounds, styles, work)
+}
+
+fn is_mixed(task: Task) -> bool {
+    match task {
+        Task::Search | Task::Mixed => true,
+        _ => false,
     }
 }
 
@@ -69,69 +96,77 @@ fn scene_of<'a>(index: &'a RuleIndex, sheets: &'a [SheetAt], facts: &'a [StyleFa
     }
 }
 
-/// Styles all nodes that have code values by one list of facts and then by the other, so many times, and gives a
-/// checksum.
-pub fn play_labels<'a, L: Ledgers>(
+/// Searches the rules of the buttons, or updates their styles.
+fn play_buttons<L: Ledgers>(
     alloc: Global,
-    sheets: &'a [SheetAt],
-    narrow: &'a [StyleFacts],
-    wide: &'a [StyleFacts],
-    count: u64,
+    scene: Scene<'_>,
+    rounds: Rounds,
+    styles: &mut Styles,
     work: &mut Work<L>,
 ) -> anyhow::Result<usize>
-    requires { AreWithinLimits sheets.now }
+    requires sheets { AreIndexed scene.index.now scene.sheets.now }
+    requires last { scene.last ≡ None }
 {
-    if !can_be_styled(narrow) {
+    if !can_be_styled(scene.facts) {
+        bail!("the nodes aren't those of a scene");
+    }
+    if let Task::Search = rounds.task {
+        return Ok(search(alloc, scene, rounds.count)?);
+    }
+    let places = listed(alloc, scene.facts, rounds.task)?;
+    restyle(alloc, scene, places.as_slice(), rounds.count, styles, work)?;
+    Ok(checksum(styles))
+}
+
+/// Styles all labels by one list of facts and then by the other, so many times.
+fn play_labels<'a, L: Ledgers>(
+    alloc: Global,
+    scene: Scene<'a>,
+    wide: &'a [StyleFacts],
+    rounds: Rounds,
+    styles: &mut Styles,
+    work: &mut Work<L>,
+) -> anyhow::Result<usize>
+    requires sheets { AreIndexed scene.index.now scene.sheets.now }
+    requires last { scene.last ≡ None }
+{
+    if !can_be_styled(scene.facts) {
         bail!("the narrow labels aren't those of a scene");
     }
     if !can_be_styled(wide) {
         bail!("the wide labels aren't those of a scene");
     }
-    let index = RuleIndex::build(alloc, sheets)?;
-    let scene = scene_of(&index, sheets, narrow);
-    Ok(alternate(alloc, scene, wide, count, work)?)
+    let places = listed(alloc, wide, rounds.task)?;
+    alternate(
+        alloc,
+        scene,
+        wide,
+        places.as_slice(),
+        rounds.count,
+        styles,
+        work,
+    )?;
+    Ok(checksum(styles))
 }
 
-fn alternate<'a, L: Ledgers>(
-    alloc: Global,
-    scene: Scene<'a>,
-    wide: &'a [StyleFacts],
-    count: u64,
-    work: &mut Work<L>,
-) -> Result<usize, AllocError>
-    requires before { ParentsStandBefore scene.facts.now }
-    requires keys { AreDifferent scene.facts.now }
-    requires sheets { AreIndexed scene.index.now scene.sheets.now }
-    requires codes { HaveRows scene.facts.now }
-    requires last { scene.last ≡ None }
-    requires wide_before { ParentsStandBefore wide.now }
-    requires wide_keys { AreDifferent wide.now }
-    requires wide_codes { HaveRows wide.now }
-{
-    let other = Scene {
-        index: scene.index,
-        sheets: scene.sheets,
-        facts: wide,
-        last: None,
-    };
-    let places = coded(alloc, wide)?;
-    let mut styles = Styles::new(alloc);
-    for _ in 0..count {
-        styles.update(alloc, scene, places.as_slice(), work)?;
-        styles.update(alloc, other, places.as_slice(), work)?;
-    }
-    Ok(checksum(&styles))
-}
-
-/// The places of the nodes that have code values.
-fn coded(alloc: Global, facts: &[StyleFacts]) -> Result<Vec<usize>, AllocError> {
+/// The places of the nodes that each update styles anew: of all buttons, of none whose look is kept, and of all labels,
+/// which alone have code values.
+fn listed(alloc: Global, facts: &[StyleFacts], task: Task) -> Result<Vec<usize>, AllocError> {
     let mut places = Vec::new(alloc);
     for (at, node) in facts.iter().enumerate() {
-        if !node.codes.as_slice().is_empty() {
+        if is_listed(node, task) {
             places.push(at)?;
         }
     }
     Ok(places)
+}
+
+fn is_listed(node: &StyleFacts, task: Task) -> bool {
+    match task {
+        Task::Style | Task::Mixed => true,
+        Task::Labels => !node.codes.as_slice().is_empty(),
+        Task::Search | Task::Keep => false,
+    }
 }
 
 /// How many rules match the nodes, in all rounds.
@@ -150,48 +185,57 @@ fn search(alloc: Global, scene: Scene<'_>, count: u64) -> Result<usize, AllocErr
     Ok(found)
 }
 
-/// All nodes are styled in each round.
-fn style<L: Ledgers>(
+/// Updates the styles so many times. Nodes of which nothing is kept are styled by the first update.
+fn restyle<L: Ledgers>(
     alloc: Global,
     scene: Scene<'_>,
+    places: &[usize],
     count: u64,
+    styles: &mut Styles,
     work: &mut Work<L>,
-) -> Result<usize, AllocError>
+) -> Result<(), AllocError>
     requires before { ParentsStandBefore scene.facts.now }
     requires keys { AreDifferent scene.facts.now }
     requires sheets { AreIndexed scene.index.now scene.sheets.now }
     requires codes { HaveRows scene.facts.now }
     requires last { scene.last ≡ None }
 {
-    let mut all = Vec::new(alloc);
-    for at in 0..scene.facts.len() {
-        all.push(at)?;
-    }
-    let mut styles = Styles::new(alloc);
     for _ in 0..count {
-        styles.update(alloc, scene, all.as_slice(), work)?;
+        styles.update(alloc, scene, places, work)?;
     }
-    Ok(checksum(&styles))
+    Ok(())
 }
 
-/// Nodes are styled before the first round, and none after it.
-fn keep<L: Ledgers>(
+/// Updates the styles by these facts and then by the others, so many times.
+fn alternate<'a, L: Ledgers>(
     alloc: Global,
-    scene: Scene<'_>,
+    scene: Scene<'a>,
+    others: &'a [StyleFacts],
+    places: &[usize],
     count: u64,
+    styles: &mut Styles,
     work: &mut Work<L>,
-) -> Result<usize, AllocError>
+) -> Result<(), AllocError>
     requires before { ParentsStandBefore scene.facts.now }
     requires keys { AreDifferent scene.facts.now }
     requires sheets { AreIndexed scene.index.now scene.sheets.now }
     requires codes { HaveRows scene.facts.now }
     requires last { scene.last ≡ None }
+    requires others_before { ParentsStandBefore others.now }
+    requires others_keys { AreDifferent others.now }
+    requires others_codes { HaveRows others.now }
 {
-    let mut styles = Styles::new(alloc);
+    let other = Scene {
+        index: scene.index,
+        sheets: scene.sheets,
+        facts: others,
+        last: None,
+    };
     for _ in 0..count {
-        styles.update(alloc, scene, &[], work)?;
+        styles.update(alloc, scene, places, work)?;
+        styles.update(alloc, other, places, work)?;
     }
-    Ok(checksum(&styles))
+    Ok(())
 }
 
 fn checksum(styles: &Styles) -> usize {

@@ -1,4 +1,5 @@
 pub mod Drawable
 pub mod Games
+pub mod Laws
 pub mod Playing
 pub mod Pulses

@@ -60,9 +60,11 @@ pub record IsDrawn (before now : World) (last next : Option Framed) (pulsed : Pu
   pub last_one : next ≡ Some pulsed.frame
   pub sum : cost ≡ look_cost before + (sized (sizes_of (box_facts before) rects) (looked before)).cost
 
+-- a frame more was made, and the timelines stay as they are
 pub record IsPulsed (before now : Game) (pulsed : Pulsed) (cost : ℕ) : Type 0 where
   pub drawn : IsDrawn before.world now.world before.last now.last pulsed cost
   pub count : now.frames ≡ before.frames + 1
+  pub clock : now.clock ≡ before.clock
 
 -- so many pixels are damaged
 abbrev pub area_of : Rect → ℕ

@@ -38,7 +38,7 @@ returns-clause-shown g c = λ form.
           last = last_frame now;
         };
         own = drawn.cost;
-        made = record { drawn = drawn.done; count = refl };
+        made = record { drawn = drawn.done; count = refl; clock = refl };
         course = course;
         further = settled.cost;
         settled = settled.done;

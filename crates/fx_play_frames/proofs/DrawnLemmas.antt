@@ -29,18 +29,18 @@ abbrev IsNo : Bool → Type 0
 IsNo false = Unit {0}
 IsNo true = ⊥
 
-last_in : (canvas : Option Surface) (picture : List Entry) (w h : ℕ) → IsSome canvas → (surface_of canvas).width ≡ w
+pub last_in : (canvas : Option Surface) (picture : List Entry) (w h : ℕ) → IsSome canvas → (surface_of canvas).width ≡ w
     → (surface_of canvas).height ≡ h
     → option_map {T = Surface} {U = Framed} (λ (s : Surface). record { width = s.width; height = s.height; picture = picture }) canvas
     ≡ Some (record { width = w; height = h; picture = picture })
 last_in None picture w h some e f = absurd (subst IsNo some tt)
 last_in (Some s) picture w h some e f = rw (e, f) refl
 
-facts_window : (world : World) → (facts_of world).window ≡ world.window
+pub facts_window : (world : World) → (facts_of world).window ≡ world.window
 unfolding facts_of
 facts_window world = refl
 
-facts_boxes : (world : World) → (facts_of world).boxes ≡ box_facts world
+pub facts_boxes : (world : World) → (facts_of world).boxes ≡ box_facts world
 unfolding facts_of
 facts_boxes world = refl
 
@@ -80,7 +80,7 @@ shown_drawable canvas surface picture is sized whole shows rises births =
 pub drawn_whole : (before mid now : World) (facts : Facts) (old new : Rendering) (made : Pulsed) (boxes : List BoxFacts) (rects : List Rect)
     → facts ≡ facts_of before → mid ≡ looked before → IsDrawnAs before old new made.frame → boxes ≡ facts.boxes → rects ≡ new.rects
     → now ≡ published (made.frame.width, made.frame.height) (sizes_of boxes rects) mid
-    → made.notices ≡ (sized (sizes_of boxes rects) mid).notices
+    → made.told.notices ≡ (sized (sizes_of boxes rects) mid).notices
     → (began looked_on drawn_on ended : ℕ) → looked_on ≤ began + look_cost before → drawn_on ≡ looked_on
     → ended ≤ drawn_on + (sized (sizes_of boxes rects) mid).cost
     → IsDoneWithin (IsDrawn before now (last_frame old) (last_frame new) (pulsed_as new made)) began ended

@@ -1,4 +1,5 @@
 pub mod DrawnLemmas
+pub mod RestLemmas
 pub mod ShownLemmas
 pub mod SizeLemmas
 pub mod LineLemmas

@@ -1,5 +1,5 @@
 -- What a line meets of the last frame, and what a frame tells of the sizes that it published.
-use Rattle.std.proofs.Common.{◌≡◌, ◌∙◌, ◌++◌, ℕ, Bool, false, true, List, [], Option, Some, None, Bor, Result, Ok, Err, OnOk, is_some, ap, refl, subst, sym}
+use Rattle.std.proofs.Common.{◌≡◌, ◌∙◌, ◌++◌, ℕ, Bool, false, true, List, [], Option, Some, None, Bor, Result, Ok, Err, OnOk, is_some, ap, subst, sym}
 use Rattle.std.specs.Option.{option_copied, option_map}
 use Rattle.fx_base.specs.declared.keys.Name.{Name}
 use Rattle.fx_canvas.specs.Surfaces.{Surface}

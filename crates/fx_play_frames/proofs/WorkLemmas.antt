@@ -1,13 +1,12 @@
 -- What was worked for a frame.
-use Rattle.std.proofs.Common.{◌≡◌, ◌≤◌, ◌+◌, ℕ, List, Option, Some, ap, refl, subst, sym, ◌∙◌}
+use Rattle.std.proofs.Common.{◌≡◌, ◌≤◌, ◌+◌, ℕ, List, Option, Some, ap, subst, sym, ◌∙◌}
 use Rattle.std.specs.List.{sum_by}
 use Rattle.fx_base.specs.declared.geometry.Rect.{Rect}
 use Rattle.fx_canvas.specs.Painting.{most_writes}
 use Rattle.fx_layout.specs.Layouts.{IsLayout}
-use Rattle.fx_layout.specs.Updates.{Kept}
 use Rattle.fx_plain_frames.specs.Games.{Game}
 use Rattle.fx_plain_frames.specs.Pulses.{IsDrawn, scene_of}
-use Rattle.fx_plain_work.specs.Works.{Counted, IsPulseWork, Sight}
+use Rattle.fx_plain_work.specs.Works.{Counted, IsPulseWork}
 use Rattle.fx_pulse.specs.Rendering.{Rendering, last_frame}
 use Rattle.fx_pulse.specs.declared.renderer.Frame.{Frame}
 use Rattle.fx_pulse_kept.specs.Costs.{AreFew}
@@ -17,11 +16,8 @@ use Rattle.fx_stage_facts.specs.Scenes.{facts_of}
 use Rattle.fx_stage_facts.specs.declared.facts.Facts.{Facts}
 use Rattle.fx_stage_model.specs.World.{World}
 use Rattle.fx_play_frames.specs.Drawn.{IsDrawWork, pulsed_as}
+use Rattle.fx_play_frames.proofs.DrawnLemmas.{facts_window}
 use Rattle.fx_play_frames.specs.declared.pulses.Pulsed.{Pulsed}
-
-facts_window : (world : World) → (facts_of world).window ≡ world.window
-unfolding facts_of
-facts_window world = refl
 
 pub work_as : (world : World) (facts : Facts) (scene : Scene) (before now : Rendering) (frame : Frame) (old new : Counted)
     → facts ≡ facts_of world → scene ≡ scene_of world → now.kept.last ≡ Some scene

@@ -20,7 +20,7 @@ framed_as now frame = record { width = frame.width; height = frame.height; pictu
 
 abbrev pub pulsed_as : Rendering → Made → Pulsed
 pulsed_as now made =
-    record { frame = framed_as now made.frame; damage = made.frame.damage.items; notices = made.notices }
+    record { frame = framed_as now made.frame; damage = made.frame.damage.items; notices = made.told.notices }
 
 -- the frame is that of the world's scene
 pub record IsDrawnAs (world : World) (before now : Rendering) (frame : Frame) : Type 0 where

@@ -1,4 +1,5 @@
 pub mod Drawn
 pub mod Games
 pub mod Lines
+pub mod Resting
 pub mod Takings

@@ -4,6 +4,7 @@
 mod counting;
 mod game;
 mod lines;
+mod playing;
 mod pulses;
 mod scenes;
 mod taking;

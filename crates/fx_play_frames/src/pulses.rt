@@ -1,5 +1,6 @@
-//! What a `pulse` does: the next frame, and the sizes that are published behind it.
-ghost use Rattle.std.specs.Prelude.{◌≡◌, ◌≤◌, ◌<◌, ◌+◌, ◌-◌, ◌^◌, All, IfOk, IfSome, IsSome, IsTrue, OnOk, Some};
+//! What a `pulse` does: the next frame, and the sizes that are published behind it. Where the game rests, the next frame is
+//! the last one, and nothing is looked at.
+ghost use Rattle.std.specs.Prelude.{ℕ, ◌≡◌, ◌≤◌, ◌<◌, ◌+◌, ◌-◌, ◌^◌, All, false, IfOk, IfSome, IsSome, IsTrue, OnOk, Some};
 ghost use Rattle.fx_delta.specs.Pictures.{is_size};
 ghost use Rattle.fx_frame_text.specs.declared.forms.Form.{Form as Image};
 ghost use Rattle.fx_plain_frames.specs.Drawable.{IsDrawable};
@@ -7,14 +8,16 @@ ghost use Rattle.fx_plain_frames.specs.Playing.{IsShown};
 ghost use Rattle.fx_plain_dispatch.specs.Costs.{IsDoneWithin};
 ghost use Rattle.fx_plain_dispatch.specs.Settling.{IsSettledWhole};
 ghost use Rattle.fx_plain_frames.specs.Pulses.{IsDrawn, course_behind, sizes_of as sizes};
-ghost use Rattle.fx_plain_work.specs.Works.{IsPulseWork, counted};
+ghost use Rattle.fx_plain_work.specs.Works.{Counted, IsPulseWork, counted};
 ghost use Rattle.fx_play_frames.specs.Drawn.{IsDrawWork, IsDrawnAs, pulsed_as};
 ghost use Rattle.fx_play_frames.specs.Games.{game_of, sight_of};
 ghost use Rattle.fx_play_frames.specs.Takings.{HasFrame, IsSmallRect, IsSmallTaken, last_behind, told_as};
 ghost use Rattle.fx_play_steps.specs.Traces.{course_of};
-ghost use Rattle.fx_pulse.specs.Rendering.{last_frame};
+ghost use Rattle.fx_play_frames.specs.Resting.{IsAtRest};
+ghost use Rattle.fx_pulse.specs.Rendering.{last_frame, surface_of};
 ghost use Rattle.fx_pulse_kept.specs.Keeping.{boxes_in};
 ghost use Rattle.fx_stage_facts.specs.Publishing.{AreOnce, IsPublished, sized};
+ghost use Rattle.fx_stage_facts.specs.Resting.{IsStill, nothing_told};
 ghost use Rattle.fx_stage_facts.specs.Scenes.{facts_of};
 ghost use Rattle.fx_stage_model.specs.World.{World};
 
@@ -22,24 +25,24 @@ use crate::game::Game;
 use crate::scenes::{facts_in, is_fit, scene_in, sizes_of};
 use crate::taking::{Shown, Taken};
 use fx_act::settle;
-use fx_base::{Ledgers, Rect, Work};
+use fx_base::{Ledgers, List, Rect, Work};
 use fx_canvas::Canvas;
 use fx_kinds::BoxFacts;
 use fx_play_steps::{Trace, print_told};
 use fx_pulse::{Frame, Renderer};
 use fx_stage::Stage;
-use fx_stage_facts::{Facts, publish, refresh_facts};
+use fx_stage_facts::{Facts, Published, publish, refresh_facts};
 use fx_store_model::Notices;
 use std::alloc::{AllocError, Global};
 
 /// The most pixels of a frame each way.
 const MOST_PIXELS: u32 = 2048;
 
-/// A frame that was made, and who was told of the sizes that it published.
+/// A frame that was made, and what was told of the sizes that it published.
 #[derive(Drop)]
 struct Pulsed {
     frame: Frame,
-    notices: Notices,
+    told: Published,
 }
 
 impl Game {
@@ -66,13 +69,91 @@ impl Game {
             (sight_of self.new) (counted work.old.styled work.old.laid work.old.painted)
             (counted work.new.styled work.new.laid work.new.painted)) }
     {
-        let pulsed = drawn(alloc, &mut self.stage, &mut self.renderer, work)?;
+        let pulsed = self.next_frame(alloc, work)?;
         self.frames += 1;
-        tell(alloc, &mut self.stage, number, &pulsed.notices, trace, work)?;
+        if self.rests {
+            trace.clear();
+            return Ok(Taken::Frame(Shown {
+                notices: 0,
+                damage: pulsed.frame.damage,
+            }));
+        }
+        tell(
+            alloc,
+            &mut self.stage,
+            number,
+            &pulsed.told.notices,
+            trace,
+            work,
+        )?;
         Ok(Taken::Frame(Shown {
             notices: trace.heard.len() as u64,
             damage: pulsed.frame.damage,
         }))
+    }
+
+    /// Draws the next frame, and publishes its sizes. The game rests behind one that published no other size, where
+    /// nobody is told.
+    fn next_frame<L: Ledgers>(
+        &mut self,
+        alloc: Global,
+        work: &mut Work<L>,
+    ) -> Result<Pulsed, AllocError>
+        ensures drawn { IfOk result (λ pulsed. IsDoneWithin
+            (IsDrawn self.old.stage self.new.stage (last_frame self.old.renderer) (last_frame self.new.renderer)
+            (pulsed_as self.new.renderer pulsed)) work.old.evaluated work.new.evaluated) }
+        ensures small { IfOk result (λ pulsed. All IsSmallRect pulsed.frame.damage.items) }
+        ensures work { IfOk result (λ pulsed. IsDrawWork self.old.stage self.old.renderer self.new.renderer
+            pulsed.frame (counted work.old.styled work.old.laid work.old.painted)
+            (counted work.new.styled work.new.laid work.new.painted)) }
+        ensures quiet { IfOk result (λ pulsed. IsTrue self.new.rests → pulsed.told.notices ≡ nothing_told) }
+        ensures clock { self.new.clock ≡ self.old.clock }
+        ensures frames { self.new.frames ≡ self.old.frames }
+    {
+        if self.rests {
+            if let Some(pulsed) = self.frame_again(alloc) {
+                return Ok(pulsed);
+            }
+        }
+        self.rests = false;
+        let pulsed = drawn(alloc, &mut self.stage, &mut self.renderer, work)?;
+        self.rests = !pulsed.told.is_new;
+        Ok(pulsed)
+    }
+
+    /// The last frame again, unless it was drawn in another window.
+    fn frame_again(&self, alloc: Global) -> Option<Pulsed>
+        requires rests { IsTrue self.now.rests }
+        ensures drawn { IfSome result (λ pulsed. (evaluated : ℕ) → IsDoneWithin
+            (IsDrawn self.now.stage self.now.stage (last_frame self.now.renderer) (last_frame self.now.renderer)
+            (pulsed_as self.now.renderer pulsed)) evaluated evaluated) }
+        ensures small { IfSome result (λ pulsed. All IsSmallRect pulsed.frame.damage.items) }
+        ensures work { IfSome result (λ pulsed. (count : Counted) →
+            IsDrawWork self.now.stage self.now.renderer self.now.renderer pulsed.frame count count) }
+        ensures quiet { IfSome result (λ pulsed. pulsed.told.notices ≡ nothing_told) }
+    {
+        let frame = self.renderer.again(alloc, self.stage.window())?;
+        if !is_shown(&self.renderer, frame.damage.as_slice()) {
+            return None;
+        }
+        Some(Pulsed {
+            frame,
+            told: told_nobody(alloc),
+        })
+    }
+}
+
+/// No size was another.
+fn told_nobody(alloc: Global) -> Published
+    ensures { result.notices ≡ nothing_told }
+{
+    Published {
+        notices: Notices {
+            added: None,
+            invalid: List::new(alloc),
+            changed: List::new(alloc),
+        },
+        is_new: false,
     }
 }
 
@@ -108,12 +189,14 @@ fn drawn<L: Ledgers>(
     ensures work { IfOk result (λ pulsed. IsDrawWork stage.old renderer.old renderer.new pulsed.frame
         (counted work.old.styled work.old.laid work.old.painted)
         (counted work.new.styled work.new.laid work.new.painted)) }
+    ensures still { IfOk result (λ pulsed. pulsed.told.is_new ≡ false → IsAtRest stage.new renderer.new) }
+    ensures quiet { IfOk result (λ pulsed. pulsed.told.is_new ≡ false → pulsed.told.notices ≡ nothing_told) }
 {
     let mut facts = facts_in(renderer.take_spare(alloc));
     refresh_facts(alloc, stage, &mut facts, work)?;
     let frame = draw(alloc, renderer, facts, work)?;
     let window = (frame.width, frame.height);
-    let notices = publish_sizes(
+    let told = publish_sizes(
         alloc,
         stage,
         window,
@@ -121,7 +204,7 @@ fn drawn<L: Ledgers>(
         renderer.rects(),
         work,
     )?;
-    Ok(Pulsed { frame, notices })
+    Ok(Pulsed { frame, told })
 }
 
 /// Draws the scene of these facts. One that can't be drawn counts as want of memory.
@@ -136,6 +219,8 @@ fn draw<L: Ledgers>(
     ensures kept { OnOk result (boxes_in renderer.new.kept.last ≡ facts.boxes) }
     ensures once { OnOk result (AreOnce (sizes facts.boxes renderer.new.rects)) }
     ensures small { IfOk result (λ frame. All IsSmallRect frame.damage.items) }
+    ensures width { IfOk result (λ frame. (surface_of renderer.new.canvas).width ≡ frame.width) }
+    ensures height { IfOk result (λ frame. (surface_of renderer.new.canvas).height ≡ frame.height) }
     ensures work { (world : World) → facts ≡ facts_of world
         → IfOk result (λ frame. IsDrawWork world renderer.old renderer.new frame
         (counted work.old.styled work.old.laid work.old.painted)
@@ -195,9 +280,11 @@ fn publish_sizes<L: Ledgers>(
     boxes: &[BoxFacts],
     rects: &[Rect],
     work: &mut Work<L>,
-) -> Result<Notices, AllocError>
+) -> Result<Published, AllocError>
     requires once { AreOnce (sizes boxes.now rects.now) }
     ensures published { OnOk result (IsPublished window (sizes boxes.now rects.now) stage.old stage.new result) }
+    ensures still { IfOk result (λ told. told.is_new ≡ false
+        → IsStill window (sizes boxes.now rects.now) stage.old stage.new) }
     ensures few { OnOk result (work.new.evaluated
         ≤ work.old.evaluated + (sized (sizes boxes.now rects.now) stage.old).cost) }
     ensures others { work.new ≡ record work.old { evaluated = work.new.evaluated } }

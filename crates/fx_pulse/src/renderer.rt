@@ -166,6 +166,26 @@ impl Renderer {
         }
     }
 
+    /// The last frame again, in which nothing is damaged, if its scene was drawn in this window. No scene is looked at:
+    /// what is said holds where the present one is the last one.
+    pub fn again(&self, alloc: Global, window: Option<(u32, u32)>) -> Option<Frame>
+        ensures frame { IfSome result (λ frame. (scene : SceneValue) → self.now.kept.last ≡ Some scene
+            → IsFrame scene window frame.width frame.height self.now.rects self.now.picture) }
+        ensures placed { IfSome result (λ frame. (scene : SceneValue) → self.now.kept.last ≡ Some scene
+            → IsLayout scene.boxes (looks_of scene) window self.now.kept.layout) }
+        ensures damage { IfSome result (λ frame. is_size frame.width frame.height ≡ true
+            → frame.damage.items ≡ frame_damage (last_frame self.now) self.now.picture frame.width frame.height) }
+        ensures width { IfSome result (λ frame. (surface_of self.now.canvas).width ≡ frame.width) }
+        ensures height { IfSome result (λ frame. (surface_of self.now.canvas).height ≡ frame.height) }
+        ensures few { IfSome result (λ frame. (scene : SceneValue) (styled laid : ℕ) → self.now.kept.last ≡ Some scene
+            → AreFew self.now.kept.last scene self.now.kept.layout self.now.kept.layout styled styled laid laid) }
+    {
+        if !self.is_drawn_in(window) {
+            return None;
+        }
+        Some(self.still_frame(alloc))
+    }
+
     /// Does the frame stay as it is: is this the last scene again, in the window in which it was drawn?
     fn stands_still(&self, is_last: bool, window: Option<(u32, u32)>) -> bool
         ensures last { IsTrue result → IsTrue is_last }

@@ -67,6 +67,16 @@ fn show_scene<L: Ledgers>(
     Ok((frame.width, frame.height, frame.damage.len()))
 }
 
+/// Is the last frame, undamaged, shown again in this window?
+fn is_again(alloc: Global, renderer: &Renderer, window: (u32, u32)) -> bool {
+    match renderer.again(alloc, Some(window)) {
+        Some(frame) => {
+            frame.width == window.0 && frame.height == window.1 && frame.damage.is_empty()
+        }
+        None => false,
+    }
+}
+
 /// A letter of one pixel a bit, the same again, another one, and the window made wider.
 fn shows_letters<L: Ledgers>(
     alloc: Global,
@@ -84,7 +94,9 @@ fn shows_letters<L: Ledgers>(
             && first == (4, 6, 1)
             && again == (4, 6, 0)
             && other == (4, 6, 1)
-            && wider == (5, 6, 1),
+            && wider == (5, 6, 1)
+            && is_again(alloc, renderer, (5, 6))
+            && !is_again(alloc, renderer, (4, 6)),
     )
 }
 

@@ -9,6 +9,7 @@ pub mod PlaceLemmas
 pub mod PublishLemmas
 pub mod ReadLemmas
 pub mod RefillLemmas
+pub mod RestLemmas
 pub mod StayingLemmas
 pub mod TreeLemmas
 pub mod ValueLemmas

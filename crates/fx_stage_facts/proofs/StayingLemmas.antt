@@ -86,23 +86,23 @@ left_out test (pair ∷ pairs) entries distinct there =
     ]
 
 -- what a later test leaves out anyway may be left out before
-filter_first : (test later : Pair → Bool) (pairs : List Pair) → ((pair : Pair) → test pair ≡ false → later pair ≡ false)
-    → filter later (filter test pairs) ≡ filter later pairs
-filter_first test later [] out = refl
-filter_first test later (pair ∷ pairs) out =
-    elim (cases_Bool (test pair)) [
+pub filter_first : {X : Type 0} (test later : X → Bool) (xs : List X) → ((x : X) → test x ≡ false → later x ≡ false)
+    → filter later (filter test xs) ≡ filter later xs
+filter_first {X} test later [] out = refl
+filter_first {X} test later (x ∷ xs) out =
+    elim (cases_Bool (test x)) [
       | inl kept ↦
-          ap (λ (b : Bool). filter later (cond b (pair ∷ filter test pairs) (filter test pairs))) kept
-          ∙ ap (λ (ps : List Pair). cond (later pair) (pair ∷ ps) ps) (filter_first test later pairs out)
+          ap (λ (b : Bool). filter later (cond b (x ∷ filter test xs) (filter test xs))) kept
+          ∙ ap (λ (ps : List X). cond (later x) (x ∷ ps) ps) (filter_first test later xs out)
       | inr dropped ↦
-          ap (λ (b : Bool). filter later (cond b (pair ∷ filter test pairs) (filter test pairs))) dropped
-          ∙ filter_first test later pairs out
-          ∙ ap (λ (b : Bool). cond b (pair ∷ filter later pairs) (filter later pairs)) (sym (out pair dropped))
+          ap (λ (b : Bool). filter later (cond b (x ∷ filter test xs) (filter test xs))) dropped
+          ∙ filter_first test later xs out
+          ∙ ap (λ (b : Bool). cond b (x ∷ filter later xs) (filter later xs)) (sym (out x dropped))
     ]
 
 -- what a publication makes and tells hangs on the entries that it makes and on the names that it changes alone
 
-abbrev with_changed : World → List Entry → List ℕ → Taken
+abbrev pub with_changed : World → List Entry → List ℕ → Taken
 with_changed world entries names =
     let stored = with_entries entries world.store in
     let marked = marked_by names stored in
@@ -119,7 +119,7 @@ with_changed world entries names =
       cost = due world.store + (0 + due marked);
     }
 
-published_is : (world : World) (pairs : List Pair)
+pub published_is : (world : World) (pairs : List Pair)
     → published_by (Publish pairs) world
     ≡ with_changed world (with_values false pairs world.store.entries) (changed pairs world.store.entries)
 unfolding made changed_by before_reads cost

@@ -5,6 +5,7 @@ pub mod Laws
 pub mod Places
 pub mod Publishing
 pub mod Reads
+pub mod Resting
 pub mod Scenes
 pub mod Sheets
 pub mod Stands

@@ -14,7 +14,6 @@ use Rattle.fx_graph_model.specs.declared.entries.Entry.{Entry}
 use Rattle.fx_graph_model.specs.Refusals.{read_only_in}
 use Rattle.fx_store_model.specs.declared.changes.Change.{Change}
 use Rattle.fx_store_model.specs.declared.changes.Change.TheVariants.{Publish}
-use Rattle.fx_store_model.specs.declared.changes.Notices.{Notices}
 use Rattle.fx_store_model.specs.Step.{after, before_reads, cost}
 use Rattle.fx_stage_types.specs.declared.node_data.NodeData.{NodeData}
 use Rattle.fx_stage_types.specs.Tables.{data_of}
@@ -23,6 +22,7 @@ use Rattle.fx_stage_model.specs.Looking.{property_in}
 use Rattle.fx_stage_model.specs.Properties.{told}
 use Rattle.fx_stage_model.specs.Taking.{IsUnfinished}
 use Rattle.fx_stage_model.specs.World.{World, with_store}
+use Rattle.fx_stage_facts.specs.declared.publishing.Published.{Published}
 
 -- a node with its width and its height
 abbrev pub Size : Type 0
@@ -89,7 +89,7 @@ published window sizes world = record (sized sizes world).world { window = Some 
 
 -- All is made and told, unless memory is wanting. Then nothing is made, or all sizes are published, but some watched
 -- properties may be unread, and the window stays as it is.
-abbrev pub IsPublished : {E : Type 0} → ℕ × ℕ → List Size → World → World → Result Notices E → Type 0
-IsPublished window sizes before now (Ok notices) =
-    (now ≡ published window sizes before) × (notices ≡ (sized sizes before).notices)
+abbrev pub IsPublished : {E : Type 0} → ℕ × ℕ → List Size → World → World → Result Published E → Type 0
+IsPublished window sizes before now (Ok made) =
+    (now ≡ published window sizes before) × (made.notices ≡ (sized sizes before).notices)
 IsPublished window sizes before now (Err error) = IsUnfinished (sized sizes before) before now

@@ -17,4 +17,4 @@ mod values;
 
 pub use facts::{Facts, read_facts, refresh_facts};
 pub use laws::{facts_fit_together, nodes_are_a_tree};
-pub use publishing::publish;
+pub use publishing::{Published, publish};

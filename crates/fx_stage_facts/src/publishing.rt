@@ -1,5 +1,5 @@
 //! What a frame gives back to the stage: the window, and the sizes of nodes.
-ghost use Rattle.std.specs.Prelude.{◌≡◌, ◌≤◌, ◌+◌, ◌++◌, ◌∷◌, [], IfOk, OnOk, Some};
+ghost use Rattle.std.specs.Prelude.{◌≡◌, ◌≤◌, ◌+◌, ◌++◌, ◌∷◌, [], IfOk, OnOk, Some, false};
 ghost use Rattle.fx_graph_model.specs.Sound.{AreSound};
 ghost use Rattle.fx_stage_model.specs.Sound.{IsSound};
 ghost use Rattle.fx_stage_types.specs.Tables.{data_of};
@@ -7,6 +7,7 @@ ghost use Rattle.fx_stage_types.specs.declared.node_data.NodeData.{NodeData as D
 ghost use Rattle.fx_base.specs.declared.keys.NodeKey.{NodeKey as Key};
 ghost use Rattle.fx_stage_facts.specs.Places.{name_of};
 ghost use Rattle.fx_stage_facts.specs.Publishing as spec;
+ghost use Rattle.fx_stage_facts.specs.Resting.{IsStill};
 ghost use Rattle.fx_stage_facts.specs.Staying.{differing};
 
 use crate::places::{Asked, Places};
@@ -17,6 +18,14 @@ use fx_stage_types::{NodeData, Outcome};
 use fx_store::Store;
 use fx_store_model::Notices;
 use std::alloc::{AllocError, Global};
+
+/// What a publication told, and whether a size was another than before. Where none was, the next frame of the same
+/// window publishes nothing either.
+#[derive(Drop)]
+pub struct Published {
+    pub notices: Notices,
+    pub is_new: bool,
+}
 
 fn is_number(kind: Option<Kind>) -> bool
     ensures { result ≡ spec.is_number kind }
@@ -151,20 +160,22 @@ pub fn publish<L: Ledgers>(
     window: (u32, u32),
     sizes: &[(NodeKey, i64, i64)],
     work: &mut Work<L>,
-) -> Result<Notices, AllocError>
+) -> Result<Published, AllocError>
     requires { spec.AreOnce sizes.now }
     ensures published { spec.IsPublished window sizes.now stage.old stage.new result }
+    ensures still { IfOk result (λ made. made.is_new ≡ false → IsStill window sizes.now stage.old stage.new) }
     ensures few { OnOk result (work.new.evaluated
         ≤ work.old.evaluated + (spec.sized sizes.now stage.old).cost) }
     ensures others { work.new ≡ record work.old { evaluated = work.new.evaluated } }
 {
     laws_of(stage);
     let pairs = pairs_of(alloc, stage, sizes)?;
+    let is_new = !pairs.is_empty();
     match stage.publish(alloc, List::from_vec(pairs), work) {
         Ok(outcome) => {
             let Outcome { notices, .. } = outcome;
             stage.keep_window(window);
-            Ok(notices)
+            Ok(Published { notices, is_new })
         }
         Err(_) => Err(AllocError),
     }

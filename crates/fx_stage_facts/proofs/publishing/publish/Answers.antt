@@ -1,4 +1,5 @@
-use Rattle.std.proofs.Common.{◌≡◌, ◌∙◌, ◌≤◌, ◌+◌, List, Result, sym, subst}
+use Rattle.std.proofs.Common.{◌≡◌, ◌∙◌, ◌≤◌, ◌+◌, List, Result, arith, sym, subst, vec_len}
+use Rattle.std.proofs.lemmas.Bool.{not-false}
 use Rattle.fx_base.specs.declared.keys.Name.{Name}
 use Rattle.fx_base.specs.declared.values.Value.{Value}
 use Rattle.fx_graph_model.specs.Sound.{AreSound}
@@ -13,6 +14,7 @@ use Rattle.fx_stage_model.specs.World.{World}
 use Rattle.fx_stage_facts.specs.Publishing.{AreOnce, Size, pairs_of}
 use Rattle.fx_stage_facts.specs.Staying.{differing}
 use Rattle.fx_stage_facts.proofs.PublishLemmas.{differing_fits, published_err, published_ok, same_changed, sized_few}
+use Rattle.fx_stage_facts.proofs.RestLemmas.{nothing_in, still_of}
 use Rattle.fx_stage_facts.proofs.publishing.publish.Goals as goal
 
 -- what is published makes what all sizes make
@@ -59,3 +61,18 @@ returns-in-Ok-clause-few g c =
     (whole world c.args.sizes.now c.in_ok-pairs.pairs.items c.from_vec.result c.laws_of.ensures.stage
     c.laws_of.ensures.store c.requires c.from_vec.ensures c.in_ok-pairs.ensures
     (λ (r : Result Taken Refusal). new ≤ old + cost_of r) c.publish.ensures.few)
+
+pub returns-in-Ok-clause-still : goal.returns-in-Ok-clause-still
+returns-in-Ok-clause-still g c = λ old.
+    let world = c.args.stage.now in
+    still_of world c.keep_window.new.self c.args.window c.args.sizes.now c.laws_of.ensures.stage
+    c.laws_of.ensures.store c.requires
+    (sym c.in_ok-pairs.ensures
+    ∙ nothing_in c.in_ok-pairs.pairs.items (vec_len c.in_ok-pairs.pairs) (omega (arith, c.in_ok-pairs.pairs.ok.0))
+    (sym c.is_empty-is_new.ensures ∙ not-false c.is_empty-is_new.result old))
+    (published_ok world c.publish.new.self c.keep_window.new.self c.args.window c.args.sizes.now c.publish.result
+    c.in-Ok.outcome c.laws_of.ensures.stage
+    (whole world c.args.sizes.now c.in_ok-pairs.pairs.items c.from_vec.result c.laws_of.ensures.stage
+    c.laws_of.ensures.store c.requires c.from_vec.ensures c.in_ok-pairs.ensures
+    (λ (r : Result Taken Refusal). IsTaken r world c.publish.new.self c.publish.result) c.publish.ensures.taken)
+    c.in-Ok.is c.keep_window.ensures).0

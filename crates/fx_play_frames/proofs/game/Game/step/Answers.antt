@@ -1,4 +1,4 @@
-use Rattle.std.proofs.Common.{◌∙◌, List, not, ap, refl, subst, sym}
+use Rattle.std.proofs.Common.{◌∙◌, List, not, ap, refl, subst}
 use Rattle.fx_picture.specs.declared.entries.Entry.{Entry}
 use Rattle.fx_plain_dispatch.specs.Taking.{IsLine}
 use Rattle.fx_play_steps.specs.Traces.{course_of}

@@ -5,7 +5,7 @@ ghost use Rattle.std.specs.List.{list_all, list_any};
 ghost use Rattle.std.specs.Char.{is_ascii_digit};
 ghost use Rattle.std.specs.Option.{option_map};
 ghost use Rattle.fx_text.specs.Characters.{digit_zero};
-ghost use Rattle.fx_look.specs.Numbers.{IsNumber, IsSize, number_at, size_at, is_short_whole, power_at, exponent_at, few_digits, number_of, saturated};
+ghost use Rattle.fx_look.specs.Numbers as spec;
 ghost use Rattle.fx_look.specs.Rounding.{digits_of, leading, rounds_away, rounded_at, size_of};
 ghost use Rattle.fx_look.specs.Written.{written, power_of_ten};
 
@@ -17,8 +17,8 @@ use fx_text::{all_digits, capped_number};
 /// That is an optional sign, digits, an optional point with digits behind it, and an optional `e` or `E` with an
 /// optional sign and one to three digits; or `Infinity` or `-Infinity`.
 pub fn read_number(s: &str) -> Option<i64>
-    ensures found { IfSome result (IsNumber s.now) }
-    ensures none { IfNone result ((n : ℤ) → IsNumber s.now n → ⊥) }
+    ensures found { IfSome result (spec.IsNumber s.now) }
+    ensures none { IfNone result ((n : ℤ) → spec.IsNumber s.now n → ⊥) }
 {
     number_at(s.as_bytes())
 }
@@ -26,20 +26,20 @@ pub fn read_number(s: &str) -> Option<i64>
 /// The size in pixels that the text spells: a number without exponent, optionally with `px` behind it
 /// (JavaFX CSS Reference Guide, "size").
 pub fn read_size(s: &str) -> Option<i64>
-    ensures found { IfSome result (IsSize s.now) }
-    ensures none { IfNone result ((n : ℤ) → IsSize s.now n → ⊥) }
+    ensures found { IfSome result (spec.IsSize s.now) }
+    ensures none { IfNone result ((n : ℤ) → spec.IsSize s.now n → ⊥) }
 {
     size_at(s.as_bytes())
 }
 
 /// A text spells one number at most.
 pub fn one_number()
-    ensures { (text : List ℕ) (m n : ℤ) → IsNumber text m → IsNumber text n → m ≡ n }
+    ensures { (text : List ℕ) (m n : ℤ) → spec.IsNumber text m → spec.IsNumber text n → m ≡ n }
 {}
 
 /// A text spells one size at most.
 pub fn one_size()
-    ensures { (text : List ℕ) (m n : ℤ) → IsSize text m → IsSize text n → m ≡ n }
+    ensures { (text : List ℕ) (m n : ℤ) → spec.IsSize text m → spec.IsSize text n → m ≡ n }
 {}
 
 /// A power of ten: ten to the power `up` - `down`, one of which is 0.
@@ -53,7 +53,7 @@ const ONE: Power = Power { up: 0, down: 0 };
 
 /// The number that the bytes spell, as `read_number` reads them.
 pub fn number_at(text: &[u8]) -> Option<i64>
-    ensures { result ≡ number_at text.now }
+    ensures { result ≡ spec.number_at text.now }
 {
     if text == b"Infinity".as_slice() {
         return Some(i64::MAX);
@@ -68,7 +68,7 @@ pub fn number_at(text: &[u8]) -> Option<i64>
 
 /// The size that the bytes spell, as `read_size` reads them.
 pub fn size_at(text: &[u8]) -> Option<i64>
-    ensures { result ≡ size_at text.now }
+    ensures { result ≡ spec.size_at text.now }
 {
     if is_short_whole(text) {
         return Some(i64::from(capped_number(text)));
@@ -78,13 +78,13 @@ pub fn size_at(text: &[u8]) -> Option<i64>
 
 /// Is the text one to nine digits, as most sizes are?
 fn is_short_whole(text: &[u8]) -> bool
-    ensures { result ≡ is_short_whole text.now }
+    ensures { result ≡ spec.is_short_whole text.now }
 {
     !text.is_empty() && text.len() <= 9 && all_digits(text)
 }
 
 fn any_size_at(text: &[u8]) -> Option<i64>
-    ensures { result ≡ size_at text.now }
+    ensures { result ≡ spec.size_at text.now }
 {
     if text == b"Infinity".as_slice() || text == b"Infinitypx".as_slice() {
         return Some(i64::MAX);
@@ -102,7 +102,7 @@ fn any_size_at(text: &[u8]) -> Option<i64>
 
 /// The power that the whole text spells: nothing, or `e` or `E` with an exponent.
 fn power_at(text: &[u8]) -> Option<Power>
-    ensures { option_map power_of_ten result ≡ power_at text.now }
+    ensures { option_map power_of_ten result ≡ spec.power_at text.now }
 {
     match text {
         [] => Some(ONE),
@@ -120,7 +120,7 @@ fn power_at(text: &[u8]) -> Option<Power>
 }
 
 fn exponent_at(digits: &[u8]) -> Option<u16>
-    ensures { result ≡ exponent_at digits.now }
+    ensures { result ≡ spec.exponent_at digits.now }
 {
     if all_digits(digits) {
         few_digits(digits)
@@ -131,7 +131,7 @@ fn exponent_at(digits: &[u8]) -> Option<u16>
 
 /// The number of one to three digits.
 fn few_digits(digits: &[u8]) -> Option<u16>
-    ensures { result ≡ few_digits digits.now }
+    ensures { result ≡ spec.few_digits digits.now }
 {
     match digits {
         [a] => Some(digit(*a)),
@@ -151,13 +151,13 @@ fn digit(c: u8) -> u16
 /// The decimal times the power, rounded half up. What passes the ends of 64 bits gives the end.
 fn rounded(decimal: &Decimal<'_>, power: Power) -> i64
     requires { IsTrue (list_all is_ascii_digit (digits_of (written decimal.now))) }
-    ensures { result ≡ number_of (written decimal.now) (power_of_ten power) }
+    ensures { result ≡ spec.number_of (written decimal.now) (power_of_ten power) }
 {
     signed(decimal.negative, size_of(decimal, power))
 }
 
 fn signed(negative: bool, size: u64) -> i64
-    ensures { result ≡ saturated negative size }
+    ensures { result ≡ spec.saturated negative size }
 {
     if size >= 1 << 63 {
         if negative { i64::MIN } else { i64::MAX }

@@ -3,8 +3,8 @@
 
 ghost use Rattle.fx_plain_frames.specs.Laws.{OnePulse};
 
-/// A pulse has one outcome, where the scene is in order: one frame, one damage, one list of notices, and one game behind
-/// it.
+/// A pulse has one outcome, where the scene is in order: one frame, one damage, one list of notices, and one game
+/// behind it.
 pub fn pulses_have_one_outcome()
     ensures { OnePulse }
 {}

@@ -1,5 +1,5 @@
-//! What a `pulse` does: the next frame, and the sizes that are published behind it. Where the game rests, the next frame is
-//! the last one, and nothing is looked at.
+//! What a `pulse` does: the next frame, and the sizes that are published behind it. Where the game rests, the next frame
+//! is the last one, and nothing is looked at.
 ghost use Rattle.std.specs.Prelude.{ℕ, ◌≡◌, ◌≤◌, ◌<◌, ◌+◌, ◌-◌, ◌^◌, All, false, IfOk, IfSome, IsSome, IsTrue, OnOk, Some};
 ghost use Rattle.fx_delta.specs.Pictures.{is_size};
 ghost use Rattle.fx_frame_text.specs.declared.forms.Form.{Form as Image};

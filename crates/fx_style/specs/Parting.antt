@@ -10,7 +10,8 @@ use Rattle.fx_style.specs.Lasts.{AreStylesOf, IsRecodedAt}
 use Rattle.fx_style.specs.Places.{parent_at, places_up}
 
 -- the node of a place gets lengths where it stands, is left to be styled anew, or keeps its style: only one that is
--- left may have its key elsewhere, and one that gets lengths is another by these alone, below a parent that isn't marked
+-- left may have its key elsewhere, and one that gets lengths is another by these alone, below a parent that isn't
+-- marked
 pub record IsPart (last : Option (List StyleFacts)) (facts : List StyleFacts) (rest : List Rest) (marks : List Bool)
     (there left : Bool) (at : ℕ) : Type 0 where
   pub marked : slice_index_or marks at false ≡ (there || left)

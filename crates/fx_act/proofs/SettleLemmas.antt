@@ -1,7 +1,6 @@
 -- The next listener that runs an action, and what is left to run.
-use Rattle.std.proofs.Common.{◌≡◌, ◌∙◌, ℕ, suc, ◌+◌, ◌-◌, ◌<◌, ◌≤◌, List, [], ◌∷◌, arith, drop, get_or, length, Bool, true, false, Option, Some, None, is_some, ap, subst, sym}
+use Rattle.std.proofs.Common.{◌≡◌, ◌∙◌, ℕ, suc, ◌+◌, ◌-◌, ◌<◌, ◌≤◌, List, arith, drop, get_or, length, Bool, true, false, Option, Some, None, is_some, ap, subst, sym}
 use Rattle.std.specs.Option.{option_map}
-use Rattle.std.proofs.Math.ListN.{drop_of_length-le}
 use Rattle.std.proofs.lemmas.List.{drop_more}
 use Rattle.fx_base.specs.declared.keys.Name.{Name}
 use Rattle.fx_plain_dispatch.specs.Costs.{IsDoneWithin}
@@ -30,10 +29,6 @@ module _ (world : World) (heard : List (Name × ℕ)) (place : ℕ) (one : Name 
       → first_run world place (drop place heard) ≡ first_run world (place + 1) (drop (place + 1) heard)
   runs_later below is none =
       at_place below is ∙ ap (λ r. or_later place r (first_run world (place + 1) (drop (place + 1) heard))) (sym none)
-
-pub runs_no_more : (world : World) (heard : List (Name × ℕ)) (place : ℕ) → length heard ≤ place
-    → first_run world place (drop place heard) ≡ None
-runs_no_more world heard place end = ap (first_run world place) (drop_of_length-le heard end)
 
 -- what settles all that is left from here on settles the whole
 abbrev pub LeadsToSettled : ℕ → ℕ → ℕ → Course → ℕ → Course → ℕ → Type 0

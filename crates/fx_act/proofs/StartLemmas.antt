@@ -1,9 +1,9 @@
 -- Event lines: what they start is sent, or a word refuses them.
-use Rattle.std.proofs.Common.{◌≡◌, ◌≤◌, ◌+◌, inl, inr, refl, ℕ, Bool, true, List, [], Vec, Result, Ok, Err, OnOk, ap, subst, sym}
+use Rattle.std.proofs.Common.{◌≡◌, ◌≤◌, ◌+◌, inl, inr, refl, ℕ, Bool, List, [], Vec, Result, Ok, Err, OnOk, ap, subst, sym}
 use Rattle.std.specs.Global.{Global}
 use Rattle.std.specs.declared.alloc.AllocError.{AllocError}
 use Rattle.fx_event_lines.specs.Started.{Started}
-use Rattle.fx_event_lines.specs.Starting.{IsStarted as HasStarted, is_event_line, started}
+use Rattle.fx_event_lines.specs.Starting.{IsStarted as HasStarted, started}
 use Rattle.fx_event_lines.specs.declared.events.Event.{Event}
 use Rattle.fx_plain_dispatch.specs.Costs.{IsDoneWithin}
 use Rattle.fx_plain_dispatch.specs.Sending.{AreSent}
@@ -15,7 +15,6 @@ use Rattle.fx_play_steps.specs.Taken.{IsMade}
 use Rattle.fx_play_steps.specs.Traces.{course_of}
 use Rattle.fx_play_steps.specs.declared.traces.Trace.{Trace}
 use Rattle.fx_script_commands.specs.Requests.{Numbered, Request, asks, bad, binds, defines}
-use Rattle.fx_script_lines.specs.declared.instructions.Instruction.{Instruction}
 use Rattle.fx_stage_model.specs.Answers.{cost_of}
 use Rattle.fx_stage_model.specs.Lines.{taken}
 use Rattle.fx_stage_model.specs.Properties.{word_in}
@@ -62,15 +61,6 @@ carried_line entries line (asks instruction) world final cost none carried =
 carried_line entries line (binds path expression) world final cost none carried = carried
 carried_line entries line (defines name lines) world final cost none carried = carried
 carried_line entries line bad world final cost none carried = carried
-
--- an event line
-pub started_line : (entries : List Entry) (line : Numbered) (request : Request) (instruction : Instruction) (world : World)
-    (final : Course) (cost : ℕ) → request ≡ asks instruction → is_event_line instruction ≡ true
-    → IsStarted line.number (started entries instruction world) world final cost
-    → IsActed entries line request world final cost
-started_line entries line request instruction world final cost is event done =
-    subst (λ (r : Request). IsActed entries line r world final cost) (sym is)
-    (subst (λ (b : Bool). IsInstructed entries line b instruction world final cost) (sym event) done)
 
 -- what a line makes from a fresh trace on is carried out, and costs what it may
 pub carried_fresh : (line : Numbered) (world now : World) (before trace : Trace) (old new : ℕ)

@@ -7,7 +7,7 @@ use Rattle.fx_base.specs.Pixel.{blended}
 use Rattle.fx_canvas.specs.Painting.{HasBytes, IsDrawn, laid_above, points_above}
 use Rattle.fx_canvas.specs.Surfaces.{Line, row_at}
 use Rattle.fx_canvas.specs.declared.blocks.Block.{Block}
-use Rattle.fx_canvas.proofs.DrawingLemmas.{drawn-none, drawn-then, drawn_row, in_row}
+use Rattle.fx_canvas.proofs.DrawingLemmas.{drawn-then, drawn_row, in_row}
 use Rattle.fx_pens.specs.Dots.{IsLaid, count_in, is_in}
 use Rattle.fx_pens.specs.Shapes.{plain_pen}
 use Rattle.fx_pens.specs.declared.spans.Columns.{Columns}
@@ -49,21 +49,6 @@ columns_of block = record { left = block.left; right = block.right }
 
 pub out_of : (top bottom at y : ℕ) → top ≤ at → at < bottom → is_in top bottom y ≡ false → (y == at) ≡ false
 out_of top bottom at y a b h = grind (arith, nat_tests)
-
-pub block_none : (block : Block) (s : Shape) (rows : List Line) (p : ℕ)
-    → IsDrawn (laid_above block block.top s) (is_in block.top block.bottom) (points_above block block.top s) rows rows p p
-block_none block s rows p =
-    let none : (x y c : ℕ) → laid_above block block.top s x y c ≡ c = λ x y c. (let e : is_in block.top block.top y ≡ false = grind (arith, nat_tests) in rw e refl) in
-    let zero' : block.top - block.top ≡ 0 = omega arith in
-    let f : ℕ → ℕ = λ k. count_in (λ x. holds s x k) block.left block.right in
-    let d = drawn-none (laid_above block block.top s) (is_in block.top block.bottom) rows p none in
-    record {
-      sizes = d.sizes;
-      pixels = d.pixels;
-      kept = d.kept;
-      counted = d.counted ∙ ap (λ k. p + sum_by f (range_with_len block.top k)) (sym zero');
-      bytes = d.bytes;
-    }
 
 pub block_step : (block : Block) (s : Shape) (y : ℕ) (old mid : List Line) (row : Line) (p q r : ℕ)
     → block.top ≤ y → y < block.bottom → y < length mid → HasBytes (color_of s)

@@ -1,12 +1,11 @@
 -- Pixels of three bytes stay so where a colour whose channels are bytes is laid over them.
-use Rattle.std.proofs.Common.{◌≡◌, ◌<◌, ◌/◌, ◌%◌, ◌^◌, ◌&&◌, ℕ, suc, Bool, true, false, cond, List, length, get_or, sym, subst, inl, inr, arith}
+use Rattle.std.proofs.Common.{◌<◌, ◌/◌, ◌%◌, ◌^◌, ◌&&◌, ℕ, suc, Bool, true, false, cond, List, length, get_or, sym, subst, inl, inr, arith}
 use Rattle.std.proofs.lemmas.Bool.Decides.{leb_tells}
 use Rattle.std.proofs.lemmas.List.{get_or_past}
 use Rattle.std.proofs.lemmas.Nat.{mod_below}
 use Rattle.fx_base.specs.Pixel.{blended, blue_of, channel, green_of, pixel_of, red_of}
 use Rattle.fx_base.specs.declared.color.Color.{Color}
 use Rattle.fx_canvas.specs.Painting.{HasBytes}
-use Rattle.fx_canvas.specs.Surfaces.{AreBytes, Line, row_at}
 use Rattle.fx_lanes.proofs.Lanes.{channel_small}
 use Rattle.fx_pens.specs.Dots.{IsLaid, is_in}
 use Rattle.fx_pens.specs.declared.spans.Pen.{Pen}
@@ -36,8 +35,3 @@ laid_small pen dots old new p q is laid small x = elim (leb_tells (suc x) (lengt
     by : (t : Bool) → cond t (blended pen.color (get_or old x 0)) (get_or old x 0) < 2 ^ 24
     by true = blended_small pen.color (get_or old x 0) is
     by false = small x
-
--- rows that show what they did
-pub bytes_kept : (old new : List Line) → ((y : ℕ) → (row_at new y).pixels ≡ (row_at old y).pixels)
-    → AreBytes old → AreBytes new
-bytes_kept old new same small x y = subst (λ (l : List ℕ). get_or l x 0 < 2 ^ 24) (sym (same y)) (small x y)

@@ -124,9 +124,6 @@ rect_drawn r es old mid new p q t fits a b =
 abbrev pub IsRepainted : List Entry → List Rect → List Line → List Line → ℕ → ℕ → Type 0
 IsRepainted es rects old new p q = IsDrawn (repainted es rects) (is_met rects) (sum_by (writes es) rects) old new p q
 
-pub repainted_none : (es : List Entry) (rows : List Line) (p : ℕ) → IsRepainted es [] rows rows p p
-repainted_none es rows p = drawn-none (repainted es []) (is_met []) rows p (λ x y c. refl)
-
 either : (a b : Bool) (v c : ℕ) → cond b v (cond a v c) ≡ cond (a || (b || false)) v c
 either true true v c = refl
 either true false v c = refl

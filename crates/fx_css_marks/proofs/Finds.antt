@@ -80,21 +80,9 @@ pub comment_from : (xs : List ℕ) → length xs + comment_length (drop (positio
 comment_from [] = refl
 comment_from (x ∷ xs) = comment_by x xs (eqb x 42) refl (comment_from xs)
 
-some_more : (xs : List ℕ) → begins_with 47 xs ≡ true → 1 ≤ length xs
-some_more [] e = Prim.cc
-some_more (x ∷ xs) e = omega arith
-
 within_by : (x : ℕ) (xs : List ℕ) (b : Bool) → (eqb x 42 && begins_with 47 xs) ≡ b → (b ≡ true → 1 ≤ length xs) → comment_length xs ≤ length xs → comment_length (x ∷ xs) ≤ length (x ∷ xs)
 within_by x xs true e some h = let l : 1 ≤ length xs = some refl in rw e (omega arith)
 within_by x xs false e some h = rw e (omega arith)
-
-and_last : (a b : Bool) → (a && b) ≡ true → b ≡ true
-and_last true b e = e
-and_last false b e = Prim.cc
-
-pub comment_within : (xs : List ℕ) → comment_length xs ≤ length xs
-comment_within [] = omega arith
-comment_within (x ∷ xs) = within_by x xs (eqb x 42 && begins_with 47 xs) refl (λ e. some_more xs (and_last (eqb x 42) (begins_with 47 xs) e)) (comment_within xs)
 
 -- a run without quotes and `/` is bare
 

@@ -131,11 +131,6 @@ pub compound_pushed : (done all : List Compound) (o : Option Compound) (read : B
 compound_pushed done all o false e w = absurd (cc)
 compound_pushed done all o true e w = map_gives (λ c. done ++ (c ∷ [])) o all (sym w)
 
-pub compound_missed : (done all : List Compound) (o : Option Compound) (read : Bool) → read ≡ false → with_one read all ≡ option_map (λ c. done ++ (c ∷ [])) o → None ≡ o
-compound_missed done all o true e w = absurd (cc)
-compound_missed done all None false e w = refl
-compound_missed done all (Some c) false e w = absurd (cc)
-
 -- the compounds of a selector
 
 links_word_by : (within : Bool) (c : ℕ) (cs : List ℕ) → is_gap c ≡ false → links_at within (c ∷ cs) ≡ links_at false cs

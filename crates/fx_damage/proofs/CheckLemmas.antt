@@ -1,11 +1,11 @@
 -- Numbers are distinct where they rise when they are sorted, and so are the birth numbers of entries.
-use Rattle.std.proofs.Common.{◌≡◌, ◌<◌, ◌≤◌, ◌+◌, ◌∷◌, ℕ, Bool, true, false, List, [], length, get_or, set, drop, All, IsTrue, ◌↔◌, ◌==◌, ◌||◌, refl, ap, sym, subst, ◌∙◌, arith, eqb}
+use Rattle.std.proofs.Common.{◌≡◌, ◌<◌, ◌+◌, ◌∷◌, ℕ, Bool, true, false, List, [], length, get_or, set, drop, All, IsTrue, ◌↔◌, ◌==◌, ◌||◌, refl, ap, sym, subst, ◌∙◌, arith, eqb}
 use Rattle.std.specs.List.{IsDistinct}
 use Rattle.std.specs.List.Sorted.{IsNonDecreasing, IsPermutation, IsSortedByKey, IsStrictlyIncreasing}
 use Rattle.std.specs.Ordering.{nat_cmp}
 use Rattle.std.proofs.lemmas.Bool.Decides.{Decides-eqb, nat_tests}
 use Rattle.std.proofs.lemmas.Grind.{common_steps}
-use Rattle.std.proofs.lemmas.List.{get_or-map, length-map, map-set, set_past, drop_all}
+use Rattle.std.proofs.lemmas.List.{get_or-map, length-map, map-set}
 use Rattle.std.proofs.lemmas.List.Elements.{All-cons, All-get_or, All-nil}
 use Rattle.std.proofs.lemmas.List.Kept.{AllPairs-from_increasing}
 use Rattle.std.proofs.lemmas.List.Sorted.{IsNonDecreasingBy-from_sort, IsPermutation-sym}
@@ -58,18 +58,6 @@ numbers_edited (e ∷ es) xs =
 
 one : (es : List Edit) (i : ℕ) (e : Edit) → i < length es → e ≡ get_or es i e → drop i es ≡ e ∷ drop (i + 1) es
 one es i e h is = grind (arith, common_steps)
-
-pub number_put : (es : List Edit) (ns : List ℕ) (i : ℕ) (e : Edit) → i < length es → e ≡ get_or es i e
-    → numbers_after (drop (i + 1) es) (set ns e.place e.entry.key.birth) ≡ numbers_after (drop i es) ns
-number_put es ns i e h is = ap (λ l. numbers_after l ns) (sym (one es i e h is))
-
-pub number_past : (es : List Edit) (ns : List ℕ) (i : ℕ) (e : Edit) → i < length es → e ≡ get_or es i e → length ns ≤ e.place
-    → numbers_after (drop (i + 1) es) ns ≡ numbers_after (drop i es) ns
-number_past es ns i e h is past =
-    ap (numbers_after (drop (i + 1) es)) (sym (set_past ns e.place e.entry.key.birth past)) ∙ number_put es ns i e h is
-
-pub numbers_done : (es : List Edit) (ns : List ℕ) (i : ℕ) → length es ≤ i → numbers_after (drop i es) ns ≡ ns
-numbers_done es ns i past = ap (λ l. numbers_after l ns) (drop_all i es past)
 
 -- ---- places of edits
 pub increasing_rises : (ns : List ℕ) → IsStrictlyIncreasing ns → RisesStrictly ns

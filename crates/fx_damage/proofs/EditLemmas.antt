@@ -1,7 +1,7 @@
 -- The damage that edits make is that between what stood at their places and what stands there then.
-use Rattle.std.proofs.Common.{◌≡◌, ◌<◌, ◌≤◌, ◌+◌, ◌==◌, ◌||◌, ℕ, suc, zero, Bool, true, false, List, [], ◌∷◌, ◌++◌, length, get_or, set, Option, Some, None, refl, sym, ap, ◌∙◌, inl, inr, arith, ◌⊎◌, pos, drop, append-nil}
+use Rattle.std.proofs.Common.{◌≡◌, ◌<◌, ◌+◌, ◌==◌, ◌||◌, ℕ, suc, zero, Bool, true, false, List, [], ◌∷◌, ◌++◌, length, get_or, set, Option, Some, None, refl, sym, ap, ◌∙◌, inl, inr, arith, ◌⊎◌, pos, drop}
 use Rattle.std.proofs.lemmas.Bool.Decides.{Decides-eqb, nat_tests}
-use Rattle.std.proofs.lemmas.List.{drop_all, get_or-set_same, get_or-map, get_or-set_other, length-map}
+use Rattle.std.proofs.lemmas.List.{get_or-set_same, get_or-map, get_or-set_other, length-map}
 use Rattle.std.proofs.lemmas.List.Folds.{list_any-append}
 use Rattle.std.proofs.Math.ListN.{length-set}
 use Rattle.fx_picture.specs.declared.entries.Entry.{Entry}
@@ -316,19 +316,3 @@ pub edited_nows : (done more : List Entry) (es : List Edit) (xs : List Entry) (i
 edited_nows done more es xs i item x l item_is a x_is made =
     let at = edit_at es xs i item x l item_is a x_is in
     nows_more done more (replaced es xs) (entries_of es) i x item.entry at.0 at.1 at.2 at.3 made
-
-pub olds_done : (done : List Entry) (es : List Edit) (xs : List Entry) (k : ℕ) → length es ≤ k
-    → done ++ changed_olds (drop k (replaced es xs)) (drop k (entries_of es)) ≡ done
-olds_done done es xs k past =
-    let long = length-map es (λ (e : Edit). get_or xs e.place e.entry) in
-    let one : drop k (replaced es xs) ≡ [] = drop_all k (replaced es xs) (omega (arith, long, past)) in
-    ap (λ l. done ++ changed_olds l (drop k (entries_of es))) one ∙ append-nil done
-
-pub nows_done : (done : List Entry) (es : List Edit) (xs : List Entry) (k : ℕ) → length es ≤ k
-    → done ++ changed_nows (drop k (replaced es xs)) (drop k (entries_of es)) ≡ done
-nows_done done es xs k past =
-    let long = length-map es (λ (e : Edit). get_or xs e.place e.entry) in
-    let other = length-map es (λ (e : Edit). e.entry) in
-    let one : drop k (replaced es xs) ≡ [] = drop_all k (replaced es xs) (omega (arith, long, past)) in
-    let two : drop k (entries_of es) ≡ [] = drop_all k (entries_of es) (omega (arith, other, past)) in
-    ap (λ l. done ++ changed_nows l (drop k (entries_of es))) one ∙ (ap (λ l. done ++ l) two ∙ append-nil done)

@@ -1,5 +1,5 @@
 -- Entries in order of birth, and two such lists gone through together.
-use Rattle.std.proofs.Common.{◌≡◌, ◌<◌, ◌≤◌, ◌+◌, ◌-◌, ◌==◌, ◌||◌, ℕ, suc, zero, Bool, Bor, true, false, cond, List, [], ◌∷◌, ◌++◌, length, drop, get_or, map, min, Option, Some, None, refl, sym, ap, subst, ◌∙◌, arith, append_assoc, append-nil, eqb, length-drop, inl, inr, ◌⊎◌}
+use Rattle.std.proofs.Common.{◌≡◌, ◌<◌, ◌≤◌, ◌+◌, ◌-◌, ◌==◌, ◌||◌, ℕ, suc, zero, Bool, Bor, true, false, cond, List, [], ◌∷◌, ◌++◌, length, drop, get_or, map, min, Option, Some, None, refl, sym, ap, subst, ◌∙◌, arith, append_assoc, eqb, length-drop, inl, inr, ◌⊎◌}
 use Rattle.std.specs.List.{IsDistinct, AllPairs, flat_map}
 use Rattle.std.specs.List.Sorted.{IsNonDecreasing, IsNonDecreasingBy, IsPermutation}
 use Rattle.std.proofs.lemmas.Bool.Decides.{Decides-eqb, leb_tells, nat_tests}
@@ -277,14 +277,6 @@ merge_more w done more es fs es' fs' o p b rise rise' least o_is p_is es_is fs_i
     ∙ ap (cut_to w) (ap (λ l. l ++ changed_boxes es' fs') here
     ∙ (ap (λ l. boxes_of (first_with b es) (first_with b fs) ++ l) rest
     ∙ sym (next_boxes es fs b rise rise' least)))))
-
--- nothing is left
-pub merge_end : (w : Bounds) (done : List Bounds) (es fs : List Entry) → lesser (first_birth es) (first_birth fs) ≡ None
-    → done ++ cut_to w (changed_boxes es fs) ≡ done
-merge_end w done [] [] h = append-nil done
-merge_end w done [] (f ∷ fs) h = cc
-merge_end w done (e ∷ es) [] h = cc
-merge_end w done (e ∷ es) (f ∷ fs) h = cc
 
 -- ---- what is left becomes less
 behind_less : (b : ℕ) (e : Entry) (es : List Entry) → e.key.birth ≡ b → length (behind b (e ∷ es)) < length (e ∷ es)

@@ -4,8 +4,8 @@ use Rattle.std.proofs.Common.{◌≡◌, ℕ, ◌+◌, Bool, true, false, not, L
 use lib.Utf8.{encode}
 use Rattle.fx_doc_grammar.specs.Characters.{class_of}
 use Rattle.fx_base.specs.Positions.{start, after, after_all}
-use Rattle.fx_doc_grammar.specs.Grammar.{reference_text, Sign, Stands, Tag, tag_text, Items, Empty, Shown, items_text, Top_ok, has_element, Head, Level, value_of, head_of, root_of, Reading, Spells}
-use Rattle.fx_doc_grammar.specs.Machine.{entity_step, Stack, Bottom, Opened, Held, Mode, Inside, Quoted, State, at, initial, is_nothing, with_sign, in_referring, in_value_referring, step, run, answer, answer_of}
+use Rattle.fx_doc_grammar.specs.Grammar.{reference_text, Sign, Stands, Tag, tag_text, Items, Empty, Shown, items_text, Top_ok, has_element, value_of, head_of, root_of, Reading, Spells}
+use Rattle.fx_doc_grammar.specs.Machine.{entity_step, Bottom, Held, Inside, Quoted, State, at, initial, is_nothing, with_sign, in_referring, in_value_referring, step, run, answer, answer_of}
 use Rattle.fx_doc_grammar.specs.Beginnings.{Path, Top, Within, Part, PInside, PReferring, PLess, PBang, PBangDash, PComment, PDashed, PDashDashed, PAsk, PInstructing, PNameAsked, PInstructed, PEndAsked, PNaming, PSpaced, PTight, PKeyed, PKeySpaced, PSigned, PQuoted, PValueReferring, PSlashed, PEnding, PEnded, entity_text, value_part, part_text, zip_text, Items_ok, IsWithin, Part_ok}
 use Rattle.fx_doc_grammar.proofs.Runs.{after-append, run-none}
 use Rattle.fx_doc_grammar.proofs.States.{here, held_of, state_of, Reached, zip_place, held_shown, none_yet, sign_ok, value_more}
@@ -120,9 +120,6 @@ answered text i n o w false e h = record {
   imports = ap (λ (y : Reading). y.imports) (sym (some_same h));
   root = ap (λ (y : Reading). y.root) (sym (some_same h));
 }
-
-within_no : {X : Type 0} (h : Held) (s : Stack) (l : Level) (d : Head) (m : Mode) (b : Bool) (n : Reading) → answer_of h (Opened s l d) m b ≡ Some n → X
-within_no h s l d m b n e = absurd (no_answer e)
 
 answer_at : (text : List ℕ) (p : Path) (i : Items) (a : Part) (n : Reading) → Items_ok p i → text ≡ zip_text p i a → answer (state_of p i a) ≡ Some n → Spells text n
 answer_at text (Within p j t) i a n o w h = absurd (no_answer h)

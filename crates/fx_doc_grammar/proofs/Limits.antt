@@ -1,6 +1,6 @@
 -- The limits on depth and length: where the machine passes one, the beginning does, and the other way round.
 -- Above the steps and what is written; code cites it.
-use Rattle.std.proofs.Common.{◌≡◌, ℕ, ◌+◌, ◌≤◌, Bool, true, false, ◌&&◌, ◌||◌, List, [], ◌∷◌, ◌++◌, Option, Some, None, length, refl, sym, ◌∙◌, ap, subst, append_assoc, append-nil, length-append, arith, suc}
+use Rattle.std.proofs.Common.{◌≡◌, ℕ, ◌+◌, ◌≤◌, Bool, true, false, ◌||◌, List, [], ◌∷◌, ◌++◌, Option, Some, None, length, refl, sym, ◌∙◌, ap, subst, append_assoc, append-nil, length-append, arith, suc}
 use lib.Dec.{eqb, ltb, leb}
 use lib.Utf8.{encodes}
 use Rattle.fx_doc_grammar.specs.Characters.{class_of, in_name}
@@ -42,10 +42,6 @@ or_false false b e = (refl, e)
 or_left : (a b : Bool) → (a || b) ≡ true → b ≡ false → a ≡ true
 or_left true b e f = refl
 or_left false b e f = true_false e f
-
-and_both : (a b : Bool) → (a && b) ≡ true → (a ≡ true) × (b ≡ true)
-and_both true b e = (refl, e)
-and_both false b e = cc
 
 quiet_if : (b : Bool) (o : Option State) → Quiet o → Quiet (some_if b o)
 quiet_if true o n = n

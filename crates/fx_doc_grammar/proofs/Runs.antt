@@ -3,7 +3,7 @@
 use Rattle.std.proofs.Common.{◌≡◌, ℕ, ◌<◌, Bool, true, false, cond, List, [], ◌∷◌, ◌++◌, Option, None, refl, sym, ◌∙◌, ap, subst, append_assoc, arith}
 use lib.Dec.{eqb}
 use lib.Utf8.{encode, encodes}
-use Rattle.fx_doc_grammar.specs.Characters.{class_of, is_later, in_name, Each}
+use Rattle.fx_doc_grammar.specs.Characters.{class_of, is_later, in_name}
 use Rattle.fx_text.specs.Classes.{is_white, is_letter}
 use Rattle.fx_base.specs.Positions.{after, after_all}
 use Rattle.fx_doc_grammar.specs.Grammar.{Sign, sign_text, sign_value, signs_text, value_of}
@@ -24,10 +24,6 @@ run-append p o (c ∷ a) b = run-append (after p c) (next p o c) a b
 pub run-none : (p : Position) (a : List ℕ) → run p None a ≡ None
 run-none p [] = refl
 run-none p (c ∷ a) = run-none (after p c) a
-
-pub Each-append : (P : ℕ → Type 0) (a b : List ℕ) → Each P a → Each P b → Each P (a ++ b)
-Each-append P [] b x y = y
-Each-append P (c ∷ a) b x y = (x.0, Each-append P a b x.1 y)
 
 pub signs_text-append : (a b : List Sign) → signs_text (a ++ b) ≡ signs_text a ++ signs_text b
 signs_text-append [] b = refl

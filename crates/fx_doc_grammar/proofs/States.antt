@@ -211,7 +211,3 @@ filled_more (d ∷ x) c = tt
 pub apart_more : (x y : List ℕ) → IsFilled x → IsApart x → IsApart (x ++ y)
 apart_more [] y f o = absurd f
 apart_more (d ∷ x) y f o = o
-
-pub filled_on : (x y : List ℕ) → IsFilled x → IsFilled (x ++ y)
-filled_on [] y f = absurd f
-filled_on (d ∷ x) y f = tt

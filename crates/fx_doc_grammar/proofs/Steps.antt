@@ -147,9 +147,6 @@ class_greater = refl
 ends_other : (x : List ℕ) (c n : ℕ) (k j : Class) → class_of c ≡ k → class_of n ≡ j → (k ≡ j → ⊥) → EndsOtherwise n (x ++ (c ∷ []))
 ends_other x c n k j e f d a q = other_class c n k j e f d (last_same x a c n q).1
 
-abbrev Leave : ℕ → Class → Class → Type 0
-Leave c k j = (class_of c ≡ k) × (k ≡ j → ⊥)
-
 comment_more : (p : Path) (i : Items) (x : List ℕ) (c : ℕ) (s : State) → Placed p i → Part_ok p i (PComment x) → (k : Class) → class_of c ≡ k → (k ≡ Dash → ⊥) → at (held_of p i) Commented ≡ Some s → Leads p i (PComment x) c s
 comment_more p i x c s o z k e d h = stay p i (PComment x) (PComment (x ++ (c ∷ []))) c s o
     (no_end_more (45 ∷ (45 ∷ [])) x c z.0 (λ u a q. z.1 (a ++ (45 ∷ [])) (q ∙ sym (append_assoc a (45 ∷ []) (45 ∷ [])))), ends_other x c 45 k Dash e class_dash d)

@@ -152,12 +152,6 @@ unfolding class_of
 quote_ends h head q key Single v n p = refl
 quote_ends h head q key Double v n p = refl
 
--- up to white behind the sign `=`
-pub sign_goes : (h : Held) (head : Head) (key w v : List ℕ) → IsName key → is_fresh key head ≡ true → Each IsWhite w → Each IsWhite v → (p : Position)
-    → Goes p (as_state h (Spaced head)) (key ++ (w ++ (61 ∷ v))) (as_state h (Signed head p key))
-sign_goes h head key w v o f ow ov p = seq (key_goes h head key o p)
-    (key_white h head p key f w ow (after_all p key) v (as_state h (Signed head p key)) (λ t. signed_each h head p key v ov t))
-
 pub value_open : (h : Held) (head : Head) (key w v : List ℕ) (u : Quote) (ss : List Sign) → IsName key → is_fresh key head ≡ true → Each IsWhite w → Each IsWhite v → Value_ok u ss → (p : Position)
     → Goes p (as_state h (Spaced head)) (key ++ (w ++ (61 ∷ (v ++ (quote_code u ∷ signs_text ss))))) (as_state h (Quoted head p key u (value_of ss) (length ss)))
 value_open h head key w v u ss o f ow ov os p = seq (key_goes h head key o p)

@@ -416,9 +416,6 @@ spaced_calm h head part p l e = still (as_state h (Spaced head))
 plain_flat : (q c : ℕ) → is_plain q c ≡ true → is_flat c ≡ true
 plain_flat q c e = grind (arith, e)
 
-pub plain_all_flat : (q : ℕ) (cs : List ℕ) → list_all (is_plain q) cs ≡ true → list_all is_flat cs ≡ true
-plain_all_flat q = all_of (is_plain q) is_flat (plain_flat q)
-
 value_took : (h : Held) (head : Head) (q : Position) (key : List ℕ) (u : Quote) (v w : List ℕ) (n m : ℕ)
     (text part rest : List ℕ) (p : Position) → level_long h ≡ false → IsRun (is_plain (quote_code u)) text part rest
     → n + length part ≤ 4096 → w ≡ v ++ part → m ≡ n + length part

@@ -99,9 +99,6 @@ white_past text bytes piece rest left n p q e b f g l w = record {
   place = w;
 }
 
-pub past_none : (text : List ℕ) (p : Position) → IsPast is_white text p text p
-past_none text p = record { part = []; split = refl; each = refl; place = refl }
-
 white_filled : (text rest : List ℕ) (p q : Position) → (t : IsPast is_white text p rest q)
     → (length rest ≡ length text → ⊥)
     → t.part ≡ [] → ⊥

@@ -19,11 +19,6 @@ items_behind view (i ∷ is) back =
     ap (λ (l : List ℕ). item_text view i ++ l) (items_behind next is back)
     ∙ sym (append_assoc (item_text view i) (items_text next is) (items_text (with_items next is) back))
 
-pub with_behind : (view : Picture) (front back : List Item)
-    → with_items view (front ++ back) ≡ with_items (with_items view front) back
-with_behind view [] back = refl
-with_behind view (i ∷ is) back = with_behind (with_pixels view i.x i.y i.pixels) is back
-
 -- items that were sent, before those that are left
 pub some_sent : (view now : Picture) (text : List ℕ) {more all : List ℕ} (front back : List Item)
     → more ≡ text ++ items_text view front → now ≡ with_items view front
@@ -34,11 +29,6 @@ some_sent view now text {more} {all} front back sent shown before =
     ∙ append_assoc text (items_text view front) (items_text (with_items view front) back)
     ∙ ap (λ (l : List ℕ). text ++ l) (sym (items_behind view front back))
     ∙ before
-
-pub some_shown : (view now : Picture) {all : Picture} (front back : List Item) → now ≡ with_items view front
-    → with_items view (front ++ back) ≡ all → with_items now back ≡ all
-some_shown view now {all} front back shown before =
-    ap (λ (p : Picture). with_items p back) shown ∙ sym (with_behind view front back) ∙ before
 
 -- one item was sent
 pub one_sent : (view now : Picture) (text : List ℕ) {more all : List ℕ} (i : Item) (back : List Item)
@@ -72,13 +62,6 @@ rows_from image rect bottom y = map (row_item image rect) (range_with_len y (bot
 
 abbrev pub bottom_of : Image → Rect → ℕ
 bottom_of image rect = whole rect.y + min (whole rect.h) (image.height - whole rect.y)
-
-pub all_rows : (image : Image) (rect : Rect) → rows_from image rect (bottom_of image rect) (whole rect.y) ≡ rect_items image rect
-all_rows image rect =
-    let top = whole rect.y in
-    let count = min (whole rect.h) (image.height - top) in
-    let same : top + count - top ≡ count = omega arith in
-    ap (λ (n : ℕ). map (row_item image rect) (range_with_len top n)) same
 
 pub next_row : (image : Image) (rect : Rect) (bottom y : ℕ) → y < bottom
     → rows_from image rect bottom y ≡ row_item image rect y ∷ rows_from image rect bottom (y + 1)

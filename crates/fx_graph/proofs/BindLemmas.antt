@@ -86,26 +86,6 @@ full_same total used more after within few sum =
     (λ e. lt-ltb 1000000 after (omega (arith, ltb-true (1000000 - (total - used)) more e)))
     (λ e. lt-ltb (1000000 - (total - used)) more (omega (arith, ltb-true 1000000 after e)))
 
--- the rows of users may have more room
-pub store_roomier : (es : List Entry) (users users' : List Row) (unread before : List Bool) (newly : List Name) (n : ℕ) (cache : List Value) (work : List ℕ) (operands : ℕ)
-    (work' : List ℕ) → IsStore es users unread before newly n cache work operands → Mirrors es users'
-    → length work' ≡ length es
-    → IsStore es users' unread before newly n cache work' operands
-store_roomier es users users' unread before newly n cache work operands work' s m w =
-    record {
-      ranks = s.ranks;
-      sound = s.sound;
-      settled = s.settled;
-      mirrors = m;
-      spare_unset = s.spare_unset;
-      newly_length = s.newly_length;
-      newly_few = s.newly_few;
-      work_length = w;
-      few = s.few;
-      counted = s.counted;
-      operands_few = s.operands_few;
-    }
-
 -- a binding was made
 pub store_bound : (es : List Entry) (users users' : List Row) (unread before : List Bool) (newly : List Name) (n : ℕ) (cache : List Value) (work : List ℕ) (total : ℕ)
     (name : ℕ) (expr : Tree) (operands : List ℕ) (newly' : List Name) (n' : ℕ) (work' : List ℕ) (total' : ℕ)

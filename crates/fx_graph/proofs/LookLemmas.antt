@@ -36,10 +36,6 @@ pub record Reads (entries : List Entry) (names : List ℕ) (before now : List Bo
   pub listed : values ≡ map (eager entries) names
   pub steps : cost' + bound_unread entries now ≡ cost + bound_unread entries before
 
-pub reads_start : (es : List Entry) (flags : List Bool) (cache : List Value) (cost : ℕ) → IsSettled es flags cache
-    → Reads es [] flags flags cache [] cost cost
-reads_start es flags cache cost s = record { settled = s; flags = sym (reads_none es flags); listed = refl; steps = refl }
-
 -- one name more is read
 pub reads_more : (es : List Entry) (names : List ℕ) (name : ℕ) (before now now' : List Bool) (cache cache' values : List Value) (value : Value) (cost cost' cost'' : ℕ)
     → Reads es names before now cache values cost cost' → IsSettled es now' cache' → now' ≡ after_reading es name now → value ≡ eager es name
@@ -189,15 +185,6 @@ reads_needed : (es : List Entry) (names : List ℕ) (before now : List Bool) (ot
 reads_needed es names before now other flags was off =
     reached_left (marked before other) (is_reached es names other) was
     (sym (marked-reads es names before other) ∙ sym (ap (λ (f : List Bool). marked f other) flags) ∙ off)
-
--- nothing was read
-pub none_needed : (es : List Entry) (names : List ℕ) (flags : List Bool) → ArePartRead es names flags flags
-none_needed es names flags =
-    record {
-      flags = refl;
-      fewer = λ other on. on;
-      needed = λ other was off. absurd (both_ways (marked flags other) off was);
-    }
 
 -- some of the names were read
 pub looks_needed : (first now : Lists) (names all : List ℕ) (values : List Value) (cost cost' : ℕ)

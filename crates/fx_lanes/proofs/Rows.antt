@@ -1,6 +1,6 @@
 -- A row of which the front is made and the rest is as it was: one block more, and one place more.
 -- Cited by the proofs of all kernels.
-use Rattle.std.proofs.Common.{◌≡◌, ℕ, ◌+◌, ◌<◌, ◌≤◌, List, [], ◌∷◌, ◌++◌, length, take, drop, get_or, set, refl, sym, ap, subst, ◌∙◌, arith, append_assoc}
+use Rattle.std.proofs.Common.{◌≡◌, ℕ, ◌+◌, ◌<◌, ◌≤◌, List, [], ◌∷◌, ◌++◌, length, take, drop, get_or, set, sym, ap, subst, ◌∙◌, arith, append_assoc}
 use Rattle.std.proofs.lemmas.List.{append-nil, drop_all, take_at, drop_at, drop-drop, drop_more, set_at, get_or_at, take-append-drop, take-take, drop-take, length-append, length-drop}
 use Rattle.std.proofs.lemmas.Simd.{put_chunk_is}
 use lib.Lanes.{put_chunk, chunk}
@@ -16,9 +16,6 @@ made_length old row front i m =
     let w = m.within in
     let l = m.long in
     ap length m.parts ∙ length-append front (drop i old) ∙ ap (λ n. length front + n) (length-drop i old) ∙ omega arith
-
-pub made_none : (old : List ℕ) → Made old old [] 0
-made_none old = record { within = omega arith; long = refl; parts = refl }
 
 pub made_block : (old row front block : List ℕ) (i k : ℕ) → Made old row front i → length block ≡ k → i + k ≤ length old → Made old (put_chunk i row block) (front ++ block) (i + k)
 made_block old row front block i k m b h =

@@ -6,7 +6,7 @@ use Rattle.fx_base.specs.declared.geometry.Rect.{Rect}
 use Rattle.fx_kinds.specs.declared.facts.BoxFacts.{BoxFacts}
 use Rattle.fx_panes_parts.specs.declared.axes.Span.{Span}
 use Rattle.fx_layout_sweeps.specs.Nodes.{IsTree, no_node, node_at, parent_at, parents, span_at}
-use Rattle.fx_layout.specs.Updates.{AreRects, around, corner, rect_at, shifted}
+use Rattle.fx_layout.specs.Updates.{around, corner, rect_at, shifted}
 
 pub record AreRectsUpTo (nodes : List BoxFacts) (across down : List Span) (rects : List Rect) (n : ℕ) : Type 0 where
   pub each : length rects ≡ n
@@ -62,10 +62,3 @@ rects_more nodes across down rects n tree within are x made = record {
         → around (rects ++ x ∷ []) (node_at nodes p).parent ≡ around rects (node_at nodes p).parent
     kept p few most = around_keeps rects x (node_at nodes p).parent
         (λ q up. omega (arith, parent_before nodes tree p few q up, most, are.each))
-
-pub rects_all : (nodes : List BoxFacts) (across down : List Span) (rects : List Rect) (n : ℕ) → n ≡ length nodes
-    → AreRectsUpTo nodes across down rects n → AreRects nodes across down rects
-rects_all nodes across down rects n all are = record {
-  each = are.each ∙ all;
-  placed = λ p within. are.placed p (omega (arith, all, within));
-}

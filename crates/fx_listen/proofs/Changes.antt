@@ -6,7 +6,7 @@ use Rattle.std.proofs.lemmas.List.{get_or-take, length-take-le, take-append-drop
 use Rattle.std.proofs.lemmas.List.Edits.{get_or-between, length-between, split_between}
 use Rattle.std.proofs.lemmas.List.Elements.{All-append, All-cons, All-filter, All-tail, All-head, All-weaker, filter_passes}
 use Rattle.std.proofs.lemmas.List.Filters.{length-filter_both}
-use Rattle.std.proofs.lemmas.List.Folds.{list_any-append, list_any_at, list_any_none}
+use Rattle.std.proofs.lemmas.List.Folds.{list_any-append, list_any_none}
 use Rattle.std.proofs.lemmas.List.Kept.{AllPairs-cons, AllPairs-filter}
 use Rattle.std.proofs.lemmas.List.Quantifiers.{position-Some}
 use Rattle.fx_handles.specs.declared.Owner.{Owner}
@@ -73,9 +73,6 @@ without_first-none test [] none = refl
 without_first-none test (x ∷ xs) none =
     let parts = or_parts (test x) (list_any test xs) none in
     rw (parts.0, without_first-none test xs parts.1) refl
-
-pub list_any-first : (test : Listener → Bool) (all : List Listener) (place : ℕ) → IsFirst test all place → list_any test all ≡ true
-list_any-first test all place first = list_any_at test all place anybody first.within (first.passes anybody)
 
 -- the test passes none before and none behind the two places
 module _ (test : Listener → Bool) (all : List Listener) (first next : ℕ)

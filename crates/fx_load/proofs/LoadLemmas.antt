@@ -1,5 +1,5 @@
 -- Loading step by step: what each step says is told on.
-use Rattle.std.proofs.Common.{◌≡◌, ◌≤◌, ℕ, ◌+◌, List, [], ◌∷◌, ◌++◌, Result, Ok, Err, IsErrAnd, map, length, length-append, append_assoc, ap, ◌∙◌, refl, sym, subst, arith}
+use Rattle.std.proofs.Common.{◌≡◌, ℕ, ◌+◌, List, [], ◌∷◌, ◌++◌, Result, Ok, Err, IsErrAnd, map, length, sym, subst}
 use Rattle.std.specs.Prelude.{IfErr, IfOk}
 use Rattle.fx_css_types.specs.declared.sheets.Sheet.{Sheet}
 use Rattle.fx_doc_grammar.specs.Grammar.{Reading}
@@ -14,7 +14,6 @@ use Rattle.fx_load_parts.specs.Sheets.{AreSheets}
 use Rattle.fx_load_parts.specs.Views.{fault_of}
 use Rattle.fx_load_parts.specs.declared.files.LoadError.{LoadError}
 use Rattle.fx_load_parts.specs.declared.files.LoadError.TheVariants as load
-use Rattle.fx_port.specs.Causes.{HasCause}
 use Rattle.fx_port.specs.Files.{Files}
 use Rattle.fx_port.specs.declared.files.FetchError.{FetchError}
 use Rattle.fx_port.specs.declared.files.FetchError.TheVariants as fetch
@@ -89,20 +88,6 @@ fetch_stops run files fetch.Failed (Err e) at =
     subst (λ (x : LoadError). SaysSuch {A = Held} loaded_of (IsElaborated run files) (Err x)) (sym at) tt
 fetch_stops run files fetch.Memory (Err e) at =
     subst (λ (x : LoadError). SaysSuch {A = Held} loaded_of (IsElaborated run files) (Err x)) (sym at) tt
-
--- it has the cause that a failed load has
-pub fetch_cause : {T : Type 0} (first before now : ℕ) (error : FetchError) (result : Result Held LoadError)
-    → first ≤ before → HasCause {T = T} fetch.Failed before now (Err error)
-    → IsErrAnd result (λ e. e ≡ load_error error) → HasCause load.Failed first now result
-fetch_cause first before now error (Ok loaded) earlier cause at = absurd at
-fetch_cause first before now fetch.Failed (Err e) earlier cause at = record {
-  later = omega (arith, earlier, cause.later);
-  rose = λ same. let rose = cause.rose refl in omega (arith, earlier, rose);
-}
-fetch_cause first before now fetch.Memory (Err e) earlier cause at = record {
-  later = omega (arith, earlier, cause.later);
-  rose = λ same. absurd (cc);
-}
 
 pub all_loaded : (run : Run) (files : Files) (lines : List Numbered) (sheets : List Sheet) (document : Reading)
     (loaded : Loaded) (names now : List (List ℕ)) (before tasks : List Task) → script_in files run.script ≡ Ok lines

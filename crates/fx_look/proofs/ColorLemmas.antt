@@ -22,7 +22,6 @@ use Rattle.fx_look.specs.ColorNames.{names}
 use Rattle.fx_look.specs.Colors.{color, solid, same_letters, IsNamed, IsHexDigit, IsHex, short, long, shared, IsArgument, IsChannel, IsOpacity, IsRgb, IsRgba, IsColor, hexadecimal, rgb, rgba, transparent, named, entry_at, strip, pair_value, twice_value, three, hex_at, before_mark, argument_at, channel_value, opacity_value, channel_at, opacity_at, ended, rgb_at, rgba_at, word_at, color_at}
 use Rattle.fx_look.specs.Rounding.{digits_of, leading}
 use Rattle.fx_look.proofs.RoundingLemmas.{quotient, leading_front, leading_all}
-use Rattle.std.proofs.Math.Nat.{pow-le-pow_right}
 use Rattle.fx_look.proofs.DecimalLemmas.{goes_on, decimal_sound, decimal_complete, begins, begins_digits}
 
 -- hexadecimal colours
@@ -466,6 +465,3 @@ opacity_found d below lead above r few sign e bound f g h =
     let all : leading (d.whole ++ d.fraction) (length d.whole + length d.fraction) ≡ number_of_digits (d.whole ++ d.fraction) = ap (leading (d.whole ++ d.fraction)) long ∙ leading_all (d.whole ++ d.fraction) in
     let value : above ≡ min (number_of_digits (d.whole ++ d.fraction)) below = omega (arith, all) in
     rw (none, sign, h, value, e) refl
-
-pub ten_bound : (n : ℕ) → n ≤ 9 → 10 ^ n ≤ 1000000000
-ten_bound n few = let p : 10 ^ n ≤ 10 ^ 9 = pow-le-pow_right (omega arith) few in omega (arith, p)

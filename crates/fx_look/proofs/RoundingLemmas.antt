@@ -240,11 +240,6 @@ drop_parts (x ∷ xs) ys (suc n) = let left : n - length xs ≡ suc n - length (
 pub any_parts : (xs ys : List ℕ) (n : ℕ) → list_any (nat_lt 48) (drop n (xs ++ ys)) ≡ (list_any (nat_lt 48) (drop n xs) || list_any (nat_lt 48) (drop (n - length xs) ys))
 any_parts xs ys n = ap (list_any (nat_lt 48)) (drop_parts xs ys n) ∙ list_any-append (nat_lt 48) (drop n xs) (drop (n - length xs) ys)
 
-pub any_front : (xs ys front : List ℕ) (n : ℕ) → front ≡ drop n xs → true ≡ list_any (nat_lt 48) front → true ≡ list_any (nat_lt 48) (drop n (xs ++ ys))
-any_front xs ys front n e f =
-    let g : list_any (nat_lt 48) (drop n xs) ≡ true = sym (ap (list_any (nat_lt 48)) e) ∙ sym f in
-    sym (any_parts xs ys n ∙ rw g refl)
-
 pub any_back : (xs ys front back : List ℕ) (n m : ℕ) → front ≡ drop n xs → false ≡ list_any (nat_lt 48) front → m ≡ n - length xs → back ≡ drop m ys → list_any (nat_lt 48) back ≡ list_any (nat_lt 48) (drop n (xs ++ ys))
 any_back xs ys front back n m e f g h =
     let none : list_any (nat_lt 48) (drop n xs) ≡ false = sym (ap (list_any (nat_lt 48)) e) ∙ sym f in

@@ -1,6 +1,6 @@
 -- A search visits fewer and fewer names that weren't visited, so its number of steps suffices.
-use Rattle.std.proofs.Common.{◌≡◌, ◌<◌, ◌≤◌, ◌+◌, ◌++◌, ◌∷◌, [], ℕ, zero, suc, Bool, true, false, cond, not, ◌||◌, List, Option, Some, None, map, length, refl, sym, ap, ◌∙◌, subst, inl, inr, arith, Bor}
-use Rattle.std.specs.List.{list_any, flat_map, count_by}
+use Rattle.std.proofs.Common.{◌≡◌, ◌<◌, ◌≤◌, ◌+◌, ◌++◌, ◌∷◌, [], ℕ, zero, suc, Bool, true, false, cond, ◌||◌, List, Option, Some, None, map, length, refl, sym, ap, ◌∙◌, subst, inl, inr, arith, Bor}
+use Rattle.std.specs.List.{list_any}
 use Rattle.std.specs.Str.{bytes_eq}
 use Rattle.std.proofs.lemmas.Bool.{cases_Bool}
 use Rattle.std.proofs.lemmas.List.{map-append}
@@ -171,9 +171,6 @@ pub came_back : (k : ℕ) (chain : List (List NamedPaint)) (visited : List (List
 unfolding resolved_in
 came_back k chain visited current was =
     ap (λ (b : Bool). cond b None (along (nearest chain current) (resolved_in k chain (visited ++ current ∷ [])))) was
-
-steps_left : List (List NamedPaint) → List (List ℕ) → ℕ
-steps_left chain visited = left_of visited (names_in chain)
 
 pub ends_back : (chain : List (List NamedPaint)) (visited : List (List ℕ)) (current name : List ℕ)
     → GoesOn chain visited current name → has_name visited current ≡ true → None ≡ resolved chain name

@@ -1,5 +1,5 @@
 -- Each way in which a run ends.
-use Rattle.std.proofs.Common.{◌≡◌, ◌⊎◌, inl, inr, ℕ, List, [], Option, Some, None, IsSome, Result, Ok, Err, append-nil, ap, sym, subst, refl, arith}
+use Rattle.std.proofs.Common.{◌≡◌, ◌⊎◌, inl, inr, ℕ, List, [], Option, Some, Result, Ok, Err, append-nil, ap, sym, subst, refl, arith}
 use Rattle.fx_load.specs.Loading.{IsElaborated, Loaded}
 use Rattle.fx_load.specs.Loads.{loaded_of}
 use Rattle.fx_load.specs.declared.loading.Loaded.{Loaded as Held}
@@ -9,8 +9,7 @@ use Rattle.fx_load_parts.specs.Says.{SaysSuch}
 use Rattle.fx_load_parts.specs.Views.{fault_of}
 use Rattle.fx_load_parts.specs.declared.files.LoadError.{LoadError}
 use Rattle.fx_load_parts.specs.declared.files.LoadError.TheVariants as load
-use Rattle.fx_frame_text.specs.declared.forms.Form.{Form}
-use Rattle.fx_plain.specs.CommandLine.{Plan, Plays, PlaysDemo, ShowsUsage, manner_of, plan_of, played}
+use Rattle.fx_plain.specs.CommandLine.{Plan, Plays, PlaysDemo, ShowsUsage, played}
 use Rattle.fx_plain.specs.Demos.{demo_files, demo_run}
 use Rattle.fx_plain.specs.PlainPlayer.{IsAnswer, IsOutput, IsOutputOfLoaded, IsOver, IsWithin, Output, all_lines, files_at_fault, files_loaded, first_lines, nothing_written, part_written, refused_with, scene_at_fault, scene_fault, script_played, usage_told}
 use Rattle.fx_plain.specs.declared.answers.Status.{Status}
@@ -27,8 +26,6 @@ use Rattle.fx_port.specs.declared.pieces.PutError.TheVariants as put
 use Rattle.fx_scene_acts.specs.declared.tasks.SceneFault.{SceneFault}
 use Rattle.fx_scene_raise.specs.declared.errors.RaiseError.{RaiseError}
 use Rattle.fx_scene_raise.specs.declared.errors.RaiseError.TheVariants as raise
-use Rattle.fx_words.specs.declared.runs.Run.{Run as Asked}
-use Rattle.fx_words.specs.declared.runs.Source.{Source}
 use Rattle.fx_words.specs.declared.runs.Source.TheVariants as source
 use Rattle.fx_play.specs.Ends.{IsDemoPlayed, IsIdle, IsLoadedPlayed, IsPlayed, IsTold, IsUnloadedTold, IsUnstagedTold, IsWithinLoaded, ended_as, none_written, some_written}
 
@@ -332,18 +329,6 @@ completes fetches_old fetches_new puts_old puts_new Refused read write quiet sti
 completes fetches_old fetches_new puts_old puts_new ReadFault read write quiet still = absurd (quiet (read refl))
 completes fetches_old fetches_new puts_old puts_new WriteFault read write quiet still = absurd (still (write refl))
 completes fetches_old fetches_new puts_old puts_new NoMemory read write quiet still = inr refl
-
-plays_something : (source : Source) (manner : Manner) → ¬ (played source manner ≡ ShowsUsage)
-plays_something (source.Demo number) manner e = cc
-plays_something (source.Files scene script sheets) manner e = cc
-
-pub asks_for_none : (asked : Option Asked) → plan_of asked ≡ ShowsUsage → asked ≡ None
-asks_for_none None e = refl
-asks_for_none (Some run) e = absurd (plays_something run.source (manner_of run) e)
-
-pub asks_for_some : (asked : Option Asked) → ¬ (plan_of asked ≡ ShowsUsage) → IsSome asked
-asks_for_some None shows = absurd (shows refl)
-asks_for_some (Some run) shows = refl
 
 -- one plan is another
 pub within_as : {plan other : Plan} (told : Option Files) {old new : Option (List ℕ)} → plan ≡ other

@@ -16,7 +16,6 @@ use Rattle.fx_play_steps.specs.declared.traces.Trace.{Trace}
 use Rattle.fx_pulse.specs.Rendering.{Rendering, last_frame, surface_of}
 use Rattle.fx_pulse.specs.declared.renderer.Frame.{Frame}
 use Rattle.fx_pulse_kept.specs.Costs.{AreFew}
-use Rattle.fx_pulse_kept.specs.Keeping.{Keeping}
 use Rattle.fx_pulse_model.specs.Frames.{Framed, IsFrame, frame_damage}
 use Rattle.fx_pulse_model.specs.Scenes.{Scene, looks_of}
 use Rattle.fx_stage_facts.specs.Attached.{look_cost, looked}
@@ -30,21 +29,6 @@ use Rattle.fx_play_frames.specs.Drawn.{IsDrawWork, IsDrawnAs, framed_as, pulsed_
 use Rattle.fx_play_frames.specs.Resting.{IsAtRest, size_of}
 use Rattle.fx_play_frames.specs.declared.pulses.Pulsed.{Pulsed}
 use Rattle.fx_play_frames.proofs.DrawnLemmas.{drawn_as, facts_window, last_in}
-
--- a renderer that shows the same, of the same scene, is at rest where the other is
-pub rest_kept : (world : World) (old new : Rendering) → new.kept ≡ old.kept → new.rects ≡ old.rects
-    → (surface_of new.canvas).width ≡ (surface_of old.canvas).width
-    → (surface_of new.canvas).height ≡ (surface_of old.canvas).height → IsAtRest world old → IsAtRest world new
-rest_kept world old new kept rects wide high rest =
-    let size : size_of new ≡ size_of old = ap₂ (λ (w h : ℕ). (w, h)) wide high in
-    record {
-      scene = ap (λ (k : Keeping). k.last) kept ∙ rest.scene;
-      again = ap₂
-          (λ (s : ℕ × ℕ) (rs : List Rect). published s (sizes_of (box_facts world) rs) (looked world)) size rects
-          ∙ rest.again;
-      told = ap (λ (rs : List Rect). (sized (sizes_of (box_facts world) rs) (looked world)).notices) rects
-          ∙ rest.told;
-    }
 
 -- the world behind the frame has the scene that was drawn, which was read and published already
 pub rests_behind : (before mid now : World) (seen : Rendering) (wide high : ℕ) (boxes : List BoxFacts)

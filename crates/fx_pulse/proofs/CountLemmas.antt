@@ -1,18 +1,12 @@
 -- Children are counted one node after another.
-use Rattle.std.proofs.Common.{refl, sym, ap, subst, ◌∙◌, ◌≡◌, ℕ, ◌+◌, ◌<◌, ◌≤◌, Bool, true, false, List, length, replicate, set, take, nat_eq, None, Some, inl, inr, arith}
+use Rattle.std.proofs.Common.{refl, sym, ap, subst, ◌∙◌, ◌≡◌, ℕ, ◌+◌, ◌<◌, Bool, true, false, List, length, set, take, nat_eq, None, Some, inl, inr, arith}
 use Rattle.std.specs.Prelude.{count_by, slice_index}
 use Rattle.std.proofs.lemmas.Bool.{cases_order, eq-eqb}
 use Rattle.std.proofs.lemmas.Bool.Decides.{Decides-eqb}
-use Rattle.std.proofs.lemmas.List.{get_or-replicate, get_or-set_other, get_or-set_same, length-replicate, length-set, length-take-le}
-use Rattle.std.proofs.lemmas.List.Sums.{count_by-le-length, count_by_more_no, count_by_more_yes}
+use Rattle.std.proofs.lemmas.List.{get_or-set_other, get_or-set_same, length-set}
+use Rattle.std.proofs.lemmas.List.Sums.{count_by_more_no, count_by_more_yes}
 use Rattle.fx_layout_sweeps.specs.Nodes.{Parents, is_place, parent_at}
 use Rattle.fx_pulse.specs.Drawing.{AreCounts}
-
-pub counts_first : (ups : Parents) (count : ℕ) → count ≡ length ups → AreCounts ups (replicate count 0) 0
-counts_first ups count long = record {
-  each = length-replicate count 0 ∙ long;
-  counted = λ p within. get_or-replicate count p 0 0 (omega (arith, within, long));
-}
 
 pub counts_none : (ups : Parents) (counts : List ℕ) (k : ℕ) → k < length ups → parent_at ups k ≡ None
     → AreCounts ups counts k → AreCounts ups counts (k + 1)
@@ -54,10 +48,3 @@ counts_some ups counts k q within there is are = record {
         get_or-set_other counts q p (slice_index counts q + 1) 0 differ
         ∙ (are.counted p few
         ∙ sym (count_by_more_no (is_place p) ups k None within (ap (is_place p) is ∙ no p q differ)))
-
--- no more children than nodes so far
-pub counts_few : (ups : Parents) (counts : List ℕ) (k p : ℕ) → k ≤ length ups → p < length ups → AreCounts ups counts k
-    → slice_index counts p ≤ k
-counts_few ups counts k p within there are =
-    let few = count_by-le-length (is_place p) (take k ups) in
-    omega (arith, few, are.counted p there, length-take-le k ups within)

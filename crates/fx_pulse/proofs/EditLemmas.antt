@@ -148,14 +148,6 @@ among_more (p ∷ ps) k i is = by (p == i) (among_more ps k i) is
     by true rest t = inl refl
     by false rest t = rest t
 
--- ---- one node after another
-pub edit_none : (d : Drawn) (olds : List Entry) → IsEditedUpTo d olds 0 [] 0
-edit_none d olds = record {
-  counted = refl;
-  within = record { rise = tt; within = λ k is. absurd (true≢false (sym is)) };
-  made = λ i less e. absurd (omega (arith, less));
-}
-
 pub edit_skip : (d : Drawn) (olds : List Entry) (k : ℕ) (es : List Edit) (next : ℕ) → shows d k ≡ false
     → IsEditedUpTo d olds k es next → IsEditedUpTo d olds (k + 1) es next
 edit_skip d olds k es next hidden so =

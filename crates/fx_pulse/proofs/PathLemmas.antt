@@ -1,5 +1,5 @@
 -- The next path and the next counts, by the parent of a node.
-use Rattle.std.proofs.Common.{sym, ap, ◌∙◌, ◌≡◌, ℕ, ◌+◌, ◌<◌, ◌≤◌, ◌++◌, List, [], ◌∷◌, get_or, length, set, None, Some, arith}
+use Rattle.std.proofs.Common.{sym, ap, ◌∙◌, ◌≡◌, ℕ, ◌+◌, ◌<◌, ◌++◌, List, [], ◌∷◌, get_or, length, set, None, Some, arith}
 use Rattle.std.specs.Prelude.{slice_index}
 use Rattle.fx_kinds.specs.declared.facts.BoxFacts.{BoxFacts}
 use Rattle.fx_layout_sweeps.specs.Nodes.{IsTree, node_at, parents}
@@ -7,7 +7,7 @@ use Rattle.fx_pulse_model.specs.Lines.{path_of}
 use Rattle.fx_pulse_model.proofs.LineLemmas.{before, path_child, path_root}
 use Rattle.fx_pulse.specs.Drawing.{AreCounts}
 use Rattle.fx_pulse_touched.specs.Marks.{told}
-use Rattle.fx_pulse.proofs.CountLemmas.{counts_few, counts_none, counts_some}
+use Rattle.fx_pulse.proofs.CountLemmas.{counts_none, counts_some}
 use Rattle.fx_pulse_touched.proofs.ToldLemmas.{long, read, told_at}
 
 pub parent_before : (boxes : List BoxFacts) (k p : ℕ) → IsTree (parents boxes) → k < length boxes
@@ -20,15 +20,6 @@ pub parent_there : (boxes : List BoxFacts) (k p : ℕ) (counts : List ℕ) → I
 parent_there boxes k p counts tree within is are =
     let less = parent_before boxes k p tree within is in
     omega (arith, less, within, are.each, long boxes)
-
-pub child_few : (boxes : List BoxFacts) (k p : ℕ) (counts : List ℕ) → IsTree (parents boxes) → k < length boxes
-    → length boxes ≤ 4096 → (node_at boxes k).parent ≡ Some p → AreCounts (parents boxes) counts k
-    → slice_index counts p < 4096
-child_few boxes k p counts tree within few is are =
-    let less = parent_before boxes k p tree within is in
-    let most = counts_few (parents boxes) counts k p (omega (arith, within, long boxes))
-    (omega (arith, less, within, long boxes)) are in
-    omega (arith, most, within, few)
 
 pub path_none : (boxes : List BoxFacts) (k : ℕ) → k < length boxes → (node_at boxes k).parent ≡ None
     → [] ≡ path_of (parents boxes) k

@@ -1,7 +1,6 @@
 -- What is shown after a frame: the canvas follows the pictures.
 use Rattle.std.proofs.Common.{sym, ap, subst, ◌∙◌, ◌≡◌, ℕ, ◌&&◌, Bool, true, false, cond, List, max, min, nat_eq, nat_le, Option, Some, None, arith}
 use Rattle.std.specs.Prelude.{Err, IfOk, IfSome, OnOk, Ok, Result}
-use Rattle.std.specs.Option.{option_map}
 use Rattle.std.specs.List.{list_all}
 use Rattle.std.proofs.lemmas.Bool.{and_from, true≢false}
 use Rattle.std.proofs.lemmas.Bool.Decides.{nat_tests}
@@ -18,7 +17,7 @@ use Rattle.fx_canvas.specs.Surfaces.{Surface, is_size, lies_in}
 use Rattle.fx_canvas_laws.specs.Frames.{IsRepainted, Shows}
 use Rattle.fx_canvas_laws.proofs.Following.{following}
 use Rattle.fx_canvas_laws.proofs.Lying.{lying}
-use Rattle.fx_pulse_model.specs.Frames.{Framed, IsFrame, drawn_in, frame_damage, has_size}
+use Rattle.fx_pulse_model.specs.Frames.{IsFrame, drawn_in, frame_damage, has_size}
 use Rattle.fx_pulse_model.specs.Scenes.{IsScene, Scene, looks_of}
 use Rattle.fx_pulse_model.proofs.PictureLemmas.{differ, rises}
 use Rattle.fx_pulse.specs.Rendering.{IsShown, Rendering, last_frame, surface_of}
@@ -96,11 +95,6 @@ damage_next r nows w h = by r.canvas
         ≡ frame_damage (last_frame (record r { canvas = canvas })) nows w h
     by None e = absurd (true≢false (sym e))
     by (Some s) e = sym (ap (λ b. damage (cond b (Some r.picture) None) nows w h) e)
-
-pub damage_first : (r : Rendering) (nows : List Entry) (w h : ℕ) → has_size (last_frame r) w h ≡ false
-    → damage None nows w h ≡ frame_damage (last_frame r) nows w h
-damage_first r nows w h other =
-    sym (ap (λ b. damage (cond b (option_map (λ (f : Framed). f.picture) (last_frame r)) None) nows w h) other)
 
 -- every rectangle of the damage lies in the window
 pub lies : (olds : Option (List Entry)) (nows : List Entry) (rects : List Rect) (v g w h : ℕ) → v ≡ w → g ≡ h

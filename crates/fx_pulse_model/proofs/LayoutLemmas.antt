@@ -1,11 +1,8 @@
 -- Layouts of all nodes anew, the sizes of their roots, and rectangles that are near.
-use Rattle.std.proofs.Common.{refl, sym, ap, subst, ◌∙◌, ◌≡◌, ◌≤ℤ◌, ℕ, ℤ, pos, negsuc, ◌<◌, ◌≤◌, ◌+◌, ◌==◌, true, List, length, min, Option, Some, None, inl, inr, arith, zero-add}
-use Rattle.std.specs.List.{range_with_len}
-use Rattle.std.proofs.lemmas.Bool.{cases_lt, eq-eqb}
+use Rattle.std.proofs.Common.{sym, ap, subst, ◌∙◌, ◌≡◌, ◌≤ℤ◌, ℕ, ℤ, pos, negsuc, ◌<◌, ◌≤◌, List, length, min, Option, Some, None, inl, inr, arith}
+use Rattle.std.proofs.lemmas.Bool.{cases_lt}
 use Rattle.std.proofs.lemmas.Int.{ints}
 use Rattle.std.proofs.lemmas.List.{get_or_past}
-use Rattle.std.proofs.lemmas.List.Folds.{list_any_at}
-use Rattle.std.proofs.lemmas.List.FromFn.{get_or-range_with_len, length-range_with_len}
 use Rattle.fx_base.specs.declared.geometry.Rect.{Rect}
 use Rattle.fx_kinds.specs.declared.facts.BoxFacts.{BoxFacts}
 use Rattle.fx_look.specs.declared.looks.Look.{Look}
@@ -14,21 +11,7 @@ use Rattle.fx_panes_parts.specs.declared.axes.Span.{Span}
 use Rattle.fx_shapes.specs.Rects.{IsNear}
 use Rattle.fx_layout_sweeps.specs.Nodes.{extent_at, node_at, span_at}
 use Rattle.fx_layout.specs.Layouts.{IsLayout}
-use Rattle.fx_layout.specs.Updates.{AreRects, IsUpdate, Kept, around, corner, from_corner, is_listed, reached, rect_at, root_length, root_size, shifted}
-use Rattle.fx_layout.proofs.Agree.{anew_is}
-
-pub all_listed : (n p : ℕ) → p < n → is_listed (range_with_len 0 n) p ≡ true
-all_listed n p within =
-    let long = length-range_with_len 0 n in
-    let at : p ≡ 0 + p = sym (zero-add p) in
-    list_any_at (λ (place : ℕ). place == p) (range_with_len 0 n) p 0 (omega (arith, within, long))
-    (ap (λ place. place == p) (get_or-range_with_len 0 n p 0 within ∙ zero-add p) ∙ eq-eqb p p refl)
-
-pub laid_anew : (nodes : List BoxFacts) (looks : List Look) (window : Option (ℕ × ℕ)) (old new : Kept)
-    → IsUpdate old nodes looks window (range_with_len 0 (length nodes)) new → IsLayout nodes looks window new
-laid_anew nodes looks window old new update =
-    anew_is nodes looks window (range_with_len 0 (length nodes)) old new
-    (λ p within. all_listed (length nodes) p within) update
+use Rattle.fx_layout.specs.Updates.{AreRects, Kept, around, corner, from_corner, reached, rect_at, root_length, root_size, shifted}
 
 -- ---- rectangles
 reached_low : (z : ℤ) → negsuc 999999999999 ≤ℤ reached z

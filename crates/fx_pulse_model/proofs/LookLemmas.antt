@@ -1,9 +1,8 @@
 -- An update of which nothing was kept gives each node its look from nothing.
-use Rattle.std.proofs.Common.{sym, ap, ◌∙◌, ◌≡◌, ℕ, ◌<◌, List, [], get_or, length, map, slice_get, Option, Some, None, inl, inr, arith, zero-add}
+use Rattle.std.proofs.Common.{sym, ap, ◌∙◌, ◌≡◌, ℕ, ◌<◌, List, [], get_or, length, slice_get, Option, Some, None, inl, inr, arith}
 use Rattle.std.specs.Option.{option_and_then, option_map, option_map_or}
-use Rattle.std.specs.List.{range_with_len}
-use Rattle.std.proofs.lemmas.List.{ext_get_or, length-map}
-use Rattle.std.proofs.lemmas.List.FromFn.{get_or-map-range_with_len, length-map-range_with_len}
+use Rattle.std.proofs.lemmas.List.{length-map}
+use Rattle.std.proofs.lemmas.List.FromFn.{length-map-range_with_len}
 use Rattle.std.proofs.lemmas.Option.{slice_get-get_or, slice_get_cases}
 use Rattle.fx_base.specs.declared.keys.NodeKey.{NodeKey}
 use Rattle.fx_kinds.specs.declared.facts.BoxFacts.{BoxFacts}
@@ -11,12 +10,10 @@ use Rattle.fx_kinds.specs.declared.facts.StyleFacts.{StyleFacts}
 use Rattle.fx_look.specs.declared.looks.Look.{Look}
 use Rattle.fx_look.specs.Looks.{initial_look}
 use Rattle.fx_node_style.specs.declared.node_styles.NodeStyle.{NodeStyle}
-use Rattle.fx_select.specs.Chains.{ParentsStandBefore}
 use Rattle.fx_style.specs.declared.kept.Entry.{Entry}
 use Rattle.fx_style.specs.declared.kept.Rest.{Rest}
 use Rattle.fx_style.specs.Kept.{Kept, entry, entry_in, joined, kept_under}
-use Rattle.fx_style.specs.Rules.{IsUpdate, kept_of, style_of}
-use Rattle.fx_style.proofs.UpdateLemmas.{from_nothing}
+use Rattle.fx_style.specs.Rules.{kept_of, style_of}
 use Rattle.fx_pulse_model.specs.Scenes.{IsScene, Scene, look_in, looks_of}
 
 -- what is kept before the first update
@@ -56,27 +53,6 @@ looked looks rest at key o within there is =
           (sym (ap (λ l. joined l (slice_get rest at)) here ∙ ap (λ s. joined (Some look) s) found) ∙ is)
       | inr (past, none) ↦ absurd (omega (arith, past, there))
     ]
-
-pub looks_anew : (scene : Scene) (new : Kept) → ParentsStandBefore scene.styles
-    → IsUpdate scene.sheets scene.styles [] nothing new → new.looks ≡ looks_of scene
-looks_anew scene new before update =
-    let n = length scene.styles in
-    let look : ℕ → Look = λ k. look_in (style_of scene.sheets scene.styles k) in
-    ext_get_or (initial_look 0) new.looks (map look (range_with_len 0 n))
-    (update.looks ∙ sym (length-map-range_with_len look 0 n))
-    (λ i within. (
-    let inside : i < n = omega (arith, within, update.looks) in
-    elim (slice_get_cases scene.styles i).1 [
-      | inl (node, few, found, same) ↦ (
-          looked new.looks new.rest i node.key (style_of scene.sheets scene.styles i) within
-          (omega (arith, inside, update.rest))
-          (update.each i node found
-          ∙ ap (option_map (entry node.key))
-          (from_nothing scene.sheets scene.styles [] (kept_of nothing scene.styles) before
-          (λ at few free style is. absurd (none_kept scene.styles at style is)) i inside))
-          ∙ sym (get_or-map-range_with_len look 0 n i i (initial_look 0) inside (zero-add i)))
-      | inr (past, none) ↦ absurd (omega (arith, past, inside))
-    ]))
 
 pub looks_long : (scene : Scene) → IsScene scene → length (looks_of scene) ≡ length scene.boxes
 looks_long scene is =

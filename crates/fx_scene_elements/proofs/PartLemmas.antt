@@ -1,6 +1,5 @@
 -- What the parts of a property element ask for, one part more at a time.
-use Rattle.std.proofs.Common.{◌≡◌, ◌<◌, ◌≤◌, ◌||◌, ℕ, ◌+◌, Bool, List, [], ◌∷◌, ◌++◌, length, get_or, take, drop, vec_len, Vec, Global, refl, sym, ◌∙◌, ap, subst, append_assoc, arith}
-use Rattle.std.proofs.lemmas.List.{length-append}
+use Rattle.std.proofs.Common.{◌≡◌, ◌<◌, ◌||◌, ℕ, ◌+◌, Bool, List, ◌++◌, length, get_or, take, vec_len, Vec, Global, refl, sym, ◌∙◌, ap, append_assoc}
 use Rattle.std.proofs.lemmas.List.Folds.{list_any-append}
 use Rattle.fx_base.specs.declared.facts.Track.{Track as Constraint}
 use Rattle.fx_base.specs.declared.positions.Position.{Position}
@@ -92,26 +91,8 @@ held_names_more scope node name target first_names content i x first names next 
 
 -- whether a node is read before anything behind acts, of which some stand before the others
 
-drop_first : {A : Type 0} (first more : List A) → drop (length first) (first ++ more) ≡ more
-drop_first [] more = refl
-drop_first (x ∷ first) more = drop_first first more
-
 length_of : (v : Vec Act Global) → vec_len v ≡ length v.items
 length_of v = cc
-
-pub added_stops : (old : Vec Act Global) (from : ℕ) (new more : List Act) (answer : Bool) → from ≡ vec_len old
-    → new ≡ old.items ++ more → answer ≡ stops (drop from new) → answer ≡ stops more
-added_stops old from new more answer counted added told =
-    told
-    ∙ (ap (λ n. stops (drop n new)) (counted ∙ length_of old)
-    ∙ (ap (λ acts. stops (drop (length old.items) acts)) added ∙ ap stops (drop_first old.items more)))
-
-pub added_from : (old : Vec Act Global) (from : ℕ) (new more : List Act) → from ≡ vec_len old
-    → new ≡ old.items ++ more → from ≤ length new
-added_from old from new more counted added =
-    subst (λ acts. from ≤ length acts) (sym added)
-    (subst (λ n. from ≤ n) (sym (length-append old.items more))
-    (let start : from ≡ length old.items = counted ∙ length_of old in omega (arith, start)))
 
 -- lists
 

@@ -1,5 +1,5 @@
 -- What parts of a document add, one part more at a time.
-use Rattle.std.proofs.Common.{vec_len, Vec, Global, ◌≡◌, ◌<◌, ℕ, ◌+◌, List, [], ◌∷◌, ◌++◌, length, get_or, take, Option, sym, ◌∙◌, ap, refl, append_assoc, eqb}
+use Rattle.std.proofs.Common.{vec_len, Vec, Global, ◌≡◌, ◌<◌, ℕ, ◌+◌, List, [], ◌∷◌, ◌++◌, length, get_or, take, sym, ◌∙◌, ap, refl, append_assoc, eqb}
 use Rattle.std.proofs.lemmas.List.{length-append, length-map, take_more}
 use Rattle.fx_doc_grammar.specs.Grammar.{Nodes, Nothing}
 use Rattle.fx_doc_grammar.specs.Machine.{is_nothing}
@@ -11,10 +11,10 @@ use Rattle.fx_doc_runs.specs.declared.document.Content.TheViews as w
 use Rattle.fx_doc_runs.specs.declared.document.Element.{Element}
 use Rattle.fx_doc_runs.proofs.Trees.{element_node, nodes_of_push, nothing_is}
 use Rattle.fx_scene_outline.specs.Edges.{earlier_in}
-use Rattle.fx_scene_outline.specs.Entries.{Entry, listed}
-use Rattle.fx_scene_outline.specs.Outlines.{edge_flaws, pieces, root_pieces}
+use Rattle.fx_scene_outline.specs.Entries.{listed}
+use Rattle.fx_scene_outline.specs.Outlines.{pieces, root_pieces}
 use Rattle.fx_scene_outline.specs.Pieces.{Piece as PlainPiece}
-use Rattle.fx_scene_outline.specs.Views.{behind_part, content_of, element_pieces, head_of, inside_pieces, part_pieces, piece_view, shown}
+use Rattle.fx_scene_outline.specs.Views.{behind_part, content_of, element_pieces, head_of, part_pieces, piece_view, shown}
 use Rattle.fx_scene_outline.specs.declared.edges.Earlier.{Earlier}
 use Rattle.fx_scene_outline.specs.declared.pieces.Piece.{Piece}
 use Rattle.fx_scene_outline.specs.declared.pieces.Room.{Room}
@@ -98,27 +98,6 @@ part_more room content i x earlier old now new h is so_far before more =
     ∙ (append_assoc (shown old) done (part_pieces room (length old + length done) (earlier_in (nodes_of (take i content))) (onto x Nothing))
     ∙ (ap (λ ps. shown old ++ ps) (sym (joined room (length old) (nodes_of (take i content)) x))
     ∙ ap (λ n. shown old ++ pieces room (length old) n) (sym (nodes_more content i x h is)))))))
-
--- an element that was entered, and its content
-pub entered_then : (e : Element) (entered : Entry) (inside : Option Room) (old now new : List Piece)
-    → shown now ≡ shown old ++ entered.front → inside ≡ entered.room
-    → shown new ≡ shown now ++ inside_pieces (length now) e inside
-    → shown new ≡ shown old ++ element_pieces (length old) e entered
-entered_then e entered inside old now new front room more =
-    more
-    ∙ (ap (λ n. shown now ++ inside_pieces n e inside) (counted old now entered.front front)
-    ∙ (ap (λ r. shown now ++ inside_pieces (length old + length entered.front) e r) room
-    ∙ (ap (λ ps. ps ++ inside_pieces (length old + length entered.front) e entered.room) front
-    ∙ append_assoc (shown old) entered.front (inside_pieces (length old + length entered.front) e entered.room))))
-
--- content, and what is wrong where it lacks some
-pub content_then : (e : Element) (room : Room) (old now new : List Piece)
-    → shown now ≡ shown old ++ pieces room (length old) (content_of e)
-    → shown new ≡ shown now ++ edge_flaws room (head_of e).position (content_of e)
-    → shown new ≡ shown old ++ (pieces room (length old) (content_of e) ++ edge_flaws room (head_of e).position (content_of e))
-content_then e room old now new content more =
-    more ∙ (ap (λ ps. ps ++ edge_flaws room (head_of e).position (content_of e)) content
-    ∙ append_assoc (shown old) (pieces room (length old) (content_of e)) (edge_flaws room (head_of e).position (content_of e)))
 
 -- the root by itself
 root_is : (e : Element) → element_pieces 0 e (listed 0 Root (head_of e) (content_of e)) ≡ root_pieces (onto_element e Nothing)

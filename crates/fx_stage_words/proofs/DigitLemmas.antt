@@ -1,6 +1,6 @@
 -- Numbers as far as 32 bits hold them.
-use Rattle.std.proofs.Common.{◌≡◌, ◌<◌, ◌≤◌, ◌+◌, ◌-◌, ◌*◌, ℕ, min, Bool, true, false, cond, leb, ◌&&◌, List, [], ◌∷◌, length, get_or, take, Option, Some, None, refl, sym, ◌∙◌, ap, arith, inl, inr}
-use Rattle.std.proofs.lemmas.Bool.{cases_lt, leb-true}
+use Rattle.std.proofs.Common.{◌≡◌, ◌<◌, ◌≤◌, ◌+◌, ◌-◌, ◌*◌, ℕ, min, Bool, true, false, cond, leb, ◌&&◌, List, [], ◌∷◌, length, get_or, take, Option, Some, None, refl, ◌∙◌, ap, arith}
+use Rattle.std.proofs.lemmas.Bool.{leb-true}
 use Rattle.std.proofs.lemmas.List.{take_more}
 use Rattle.fx_text.specs.Digits.{number_of_digits}
 use Rattle.fx_text.proofs.DigitLemmas.{number-append}
@@ -31,10 +31,3 @@ too_long n long = ap (λ (b : Bool). cond b (Some n) None) (and_none (leb 1 n) (
     by_test : (b : Bool) → leb n 2048 ≡ b → b ≡ false
     by_test true e = absurd (let short : n ≤ 2048 = leb-true n 2048 e in omega (arith, short, long))
     by_test false e = refl
-
-pub side_cut : (n : ℕ) → side_or_none (min n 4294967295) ≡ side_or_none n
-side_cut n =
-    elim (cases_lt 2048 n) [
-      | inl long ↦ too_long (min n 4294967295) (omega (arith, long)) ∙ sym (too_long n long)
-      | inr short ↦ let same : min n 4294967295 ≡ n = omega (arith, short) in ap side_or_none same
-    ]

@@ -19,10 +19,6 @@ pub ok_both : {X Y P Q R : Type 0} (r : Result X Y) → (P → Q → R) → OnOk
 ok_both (Ok x) f p q = f p q
 ok_both (Err e) f p q = tt
 
-pub ok_three : {X Y P Q R S : Type 0} (r : Result X Y) → (P → Q → R → S) → OnOk r P → OnOk r Q → OnOk r R → OnOk r S
-ok_three (Ok x) f p q s = f p q s
-ok_three (Err e) f p q s = tt
-
 pub ok_then : {X Y P Q : Type 0} (r : Result X Y) → (P → Q) → OnOk r P → OnOk r Q
 ok_then (Ok x) f p = f p
 ok_then (Err e) f p = tt

@@ -1,9 +1,9 @@
 -- Entries made anew, one after another.
-use Rattle.std.proofs.Common.{◌≡◌, ◌++◌, ◌∷◌, [], ◌<◌, ◌≤◌, ℕ, zero, suc, Bool, true, false, ◌||◌, cond, eqb, List, Option, Some, None, map, get_or, length, replicate, set, refl, sym, ◌∙◌, ap, subst, inl, inr, arith, eq-eqb}
+use Rattle.std.proofs.Common.{◌≡◌, ◌++◌, ◌∷◌, [], ◌<◌, ◌≤◌, ℕ, zero, suc, Bool, true, false, ◌||◌, cond, eqb, List, Option, Some, None, map, get_or, length, set, refl, sym, ◌∙◌, ap, subst, inl, inr, arith, eq-eqb}
 use Rattle.std.specs.Prelude.{slice_get}
 use Rattle.std.specs.Option.{option_map}
-use Rattle.std.proofs.lemmas.Bool.{cases_eq, cases_lt, ne_eqb}
-use Rattle.std.proofs.lemmas.List.{get_or-replicate, get_or-set_other, get_or-set_same, get_or_past, length-replicate, length-set}
+use Rattle.std.proofs.lemmas.Bool.{cases_eq, ne_eqb}
+use Rattle.std.proofs.lemmas.List.{get_or-set_other, get_or-set_same, length-set}
 use Rattle.fx_style.specs.declared.kept.Entry.{Entry}
 use Rattle.fx_style.specs.declared.kept.Fresh.{Fresh}
 use Rattle.fx_base.specs.Answers.{or_else}
@@ -136,27 +136,6 @@ long_more steps at None count = refl
 long_more steps at (Some e) count = length-set steps at (Some count)
 
 -- of places without step
-
-abbrev nones : ℕ → List (Option ℕ)
-nones n = replicate n None
-
-long_nones : (n : ℕ) → length (nones n) ≡ n
-long_nones n = length-replicate n None
-
-pub no_steps : (n : ℕ) → AreSteps [] (replicate n None)
-no_steps n k within =
-    let below : k < n = subst (λ (m : ℕ). k < m) (long_nones n) within in
-    ap (step_entry []) (sym (get_or-replicate n k None None below))
-
-pub no_few : (n : ℕ) → AreFew [] (replicate n None)
-no_few n = record {
-  each = λ k s is. elim (cases_lt k n) [
-    | inl below ↦ absurd (let h : None ≡ Some s = sym (get_or-replicate n k None None below) ∙ is in cc)
-    | inr past ↦ absurd (
-        let beyond : length (nones n) ≤ k = subst (λ (m : ℕ). m ≤ k) (sym (long_nones n)) past in
-        let h : None ≡ Some s = sym (get_or_past (nones n) k None beyond) ∙ is in cc)
-  ];
-}
 
 -- a place that no entry is for
 pub not_among : (fs : List Fresh) (at : ℕ) → is_among (map (λ (f : Fresh). f.at) fs) at ≡ false → fresh_at fs at ≡ None

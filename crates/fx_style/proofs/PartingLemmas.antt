@@ -1,9 +1,9 @@
 -- The nodes of an update apart, one after another.
-use Rattle.std.proofs.Common.{◌≡◌, ◌++◌, ◌∷◌, [], ◌<◌, ◌≤◌, ◌+◌, ℕ, Bool, true, false, ◌||◌, eqb, List, Option, Some, None, Result, Ok, Err, get_or, set, take, length, refl, sym, ◌∙◌, ap, subst, arith, inl, inr, eq-eqb}
-use Rattle.std.specs.Prelude.{slice_get, is_some, IfOk, IfSome, option_and_then}
+use Rattle.std.proofs.Common.{◌≡◌, ◌++◌, ◌∷◌, [], ◌<◌, ◌≤◌, ◌+◌, ℕ, Bool, true, false, ◌||◌, eqb, List, Option, Some, None, Result, Ok, Err, get_or, take, length, refl, sym, ◌∙◌, ap, subst, arith, inl, inr}
+use Rattle.std.specs.Prelude.{slice_get, IfOk, IfSome, option_and_then}
 use Rattle.std.specs.List.{list_any}
 use Rattle.std.proofs.lemmas.Bool.{cases_eq, ne_eqb, true≢false}
-use Rattle.std.proofs.lemmas.List.{get_or-set_other, get_or-set_same, length-set, take_more}
+use Rattle.std.proofs.lemmas.List.{take_more}
 use Rattle.std.proofs.lemmas.Option.{slice_get_within}
 use Rattle.fx_css_types.specs.declared.sheets.SheetAt.{SheetAt}
 use Rattle.fx_kinds.specs.declared.facts.StyleFacts.{StyleFacts}
@@ -11,7 +11,7 @@ use Rattle.fx_select.specs.Chains.{ParentsStandBefore}
 use Rattle.fx_style.specs.declared.kept.Rest.{Rest}
 use Rattle.fx_style.specs.Kept.{Kept, is_among}
 use Rattle.fx_style.specs.Lasts.{AreStylesOf}
-use Rattle.fx_style.specs.Parting.{AreParts, IsPart, IsParted, is_under, with_place}
+use Rattle.fx_style.specs.Parting.{AreParts, IsPart, IsParted, is_under}
 use Rattle.fx_style.specs.Places.{parent_at}
 use Rattle.fx_style.proofs.PlaceLemmas.{places-none, places-some}
 
@@ -23,69 +23,12 @@ or_true : (b : Bool) → (b || true) ≡ true
 or_true true = refl
 or_true false = refl
 
-push_here : (places : List ℕ) (p : ℕ) → is_among (places ++ p ∷ []) p ≡ true
-push_here [] p = ap (λ (b : Bool). b || false) (eq-eqb p p refl)
-push_here (q ∷ qs) p = ap (λ (b : Bool). eqb q p || b) (push_here qs p) ∙ or_true (eqb q p)
-
-with_other : (places : List ℕ) (b : Bool) (p k : ℕ) → (p ≡ k → ⊥)
-    → is_among (with_place places b p) k ≡ is_among places k
-with_other places false p k differ = refl
-with_other places true p k differ = push_other places p k differ
-
-with_here : (places : List ℕ) (b : Bool) (p : ℕ) → is_among places p ≡ false → is_among (with_place places b p) p ≡ b
-with_here places false p none = none
-with_here places true p none = push_here places p
-
 -- the nodes below a place are apart, and none from it on is left yet
 pub record ArePartsBelow (last : Option (List StyleFacts)) (facts : List StyleFacts) (rest : List Rest)
     (marks : List Bool) (there : List Bool) (left : List ℕ) (at : ℕ) : Type 0 where
   pub long : length there ≡ length facts
   pub each : (k : ℕ) → k < at → IsPart last facts rest marks (get_or there k false) (is_among left k) k
   pub later : (k : ℕ) → at ≤ k → is_among left k ≡ false
-
-pub parts_more : (last : Option (List StyleFacts)) (facts : List StyleFacts) (rest : List Rest) (marks : List Bool)
-    (there new : List Bool) (left more : List ℕ) (at : ℕ) (b d : Bool)
-    → ArePartsBelow last facts rest marks there left at → at < length facts
-    → new ≡ set there at b → more ≡ with_place left d at
-    → IsPart last facts rest marks b d at → ArePartsBelow last facts rest marks new more (at + 1)
-parts_more last facts rest marks there new left more at b d below within put pushed part =
-    let inside : at < length there = subst (λ (n : ℕ). at < n) (sym below.long) within in
-    record {
-      long = ap length put ∙ length-set there at b ∙ below.long;
-      each = λ k less. elim (cases_eq at k) [
-        | inl here ↦
-            subst (λ (n : ℕ). IsPart last facts rest marks (get_or new n false) (is_among more n) n) here
-            (subst (λ (x : Bool). IsPart last facts rest marks x (is_among more at) at)
-            (sym (ap (λ (l : List Bool). get_or l at false) put ∙ get_or-set_same there at b false inside))
-            (subst (λ (x : Bool). IsPart last facts rest marks b x at)
-            (sym (ap (λ (l : List ℕ). is_among l at) pushed ∙ with_here left d at (below.later at (omega arith))))
-            part))
-        | inr differ ↦
-            let lower : k < at = omega arith in
-            subst (λ (x : Bool). IsPart last facts rest marks x (is_among more k) k)
-            (sym (ap (λ (l : List Bool). get_or l k false) put
-            ∙ get_or-set_other there at k b false (λ e. differ (sym e))))
-            (subst (λ (x : Bool). IsPart last facts rest marks (get_or there k false) x k)
-            (sym (ap (λ (l : List ℕ). is_among l k) pushed ∙ with_other left d at k differ))
-            (below.each k lower))
-      ];
-      later = λ k past.
-          ap (λ (l : List ℕ). is_among l k) pushed
-          ∙ with_other left d at k (λ e. omega arith)
-          ∙ below.later k (omega arith);
-    }
-
-pub parts_all : (last : Option (List StyleFacts)) (facts : List StyleFacts) (rest : List Rest) (marks : List Bool)
-    (there : List Bool) (left : List ℕ) → is_some last ≡ true
-    → ArePartsBelow last facts rest marks there left (length facts)
-    → ((at : ℕ) → is_among left at ≡ true → is_under there facts (parent_at facts at) ≡ false)
-    → AreParts last facts rest marks there left
-parts_all last facts rest marks there left given below clear = record {
-  given = given;
-  long = below.long;
-  each = below.each;
-  clear = clear;
-}
 
 -- ---- ancestors
 

@@ -25,9 +25,6 @@ or_right : (a b : Bool) → b ≡ true → (a || b) ≡ true
 or_right true b e = refl
 or_right false b e = e
 
-pub listed_needs : (listed : Bool) (kept : Option NodeStyle) → listed ≡ true → needs_by listed kept ≡ true
-listed_needs listed kept e = ap (λ (b : Bool). b || is_none kept) e
-
 none_needs : (listed : Bool) (kept : Option NodeStyle) → kept ≡ None → needs_by listed kept ≡ true
 none_needs listed kept e = or_right listed (is_none kept) (ap is_none e)
 
@@ -78,24 +75,7 @@ stays_style looks rest turn anew s =
     ∙ ap (λ (o : Option NodeStyle). Some (entry key (or_made o anew))) (sym s.kept)
     ∙ ap (λ (b : Bool). Some (entry key (renewed_by b (kept_under looks rest key) anew))) (sym s.unlisted)
 
-pub copied_style_is : (looks : List Look) (rest : List Rest) (key : NodeKey) (listed : Bool) (style anew : NodeStyle)
-    → listed ≡ false → kept_under looks rest key ≡ Some style
-    → style ≡ renewed_by listed (kept_under looks rest key) anew
-copied_style_is looks rest key listed style anew unlisted kept =
-    ap (λ (o : Option NodeStyle). or_made o anew) (sym kept)
-    ∙ ap (λ (b : Bool). renewed_by b (kept_under looks rest key) anew) (sym unlisted)
-
-pub anew_style : (listed : Bool) (kept : Option NodeStyle) (anew : NodeStyle) → needs_by listed kept ≡ true
-    → anew ≡ renewed_by listed kept anew
-anew_style true kept anew e = refl
-anew_style false None anew e = refl
-anew_style false (Some s) anew e = absurd (cc)
-
 pub kept_ticks : (listed : Bool) (kept : Option NodeStyle) (style : NodeStyle) → listed ≡ false → kept ≡ Some style
     → ticks (needs_by listed kept) ≡ 0
 kept_ticks listed kept style unlisted is =
     ap (λ (b : Bool). ticks (b || is_none kept)) unlisted ∙ ap (λ (o : Option NodeStyle). ticks (is_none o)) is
-
-pub anew_ticks : (listed : Bool) (kept : Option NodeStyle) → needs_by listed kept ≡ true
-    → ticks (needs_by listed kept) ≡ 1
-anew_ticks listed kept e = ap ticks e

@@ -1,2 +1,3 @@
 pub mod GeometryLemmas
 pub mod TextLemmas
+pub mod WordLemmas

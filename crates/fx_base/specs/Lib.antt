@@ -6,3 +6,4 @@ pub mod Pixel
 pub mod Positions
 pub mod Printing
 pub mod Rectangle
+pub mod Words

@@ -1,6 +1,7 @@
 //! Texts of at most 30 bytes that stand in the value itself, without memory of their own.
 //! Below `Held`, which holds every text of a `Text`.
-ghost use Rattle.std.specs.Prelude.{◌≡◌, ◌≤◌, ◌-◌, ◌↔◌, [], IfSome, IsAscii, IsSome, IsTrue, drop, length, replicate, take};
+ghost use Rattle.std.specs.Prelude.{◌≡◌, ◌≤◌, ◌-◌, ◌↔◌, [], IfSome, IsAscii, IsSome, IsTrue, drop, length, replicate, slice_index, take};
+ghost use Rattle.fx_base.specs.Words.{word_of};
 
 use std::marker::Model;
 use std::str;
@@ -98,11 +99,39 @@ impl ShortText {
     }
 }
 
+/// Are the two rooms the same? They are compared as four words, the last of which lies in part over the one before it.
 #[inline]
 fn same_room(bytes: &[u8; ROOM], others: &[u8; ROOM]) -> bool
     ensures { IsTrue result ↔ (bytes.now ≡ others.now) }
 {
-    bytes == others
+    if word(bytes, 0) != word(others, 0) {
+        return false;
+    }
+    if word(bytes, 8) != word(others, 8) {
+        return false;
+    }
+    if word(bytes, 16) != word(others, 16) {
+        return false;
+    }
+    word(bytes, 22) == word(others, 22)
+}
+
+/// Eight bytes of a room as one number, which no other eight bytes give.
+#[inline]
+fn word(bytes: &[u8; ROOM], at: usize) -> u64
+    requires { at ≤ 22 }
+    ensures { result ≡ word_of 8 (slice_index bytes.now) at }
+{
+    u64::from_le_bytes([
+        bytes[at],
+        bytes[at + 1],
+        bytes[at + 2],
+        bytes[at + 3],
+        bytes[at + 4],
+        bytes[at + 5],
+        bytes[at + 6],
+        bytes[at + 7],
+    ])
 }
 
 /// These bytes and zeros behind them, so that one test of the whole room, of a length that is known, tells whether they

@@ -1,5 +1,5 @@
 -- the zeros behind both are the same
-use Rattle.std.proofs.Common.{◌≡◌, ◌∙◌, rules, ap, sym, take, arith}
+use Rattle.std.proofs.Common.{◌∙◌, rules, ap, sym, take, arith}
 use Rattle.fx_base.proofs.TextLemmas.{same_rooms}
 use Rattle.fx_base.proofs.short_texts.ShortText.equals.Goals as goal
 

@@ -36,6 +36,7 @@ pub fn write_copy(alloc: Global, look: &mut Look, from: &Look) -> Result<(), All
     Ok(())
 }
 
+/// Makes a list one of the same items, with room for no more than these: most have one.
 fn write_list<T: Same + Copy>(
     alloc: Global,
     list: &mut List<T>,
@@ -48,6 +49,7 @@ fn write_list<T: Same + Copy>(
     }
     let mut items = mem::replace(list, List::new(alloc)).into_vec();
     items.clear();
+    items.reserve_exact(from.as_slice().len())?;
     items.extend_from_slice(from.as_slice())?;
     *list = List::from_vec(items);
     Ok(())

@@ -1,6 +1,6 @@
 //! Lists that are filled anew, item by item, in the memory of older ones.
 //! Below the lists of facts, which are much the same from frame to frame.
-ghost use Rattle.std.specs.Prelude.{◌≡◌, ◌++◌, ◌∷◌, [], IfOk, IsTrue, OnOk, Some, length, slice_get};
+ghost use Rattle.std.specs.Prelude.{◌≡◌, ◌++◌, ◌∷◌, [], IfOk, IsTrue, OnErr, OnOk, Some, length, slice_get};
 
 use fx_base::{Duplicate, List, Same};
 use std::alloc::{AllocError, Global};
@@ -67,7 +67,7 @@ impl<T: Drop> Refill<T> {
         if self.count < self.items.len() {
             self.items[self.count] = item;
         } else {
-            self.items.push(item)?;
+            push_item(&mut self.items, item)?;
         }
         self.count += 1;
         Ok(())
@@ -82,6 +82,19 @@ impl<T: Drop> Refill<T> {
         items.truncate(count);
         List::from_vec(items)
     }
+}
+
+/// Puts an item behind the others. The first one gets room for itself alone, since of what nodes have lists mostly hold
+/// one.
+fn push_item<T: Drop>(items: &mut Vec<T>, item: T) -> Result<(), AllocError>
+    ensures ok { OnOk result (items.new.items ≡ items.old.items ++ item ∷ []) }
+    ensures err { OnErr result (items.new.items ≡ items.old.items) }
+{
+    if items.is_empty() {
+        items.reserve_exact(1)?;
+    }
+    items.push(item)?;
+    Ok(())
 }
 
 impl<T: Duplicate + Same> Refill<T> {

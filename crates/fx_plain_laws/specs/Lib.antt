@@ -1,0 +1,5 @@
+pub mod Lines
+pub mod Loadings
+pub mod Outputs
+pub mod Scripts
+pub mod Slots
